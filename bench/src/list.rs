@@ -1,0 +1,122 @@
+//! The list check as the team writes it in Rust: the shorter rows by binary search in the rows ahead, no memory of its own.
+
+use backoff::Status;
+
+/// The verdict on a list: 1, then row by row 3 to 8, then 9.
+pub fn check(table: &[i32]) -> Status {
+    let (rows, rest) = table.as_chunks::<8>();
+    if rows.is_empty() || !rest.is_empty() || rows.len() > 65_535 {
+        return Status { number: 1, place: 0 };
+    }
+    match first_fault(rows) {
+        Some((number, row)) => Status { number, place: row as u32 + 1 },
+        None if has_marks(rows) => Status { number: 0, place: 0 },
+        None => Status { number: 9, place: 0 },
+    }
+}
+
+type Row = [i32; 8];
+
+fn first_fault(rows: &[Row]) -> Option<(u32, usize)> {
+    let order = rows[rows.len() - 1][0];
+    let mut last = Key { high: 0, low: 0 };
+    // The rows of m words are those from starts[m] on.
+    let mut starts = [0; 6];
+    for (i, row) in rows.iter().enumerate() {
+        if let Some(number) = field_fault(row, order) {
+            return Some((number, i));
+        }
+        let key = Key::of(row);
+        if i > 0 && key <= last {
+            return Some((7, i));
+        }
+        let m = row[0] as usize;
+        starts[last.length() + 1..=m].fill(i);
+        if m > 1 && !shorter_listed(&rows[starts[m - 1]..starts[m]], m, key) {
+            return Some((8, i));
+        }
+        last = key;
+    }
+    None
+}
+
+fn field_fault(row: &Row, order: i32) -> Option<u32> {
+    let &[m, w1, w2, w3, w4, w5, p, b] = row;
+    if !(1..=5).contains(&m) {
+        return Some(3);
+    }
+    let words = [w1, w2, w3, w4, w5];
+    let (used, unused) = words.split_at(m as usize);
+    if used.iter().any(|w| !(1..=65_535).contains(w)) || unused.iter().any(|&w| w != 0) {
+        return Some(4);
+    }
+    if !(-990_000..=0).contains(&p) {
+        return Some(5);
+    }
+    if !(-990_000..=990_000).contains(&b) || (m == order && b != 0) {
+        return Some(6);
+    }
+    None
+}
+
+/// Keys ascend as the rows do: m and the fifth word, then the fourth to the first.
+#[derive(Clone, Copy, PartialEq, Eq, PartialOrd, Ord)]
+struct Key {
+    high: u32,
+    low: u64,
+}
+
+impl Key {
+    fn of(row: &Row) -> Key {
+        Key { high: (row[0] as u32) << 16 | row[5] as u32, low: low(row) }
+    }
+
+    fn length(self) -> usize {
+        (self.high >> 16) as usize
+    }
+}
+
+/// The first four words in one number; rows of the same m below 5 ascend by it.
+fn low(row: &Row) -> u64 {
+    row[1] as u64 | (row[2] as u64) << 16 | (row[3] as u64) << 32 | (row[4] as u64) << 48
+}
+
+/// Both shorter rows of a row of m words, among the rows of m - 1 words.
+fn shorter_listed(rows: &[Row], m: usize, key: Key) -> bool {
+    let without_first = key.low >> 16 | (key.high as u64 & 0xFFFF) << 48;
+    let without_last = key.low & (u64::MAX >> (64 - 16 * (m - 1)));
+    listed(rows, without_first) && listed(rows, without_last)
+}
+
+fn listed(rows: &[Row], key: u64) -> bool {
+    rows.binary_search_by_key(&key, low).is_ok()
+}
+
+/// The words 1, 2 and 3 are the first rows where they are listed at all.
+fn has_marks(rows: &[Row]) -> bool {
+    rows.len() >= 3 && (0..3).all(|i| rows[i][..2] == [1, i as i32 + 1])
+}
+
+#[cfg(test)]
+mod tests {
+    use tests::damage::{self, Cells};
+    use tests::lists::small;
+    use tests::random::Random;
+    use tests::reference::list::verdict;
+
+    /// The checker that ours is timed against gives the same answers, so it does the same work.
+    #[test]
+    fn same_answers() {
+        let mut random = Random::new(1);
+        for i in 0..2_000 {
+            let cells: Vec<Cells> = small(&mut random, 1 + i % 5).iter().map(|row| row.cells()).collect();
+            for (name, damage) in damage::kinds() {
+                let mut damaged = cells.clone();
+                let row = random.below(cells.len());
+                damage(&mut random, &mut damaged, row);
+                let status = super::check(&damaged.concat());
+                assert_eq!((status.number, status.place), verdict(&damaged.concat()), "{name}");
+            }
+        }
+    }
+}

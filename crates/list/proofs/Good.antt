@@ -1,0 +1,170 @@
+-- Laws of good rows: their words and keys, the part ahead of a row, and one row more. Assumes nothing.
+use mathlib.Core.Path.{_≡_, refl, sym, ap, ap₂, _∙_}
+use mathlib.Core.Bool.{Bool, true, cond, _&&_}
+use mathlib.Core.List.{List, [], _∷_}
+use mathlib.Core.Logic.{⊎-elim}
+use Prim.Native.Nat.{ℕ, zero, suc, _+_, _*_, _<_, _≤_, zero-le, suc-le-suc}
+use native.Mathlib.Nat.{not-suc-le-zero}
+use native.Mathlib.Omega.{arith}
+use lib.Dec.{ltb, leb, lit<, lit≤}
+use lib.IntN.{ℤ, pos}
+use lib.ListN.{length, getD, take, drop, length-take, drop-of-length-le, List·getD-eq-default}
+use lib.Seq.{drop-cons, getD-drop, getD-take}
+use borrow.Author.Tests.{lt-ltb, ltb-true, le-leb, lt-leb}
+use Rattle.integer.specs.Integer.{eqZ, between}
+use Rattle.integer.proofs.Arithmetic.{zarith}
+use Rattle.integer.proofs.Ranges.{lt-or-ge, and-left, and-right, between-low, between-high, between-yes, upTo-le, upTo-some}
+use Rattle.backoff.specs.Limits.{orderLimit, wordLimit}
+use Rattle.backoff.specs.Words.{areWords}
+use Rattle.list.specs.Table.{rowsOf, field, lengthOf, wordOf, wordsOf, words, withoutFirst, withoutLast}
+use Rattle.list.specs.Order.{precedes}
+use Rattle.list.specs.Check.{placeFits, placesFit, isAfter}
+use Rattle.list.specs.Good.{GoodRow, Good}
+use Rattle.list.specs.Keys.{key, rowKey}
+use Rattle.backoff.proofs.Words.{words-more, words-rest, areWords-snoc}
+use Rattle.list.proofs.Keys.{precedes-key, key-places, key-limit}
+use Rattle.list.proofs.Table.{length-limit, words-cons, words-snoc, part-rows, part-field, part-length, part-words}
+
+-- one place of several that fit
+place-fits : (t : List ℤ) (i j k q : ℕ) → placesFit t i j k ≡ true → j ≤ q → q < j + k → placeFits t i q ≡ true
+unfolding placesFit
+place-fits t i j zero q e l m = absurd (omega arith)
+place-fits t i j (suc k) q e l m =
+    ⊎-elim
+    (λ p. place-fits t i (suc j) k q (and-right (placeFits t i j) (placesFit t i (suc j) k) e) p (omega arith))
+    (λ p. let z : q ≡ j = omega arith in rw z (and-left (placeFits t i j) (placesFit t i (suc j) k) e))
+    (lt-or-ge j q)
+
+-- k numbers from place a on that are words
+words-from : (t : List ℤ) (a k : ℕ) → ((q : ℕ) → q < k → 0 < wordOf (getD t (a + q) (pos 0))) → areWords (wordsOf (take k (drop a t))) ≡ true
+unfolding wordsOf areWords
+words-from t a zero h = refl
+words-from t a (suc k) h =
+    let first : 0 < wordOf (getD t a (pos 0)) = let e : a + 0 ≡ a = omega arith in rw e at (h 0 (suc-le-suc zero-le)) in
+    let rest : (q : ℕ) → q < k → 0 < wordOf (getD t (suc a + q) (pos 0)) = λ q p. let e : suc a + q ≡ a + suc q = omega arith in rw e (h (suc q) (omega arith)) in
+    ⊎-elim
+    (λ l.
+    rw (drop-cons t a (pos 0) l)
+    (words-more (wordOf (getD t a (pos 0))) (wordsOf (take k (drop (suc a) t))) first (upTo-le wordLimit (getD t a (pos 0))) (words-from t (suc a) k rest)))
+    (λ l. rw (drop-of-length-le t l) refl)
+    (lt-or-ge a (length t))
+
+module _ (t : List ℤ) (i : ℕ) (g : GoodRow t i) where
+  used : (j : ℕ) → 1 ≤ j → j ≤ lengthOf t i → between (pos 1) (pos wordLimit) (field t i j) ≡ true
+  unfolding placeFits
+  used j s l = let m = length-limit t i in rw (le-leb j (lengthOf t i) l) at (place-fits t i 1 orderLimit j (g .places) s (omega arith))
+
+  unused : (j : ℕ) → lengthOf t i < j → j ≤ orderLimit → field t i j ≡ pos 0
+  unfolding placeFits
+  unused j l m =
+      let e : eqZ (field t i j) (pos 0) ≡ true = rw (lt-leb j (lengthOf t i) l) at (place-fits t i 1 orderLimit j (g .places) (omega arith) (omega arith)) in
+      omega zarith
+
+  -- a place holds a word or 0
+  pub place-range : (j : ℕ) → 1 ≤ j → j ≤ orderLimit → between (pos 0) (pos wordLimit) (field t i j) ≡ true
+  place-range j s l =
+      ⊎-elim
+      (λ p. let e = unused j p l in between-yes (pos 0) (pos wordLimit) (field t i j) (omega zarith) (omega zarith))
+      (λ p.
+      let e = used j s p in
+      let low = between-low (pos 1) (pos wordLimit) (field t i j) e in
+      let high = between-high (pos 1) (pos wordLimit) (field t i j) e in
+      between-yes (pos 0) (pos wordLimit) (field t i j) (omega zarith) (omega zarith))
+      (lt-or-ge (lengthOf t i) j)
+
+  -- the row's words and, past them, the zeros
+  place-of : (q : ℕ) → q < orderLimit → getD (take (lengthOf t i) (drop (8 * i + 1) t)) q (pos 0) ≡ field t i (q + 1)
+  unfolding field
+  place-of q l =
+      ⊎-elim
+      (λ p. getD-take (lengthOf t i) (drop (8 * i + 1) t) q (pos 0) p ∙ getD-drop (8 * i + 1) t q (pos 0) ∙ ap (λ (a : ℕ). getD t a (pos 0)) (omega arith))
+      (λ (p : lengthOf t i ≤ q).
+      List·getD-eq-default (take (lengthOf t i) (drop (8 * i + 1) t)) (pos 0) (rw length-take (omega arith)) ∙ sym (unused (q + 1) (omega arith) (omega arith)))
+      (lt-or-ge q (lengthOf t i))
+
+  pub are-words : areWords (words t i) ≡ true
+  unfolding words field
+  are-words =
+      words-from t (8 * i + 1) (lengthOf t i)
+      (λ q l.
+      let e : 8 * i + (q + 1) ≡ 8 * i + 1 + q = omega arith in
+      rw (← e) (upTo-some (pos wordLimit) (getD t (8 * i + (q + 1)) (pos 0)) (used (q + 1) (omega arith) (omega arith))))
+
+  -- the row's key is read off its five places
+  pub row-key : key (wordOf (field t i 1) ∷ wordOf (field t i 2) ∷ wordOf (field t i 3) ∷ wordOf (field t i 4) ∷ wordOf (field t i 5) ∷ []) ≡ rowKey t i
+  unfolding rowKey words
+  row-key =
+      let zs : List ℤ = take (lengthOf t i) (drop (8 * i + 1) t) in
+      let short : length zs ≤ orderLimit = let m = length-limit t i in rw length-take (omega arith) in
+      rw (← place-of 0 (lit< tt), ← place-of 1 (lit< tt), ← place-of 2 (lit< tt), ← place-of 3 (lit< tt), ← place-of 4 (lit< tt)) (key-places zs short)
+
+  pub row-key-limit : rowKey t i < 1208925819614629174706176
+  row-key-limit = rw (← row-key) (key-limit _ _ _ _ _ (upTo-le wordLimit (field t i 1)) (upTo-le wordLimit (field t i 2)) (upTo-le wordLimit (field t i 3)) (upTo-le wordLimit (field t i 4)) (upTo-le wordLimit (field t i 5)))
+
+  module _ (h : 8 * i + 8 ≤ length t) where
+    pub are-words-without-first : areWords (withoutFirst t i) ≡ true
+    are-words-without-first =
+        words-rest (wordOf (field t i 1)) (withoutFirst t i) (sym (ap areWords (words-cons t i h (g .some))) ∙ are-words)
+
+    pub are-words-without-last : areWords (withoutLast t i) ≡ true
+    are-words-without-last =
+        let w = wordOf (field t i (lengthOf t i)) in
+        words-rest w (withoutLast t i) (sym (areWords-snoc (withoutLast t i) w) ∙ sym (ap areWords (words-snoc t i h (g .some))) ∙ are-words)
+
+-- the order of good rows is that of their keys
+pub precedes-row-key : (t : List ℤ) (i j : ℕ) → GoodRow t i → GoodRow t j → precedes (words t i) (words t j) ≡ ltb (rowKey t i) (rowKey t j)
+unfolding rowKey
+precedes-row-key t i j g h = precedes-key (words t i) (words t j) (are-words t i g) (are-words t j h)
+
+pub ascend-key : (t : List ℤ) (n i j : ℕ) → Good t n → i < j → j < n → rowKey t i < rowKey t j
+ascend-key t n i j g l m =
+    ltb-true (rowKey t i) (rowKey t j) (sym (precedes-row-key t i j (g .row i (omega arith)) (g .row j m)) ∙ g .ascend i j l m)
+
+pub good-none : (t : List ℤ) → Good t 0
+good-none t = record { row = λ i l. absurd (not-suc-le-zero l); ascend = λ i j l m. absurd (not-suc-le-zero m) }
+
+pub good-fewer : (t : List ℤ) (m n : ℕ) → m ≤ n → Good t n → Good t m
+good-fewer t m n l g = record { row = λ i p. g .row i (omega arith); ascend = λ i j p q. g .ascend i j p (omega arith) }
+
+-- one row more
+module _ (t : List ℤ) (n : ℕ) (g : Good t n) (r : GoodRow t n) where
+  last-ascends : isAfter t n ≡ true → (i : ℕ) → i < n → precedes (words t i) (words t n) ≡ true
+  last-ascends = go n g r
+    where
+      go : (n : ℕ) → Good t n → GoodRow t n → isAfter t n ≡ true → (i : ℕ) → i < n → precedes (words t i) (words t n) ≡ true
+      go zero g r a i l = absurd (not-suc-le-zero l)
+      go (suc n) g r a i l =
+          ⊎-elim
+          (λ p.
+          let k = ascend-key t (suc n) i n g p (omega arith) in
+          let b = ltb-true (rowKey t n) (rowKey t (suc n)) (sym (precedes-row-key t n (suc n) (g .row n (omega arith)) r) ∙ (unfold isAfter in a)) in
+          precedes-row-key t i (suc n) (g .row i l) r ∙ lt-ltb (rowKey t i) (rowKey t (suc n)) (omega arith))
+          (λ p. let e : i ≡ n = omega arith in rw e (unfold isAfter in a))
+          (lt-or-ge i n)
+
+  pub good-more : isAfter t n ≡ true → Good t (n + 1)
+  good-more a = record {
+    row = λ i l. ⊎-elim (λ p. g .row i p) (λ p. let e : i ≡ n = omega arith in rw e r) (lt-or-ge i n);
+    ascend = λ i j l m. ⊎-elim (λ p. g .ascend i j l p) (λ p. let e : j ≡ n = omega arith in rw e (last-ascends a i (omega arith))) (lt-or-ge j n);
+  }
+
+-- the part ahead of row n
+module _ (t : List ℤ) (n : ℕ) where
+  part-places : (i j k : ℕ) → i < n → j + k ≤ 8 → placesFit (take (8 * n) t) i j k ≡ placesFit t i j k
+  unfolding placesFit placeFits
+  part-places i j zero l h = refl
+  part-places i j (suc k) l h =
+      ap₂ (λ (a b : Bool). a && b)
+      (ap₂ (λ (m : ℕ) (z : ℤ). cond (leb j m) (between (pos 1) (pos wordLimit) z) (eqZ z (pos 0))) (part-length t n i l) (part-field t n i l j (omega arith)))
+      (part-places i (suc j) k l (omega arith))
+
+  part-row : (i : ℕ) → i < n → GoodRow t i → GoodRow (take (8 * n) t) i
+  part-row i l g = record { some = rw (part-length t n i l) (g .some); places = part-places i 1 orderLimit l (lit≤ tt) ∙ g .places }
+
+  pub part-good : 8 * n ≤ length t → Good t n → Good (take (8 * n) t) (rowsOf (take (8 * n) t))
+  part-good h g =
+      rw (part-rows t n h)
+      (record {
+        row = λ i l. part-row i l (g .row i l);
+        ascend = λ i j l m. rw (part-words t n i (omega arith), part-words t n j m) (g .ascend i j l m);
+      })

@@ -1,0 +1,25 @@
+use mathlib.Core.Path.{sym, _∙_}
+use Rattle.list.specs.Check.{rowFault}
+use Rattle.list.proofs.Check.{good-row, or-left, or-right}
+use borrow.Author.Needs.{needs}
+use Rattle.list.proofs.row_fault.Statement.{statement}
+use Rattle.list.proofs.row_fault.Tie as tie
+
+field-fault-requires : tie.Need-field-fault-requires
+field-fault-requires c κs = search needs
+
+returns : tie.Need-returns
+unfolding rowFault
+returns c = let e = c .before .field-fault .ensures in e ∙ sym (or-left _ _ (λ z. c .if1 .taken (e ∙ z)))
+
+order-fault-requires : tie.Need-order-fault-requires
+order-fault-requires c κs =
+    let s = c .before .before in
+    (s .pre .0, s .pre .1, good-row _ _ _ (sym (c .before .field-fault .ensures) ∙ c .if1 .left))
+
+returns-2 : tie.Need-returns-2
+unfolding rowFault
+returns-2 c = c .order-fault .ensures ∙ sym (or-right _ _ (sym (c .before .before .field-fault .ensures) ∙ c .before .if1 .left))
+
+pub row-fault-spec : {M : Type 1} → statement M
+row-fault-spec = tie.close (tie.spec field-fault-requires returns order-fault-requires returns-2)

@@ -1,0 +1,145 @@
+//! Accepted lists: the sample of document 01 and random ones.
+//!
+//! A list is accepted only if every part of a row's words is a row too, so the random lists are the parts of random sentences.
+
+use crate::random::Random;
+use crate::reference::list::{Row, LARGEST_B, LARGEST_WORD, LOWEST_P, MOST_ROWS};
+use std::collections::BTreeSet;
+
+pub const MARKS: [i32; 3] = [1, 2, 3];
+
+/// The eight numbers of each row.
+pub fn table(rows: &[Row]) -> Vec<i32> {
+    rows.iter().flat_map(Row::cells).collect()
+}
+
+/// The sample list of document 01.
+pub fn sample() -> Vec<Row> {
+    let row = |words: &[i32], p, b| Row { words: words.to_vec(), p, b };
+    vec![
+        row(&[1], -20_000, 0),
+        row(&[2], -990_000, -3_000),
+        row(&[3], -10_000, 0),
+        row(&[4], -6_000, -2_000),
+        row(&[5], -9_000, -1_000),
+        row(&[5, 3], -1_500, 0),
+        row(&[2, 4], -4_000, -500),
+        row(&[4, 5], -3_000, 0),
+        row(&[2, 4, 5], -1_000, 0),
+    ]
+}
+
+/// The longest list of order 1: every word has its row.
+pub fn all_words(random: &mut Random) -> Vec<Row> {
+    let row = |w| Row { words: vec![w], p: log_probability(random), b: 0 };
+    (1..=LARGEST_WORD).map(row).collect()
+}
+
+/// A list of up to a few hundred rows, of the order given.
+pub fn small(random: &mut Random, order: usize) -> Vec<Row> {
+    let words = vocabulary(random);
+    let mut left = random.below(20);
+    let sentence = |random: &mut Random| {
+        left = left.checked_sub(1)?;
+        let length = 1 + random.below(order + 2);
+        Some((0..length).map(|_| random.pick(&words)).collect())
+    };
+    let first: Vec<i32> = (0..order).map(|_| random.pick(&words)).collect();
+    from_sentences(random, order, MOST_ROWS, first, sentence)
+}
+
+/// A list of the given number of rows whose words are all equally frequent.
+pub fn uniform(random: &mut Random, order: usize, words: i32, rows: usize) -> Vec<Row> {
+    let sentence = |random: &mut Random| Some((0..order).map(|_| random.between(1, words)).collect());
+    let first = (1..=order as i32).collect();
+    from_sentences(random, order, rows, first, sentence)
+}
+
+/// A list like natural ones, of the given number of rows: few words are frequent, most are rare, and the rows are those of a text.
+pub fn natural(random: &mut Random, order: usize, words: i32, rows: usize) -> Vec<Row> {
+    let sentence = |random: &mut Random| Some(natural_sentence(random, words));
+    let first = (1..=order as i32).collect();
+    from_sentences(random, order, rows, first, sentence)
+}
+
+/// A sentence between its marks, its words by Zipf's law.
+pub fn natural_sentence(random: &mut Random, words: i32) -> Vec<i32> {
+    let length = 5 + random.below(25);
+    let mut sentence = vec![2];
+    sentence.extend((0..length).map(|_| 3 + random.zipf(words - 3)));
+    sentence.push(3);
+    sentence
+}
+
+/// The marks and some further words, the largest among them in one list of four.
+fn vocabulary(random: &mut Random) -> Vec<i32> {
+    let highest = if random.chance(50) { 20 } else { LARGEST_WORD };
+    let mut words = MARKS.to_vec();
+    words.extend((0..random.below(30)).map(|_| random.between(4, highest)));
+    if random.chance(25) {
+        words.push(LARGEST_WORD);
+    }
+    words
+}
+
+/// The list of the parts, up to `order` words long, of the marks, of `first` and of the sentences; at most `most` rows.
+fn from_sentences(
+    random: &mut Random,
+    order: usize,
+    most: usize,
+    first: Vec<i32>,
+    mut sentence: impl FnMut(&mut Random) -> Option<Vec<i32>>,
+) -> Vec<Row> {
+    let mut parts = BTreeSet::new();
+    for mark in MARKS {
+        add_parts(&mut parts, &[mark], order, most);
+    }
+    add_parts(&mut parts, &first, order, most);
+    while parts.len() < most {
+        let Some(words) = sentence(random) else { break };
+        add_parts(&mut parts, &words, order, most);
+    }
+    with_points(random, parts)
+}
+
+/// The number of words and the words newest first: these ascend as the rows do.
+type Part = (usize, Vec<i32>);
+
+/// Adds the shorter parts first, so that the set is a list's wherever it stops.
+fn add_parts(parts: &mut BTreeSet<Part>, words: &[i32], order: usize, most: usize) {
+    for m in 1..=order.min(words.len()) {
+        for part in words.windows(m) {
+            if parts.len() == most {
+                return;
+            }
+            parts.insert((m, part.iter().rev().copied().collect()));
+        }
+    }
+}
+
+fn with_points(random: &mut Random, parts: BTreeSet<Part>) -> Vec<Row> {
+    let order = parts.last().map_or(0, |part| part.0);
+    let row = |(m, newest_first): Part| Row {
+        words: newest_first.into_iter().rev().collect(),
+        p: log_probability(random),
+        b: if m == order { 0 } else { back_off(random) },
+    };
+    parts.into_iter().map(row).collect()
+}
+
+fn log_probability(random: &mut Random) -> i32 {
+    match random.below(8) {
+        0 => 0,
+        1 => LOWEST_P,
+        _ => random.between(LOWEST_P, 0),
+    }
+}
+
+fn back_off(random: &mut Random) -> i32 {
+    match random.below(8) {
+        0..=2 => 0,
+        3 => LARGEST_B,
+        4 => -LARGEST_B,
+        _ => random.between(-LARGEST_B, LARGEST_B),
+    }
+}

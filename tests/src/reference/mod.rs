@@ -1,0 +1,3 @@
+//! The second implementation. It shares no code with the calls under test.
+
+pub mod list;
