@@ -159,12 +159,12 @@ or-zero zero b e = (refl, e)
 or-zero (suc a) b e = absurd (omega arith)
 
 -- checks 3 to 6, passed
-record PassedFields (t : List ℤ) (n i : ℕ) : Type 0 where
-  good : GoodRow t i
-  probability : inProbability (probabilityAt t i) ≡ true
-  backoff : backoffFits t n i ≡ true
+pub record PassedFields (t : List ℤ) (n i : ℕ) : Type 0 where
+  pub good : GoodRow t i
+  pub probability : inProbability (probabilityAt t i) ≡ true
+  pub backoff : backoffFits t n i ≡ true
 
-passed-fields : (t : List ℤ) (n i : ℕ) → fieldFault t n i ≡ 0 → PassedFields t n i
+pub passed-fields : (t : List ℤ) (n i : ℕ) → fieldFault t n i ≡ 0 → PassedFields t n i
 unfolding fieldFault
 passed-fields t n i e =
     let a = cond-zero (eqb (lengthOf t i) 0) rowLength _ (lit< tt) e in
@@ -177,14 +177,9 @@ passed-fields t n i e =
       backoff = not-false _ (d .0);
     }
 
-pub good-row : (t : List ℤ) (n i : ℕ) → fieldFault t n i ≡ 0 → GoodRow t i
-good-row t n i e = passed-fields t n i e .good
-
 -- checks 3 to 8, passed
 pub record PassedRow (t : List ℤ) (n i : ℕ) : Type 0 where
-  pub good : GoodRow t i
-  pub probability : inProbability (probabilityAt t i) ≡ true
-  pub backoff : backoffFits t n i ≡ true
+  pub fields : PassedFields t n i
   pub after : isAfter t i ≡ true
   pub shorter : 2 ≤ lengthOf t i → shorterListed t i ≡ true
 
@@ -192,13 +187,10 @@ pub passed-row : (t : List ℤ) (n i : ℕ) → rowFault t n i ≡ 0 → PassedR
 unfolding rowFault orderFault
 passed-row t n i e =
     let f = or-zero (fieldFault t n i) (orderFault t i) e in
-    let p = passed-fields t n i (f .0) in
     let a = cond-zero (not (isAfter t i)) rowOrder _ (lit< tt) (f .1) in
     let b = cond-zero (leb 2 (lengthOf t i) && not (shorterListed t i)) shorterRow 0 (lit< tt) (a .1) in
     record {
-      good = p .good;
-      probability = p .probability;
-      backoff = p .backoff;
+      fields = passed-fields t n i (f .0);
       after = not-false _ (a .0);
       shorter = λ m. not-false (shorterListed t i) (rw (le-leb 2 (lengthOf t i) m) at (b .0));
     }
@@ -245,7 +237,7 @@ module _ (t : List ℤ) (a : verdict t ≡ Accepted) where
     where
       go : (n : ℕ) → n ≤ rowsOf t → Good t n
       go zero l = good-none t
-      go (suc n) l = let p = accepted-row n l in rw (← add-one n) (good-more t n (go n (omega arith)) (p .good) (p .after))
+      go (suc n) l = let p = accepted-row n l in rw (← add-one n) (good-more t n (go n (omega arith)) (p .fields .good) (p .after))
 
   pub accepted-reserved : reservedListed t ≡ true
   accepted-reserved = scan-reserved t (orderOf t) 0 (rowsOf t) scan-accepted

@@ -20,7 +20,7 @@ use Rattle.list.specs.Table.{rowsOf, field, lengthOf, wordOf, wordsOf, w
 use Rattle.list.specs.Order.{precedes}
 use Rattle.list.specs.Check.{placeFits, placesFit, isAfter}
 use Rattle.list.specs.Good.{GoodRow, Good}
-use Rattle.list.specs.Keys.{key, rowKey}
+use Rattle.list.specs.Keys.{radix, lowLimit, key, rowKey}
 use Rattle.backoff.proofs.Words.{words-more, words-rest, areWords-snoc}
 use Rattle.list.proofs.Keys.{precedes-key, key-places, key-limit}
 use Rattle.list.proofs.Table.{length-limit, words-cons, words-snoc, part-rows, part-field, part-length, part-words}
@@ -98,7 +98,7 @@ module _ (t : List ℤ) (i : ℕ) (g : GoodRow t i) where
       let short : length zs ≤ orderLimit = let m = length-limit t i in rw length-take (omega arith) in
       rw (← place-of 0 (lit< tt), ← place-of 1 (lit< tt), ← place-of 2 (lit< tt), ← place-of 3 (lit< tt), ← place-of 4 (lit< tt)) (key-places zs short)
 
-  pub row-key-limit : rowKey t i < 1208925819614629174706176
+  pub row-key-limit : rowKey t i < radix * lowLimit
   row-key-limit = rw (← row-key) (key-limit _ _ _ _ _ (upTo-le wordLimit (field t i 1)) (upTo-le wordLimit (field t i 2)) (upTo-le wordLimit (field t i 3)) (upTo-le wordLimit (field t i 4)) (upTo-le wordLimit (field t i 5)))
 
   module _ (h : 8 * i + 8 ≤ length t) where
@@ -127,26 +127,23 @@ pub good-fewer : (t : List ℤ) (m n : ℕ) → m ≤ n → Good t n → Good t 
 good-fewer t m n l g = record { row = λ i p. g .row i (omega arith); ascend = λ i j p q. g .ascend i j p (omega arith) }
 
 -- one row more
-module _ (t : List ℤ) (n : ℕ) (g : Good t n) (r : GoodRow t n) where
-  last-ascends : isAfter t n ≡ true → (i : ℕ) → i < n → precedes (words t i) (words t n) ≡ true
-  last-ascends = go n g r
-    where
-      go : (n : ℕ) → Good t n → GoodRow t n → isAfter t n ≡ true → (i : ℕ) → i < n → precedes (words t i) (words t n) ≡ true
-      go zero g r a i l = absurd (not-suc-le-zero l)
-      go (suc n) g r a i l =
-          ⊎-elim
-          (λ p.
-          let k = ascend-key t (suc n) i n g p (omega arith) in
-          let b = ltb-true (rowKey t n) (rowKey t (suc n)) (sym (precedes-row-key t n (suc n) (g .row n (omega arith)) r) ∙ (unfold isAfter in a)) in
-          precedes-row-key t i (suc n) (g .row i l) r ∙ lt-ltb (rowKey t i) (rowKey t (suc n)) (omega arith))
-          (λ p. let e : i ≡ n = omega arith in rw e (unfold isAfter in a))
-          (lt-or-ge i n)
+last-ascends : (t : List ℤ) (n : ℕ) → Good t n → GoodRow t n → isAfter t n ≡ true → (i : ℕ) → i < n → precedes (words t i) (words t n) ≡ true
+unfolding isAfter
+last-ascends t zero g r a i l = absurd (not-suc-le-zero l)
+last-ascends t (suc n) g r a i l =
+    ⊎-elim
+    (λ p.
+    let k = ascend-key t (suc n) i n g p (omega arith) in
+    let b = ltb-true (rowKey t n) (rowKey t (suc n)) (sym (precedes-row-key t n (suc n) (g .row n (omega arith)) r) ∙ a) in
+    precedes-row-key t i (suc n) (g .row i l) r ∙ lt-ltb (rowKey t i) (rowKey t (suc n)) (omega arith))
+    (λ p. let e : i ≡ n = omega arith in rw e a)
+    (lt-or-ge i n)
 
-  pub good-more : isAfter t n ≡ true → Good t (n + 1)
-  good-more a = record {
-    row = λ i l. ⊎-elim (λ p. g .row i p) (λ p. let e : i ≡ n = omega arith in rw e r) (lt-or-ge i n);
-    ascend = λ i j l m. ⊎-elim (λ p. g .ascend i j l p) (λ p. let e : j ≡ n = omega arith in rw e (last-ascends a i (omega arith))) (lt-or-ge j n);
-  }
+pub good-more : (t : List ℤ) (n : ℕ) → Good t n → GoodRow t n → isAfter t n ≡ true → Good t (n + 1)
+good-more t n g r a = record {
+  row = λ i l. ⊎-elim (λ p. g .row i p) (λ p. let e : i ≡ n = omega arith in rw e r) (lt-or-ge i n);
+  ascend = λ i j l m. ⊎-elim (λ p. g .ascend i j l p) (λ p. let e : j ≡ n = omega arith in rw e (last-ascends t n g r a i (omega arith))) (lt-or-ge j n);
+}
 
 -- the part ahead of row n
 module _ (t : List ℤ) (n : ℕ) where

@@ -14,38 +14,38 @@ use Rattle.backoff.specs.Limits.{orderLimit, wordLimit}
 use Rattle.backoff.specs.Words.{sameWords, areWords}
 use Rattle.list.specs.Table.{wordOf, wordsOf}
 use Rattle.list.specs.Order.{lastLess, precedes}
-use Rattle.list.specs.Keys.{key, keyOf}
+use Rattle.list.specs.Keys.{radix, lowLimit, key, keyOf}
 use Rattle.backoff.proofs.Words.{first-some, first-limit, words-rest, same-eq}
 
 -- a digit over a number
-digit-eq : (a b x y : ℕ) → a ≤ wordLimit → b ≤ wordLimit → (eqb a b && eqb x y) ≡ eqb (a + 65536 * x) (b + 65536 * y)
+digit-eq : (a b x y : ℕ) → a ≤ wordLimit → b ≤ wordLimit → (eqb a b && eqb x y) ≡ eqb (a + radix * x) (b + radix * y)
 digit-eq a b x y p q = go (eqb a b) (eqb x y) refl refl
   where
-    go : (s t : Bool) → eqb a b ≡ s → eqb x y ≡ t → (s && t) ≡ eqb (a + 65536 * x) (b + 65536 * y)
+    go : (s t : Bool) → eqb a b ≡ s → eqb x y ≡ t → (s && t) ≡ eqb (a + radix * x) (b + radix * y)
     go true true e f =
-        sym (eq-eqb (a + 65536 * x) (b + 65536 * y) (let u = eqb-true a b e in let v = eqb-true x y f in omega arith))
+        sym (eq-eqb (a + radix * x) (b + radix * y) (let u = eqb-true a b e in let v = eqb-true x y f in omega arith))
     go true false e f =
-        sym (ne-eqb (a + 65536 * x) (b + 65536 * y) (λ z. eqb-false x y f (let u = eqb-true a b e in omega arith)))
+        sym (ne-eqb (a + radix * x) (b + radix * y) (λ z. eqb-false x y f (let u = eqb-true a b e in omega arith)))
     go false t e f =
-        sym (ne-eqb (a + 65536 * x) (b + 65536 * y) (λ z. eqb-false a b e (let w : x ≡ y = omega arith in omega arith)))
+        sym (ne-eqb (a + radix * x) (b + radix * y) (λ z. eqb-false a b e (let w : x ≡ y = omega arith in omega arith)))
 
-digit-lt : (a b x y : ℕ) → a ≤ wordLimit → b ≤ wordLimit → (ltb x y || (eqb x y && ltb a b)) ≡ ltb (a + 65536 * x) (b + 65536 * y)
+digit-lt : (a b x y : ℕ) → a ≤ wordLimit → b ≤ wordLimit → (ltb x y || (eqb x y && ltb a b)) ≡ ltb (a + radix * x) (b + radix * y)
 digit-lt a b x y p q = go (ltb x y) (eqb x y) (ltb a b) refl refl refl
   where
-    go : (s t r : Bool) → ltb x y ≡ s → eqb x y ≡ t → ltb a b ≡ r → (s || (t && r)) ≡ ltb (a + 65536 * x) (b + 65536 * y)
-    go true t r e f g = sym (lt-ltb (a + 65536 * x) (b + 65536 * y) (let u = ltb-true x y e in omega arith))
+    go : (s t r : Bool) → ltb x y ≡ s → eqb x y ≡ t → ltb a b ≡ r → (s || (t && r)) ≡ ltb (a + radix * x) (b + radix * y)
+    go true t r e f g = sym (lt-ltb (a + radix * x) (b + radix * y) (let u = ltb-true x y e in omega arith))
     go false true true e f g =
-        sym (lt-ltb (a + 65536 * x) (b + 65536 * y) (let u = eqb-true x y f in let v = ltb-true a b g in omega arith))
+        sym (lt-ltb (a + radix * x) (b + radix * y) (let u = eqb-true x y f in let v = ltb-true a b g in omega arith))
     go false true false e f g =
-        sym (le-ltb (a + 65536 * x) (b + 65536 * y) (let u = eqb-true x y f in let v = ltb-false a b g in omega arith))
+        sym (le-ltb (a + radix * x) (b + radix * y) (let u = eqb-true x y f in let v = ltb-false a b g in omega arith))
     go false false r e f g =
-        sym (le-ltb (a + 65536 * x) (b + 65536 * y) (let u = ltb-false x y e in let v = eqb-false x y f in omega arith))
+        sym (le-ltb (a + radix * x) (b + radix * y) (let u = ltb-false x y e in let v = eqb-false x y f in omega arith))
 
 pub same-key : (us vs : List ℕ) → areWords us ≡ true → areWords vs ≡ true → sameWords us vs ≡ eqb (key us) (key vs)
 unfolding sameWords key
 same-key [] [] p q = refl
-same-key [] (v ∷ vs) p q = sym (ne-eqb 0 (v + 65536 * key vs) (λ z. let l = first-some v vs q in absurd (omega arith)))
-same-key (u ∷ us) [] p q = sym (ne-eqb (u + 65536 * key us) 0 (λ z. let l = first-some u us p in absurd (omega arith)))
+same-key [] (v ∷ vs) p q = sym (ne-eqb 0 (v + radix * key vs) (λ z. let l = first-some v vs q in absurd (omega arith)))
+same-key (u ∷ us) [] p q = sym (ne-eqb (u + radix * key us) 0 (λ z. let l = first-some u us p in absurd (omega arith)))
 same-key (u ∷ us) (v ∷ vs) p q =
     ap (λ (t : Bool). eqb u v && t) (same-key us vs (words-rest u us p) (words-rest v vs q))
     ∙ digit-eq u v (key us) (key vs) (first-limit u us p) (first-limit v vs q)
@@ -99,13 +99,13 @@ key-places (a ∷ b ∷ c ∷ d ∷ []) h = refl
 key-places (a ∷ b ∷ c ∷ d ∷ e ∷ []) h = refl
 key-places (a ∷ b ∷ c ∷ d ∷ e ∷ f ∷ zs) h = absurd (omega arith)
 
--- five digits: below 65,536 to the fifth
-pub key-limit : (a b c d e : ℕ) → a ≤ wordLimit → b ≤ wordLimit → c ≤ wordLimit → d ≤ wordLimit → e ≤ wordLimit → key (a ∷ b ∷ c ∷ d ∷ e ∷ []) < 1208925819614629174706176
+-- five digits
+pub key-limit : (a b c d e : ℕ) → a ≤ wordLimit → b ≤ wordLimit → c ≤ wordLimit → d ≤ wordLimit → e ≤ wordLimit → key (a ∷ b ∷ c ∷ d ∷ e ∷ []) < radix * lowLimit
 unfolding key
 key-limit a b c d e p q r s t = omega arith
 
 -- how the code's two parts of a key decide
-module _ (a b c d : ℕ) (l : b < 18446744073709551616) (m : d < 18446744073709551616) where
+module _ (a b c d : ℕ) (l : b < lowLimit) (m : d < lowLimit) where
   pub high-less : a < c → ltb (keyOf a b) (keyOf c d) ≡ true
   high-less h = lt-ltb (keyOf a b) (keyOf c d) (omega arith)
 

@@ -1,6 +1,6 @@
 -- Laws of the search: binary search by key among good rows is the plain search by words, a row is found at its own place, and the rows that put
 -- one more word in front of a row are a stretch. Assumes nothing.
-use mathlib.Core.Path.{_≡_, refl, sym, ap, ap₂, _∙_}
+use mathlib.Core.Path.{_≡_, refl, sym, ap, ap₂, _∙_, subst}
 use mathlib.Core.Bool.{Bool, true, false, cond}
 use mathlib.Core.List.{List}
 use mathlib.Core.Logic.{⊎-elim}
@@ -16,46 +16,35 @@ use Rattle.backoff.specs.Words.{sameWords, areWords}
 use Rattle.list.specs.Table.{rowsOf, field, wordOf, words, withoutFirst}
 use Rattle.list.specs.Search.{findBelow, findIn, isAt, Stretch}
 use Rattle.list.specs.Good.{GoodRow, Good}
-use Rattle.list.specs.Keys.{key, rowKey, findKey, LowerBound}
+use Rattle.list.specs.Keys.{radix, key, rowKey, findKey, Bracket}
 use Rattle.list.specs.declared.Found.{Found}
 use Rattle.list.specs.declared.Found.the-variants.{At, Nothing}
 use Rattle.backoff.proofs.Words.{same-eq}
 use Rattle.list.proofs.Keys.{same-key, key-unique}
 use Rattle.list.proofs.Table.{row-in, words-cons}
-use Rattle.list.proofs.Good.{are-words, are-words-without-first, ascend-key}
+use Rattle.list.proofs.Good.{are-words, are-words-without-first, ascend-key, good-fewer}
 
--- where binary search has come to: rows below `from` have keys below k, rows from `to` on have not
-pub record Bracket (t : List ℤ) (n k from to : ℕ) : Type 0 where
-  pub order : from ≤ to
-  pub within : to ≤ n
-  pub below : (j : ℕ) → j < from → rowKey t j < k
-  pub above : (j : ℕ) → to ≤ j → j < n → k ≤ rowKey t j
-
-pub bracket-start : (t : List ℤ) (n k : ℕ) → Bracket t n k 0 n
-bracket-start t n k = record {
+pub bracket-start : (t : List ℤ) (k : ℕ) → Bracket t k 0 (rowsOf t)
+bracket-start t k = record {
   order = omega arith;
   within = omega arith;
   below = λ j l. absurd (not-suc-le-zero l);
   above = λ j l m. absurd (omega arith);
 }
 
-pub bracket-end : (t : List ℤ) (n k from to : ℕ) → Bracket t n k from to → to ≤ from → LowerBound t n k from
-bracket-end t n k from to b l = record {
-  within = omega arith;
-  below = b .below;
-  above = λ j p q. b .above j (omega arith) q;
-}
+pub bracket-end : (t : List ℤ) (k from to : ℕ) → Bracket t k from to → to ≤ from → Bracket t k from from
+bracket-end t k from to b l = let e : to ≡ from = omega arith in subst (Bracket t k from) e b
 
-module _ (t : List ℤ) (n : ℕ) (g : Good t n) where
-  keys-ascend : (i j : ℕ) → i ≤ j → j < n → rowKey t i ≤ rowKey t j
+module _ (t : List ℤ) (g : Good t (rowsOf t)) where
+  keys-ascend : (i j : ℕ) → i ≤ j → j < rowsOf t → rowKey t i ≤ rowKey t j
   keys-ascend i j l m =
       ⊎-elim
-      (λ p. let k = ascend-key t n i j g p m in omega arith)
+      (λ p. let k = ascend-key t (rowsOf t) i j g p m in omega arith)
       (λ (p : j ≤ i). let e : i ≡ j = omega arith in let f : rowKey t i ≡ rowKey t j = ap (rowKey t) e in omega arith)
       (lt-or-ge i j)
 
-  module _ (k from to middle : ℕ) (b : Bracket t n k from to) where
-    pub bracket-up : middle < to → rowKey t middle < k → Bracket t n k (middle + 1) to
+  module _ (k from to middle : ℕ) (b : Bracket t k from to) where
+    pub bracket-up : middle < to → rowKey t middle < k → Bracket t k (middle + 1) to
     bracket-up l h = record {
       order = omega arith;
       within = b .within;
@@ -63,7 +52,7 @@ module _ (t : List ℤ) (n : ℕ) (g : Good t n) where
       above = b .above;
     }
 
-    pub bracket-down : from ≤ middle → middle < to → k ≤ rowKey t middle → Bracket t n k from middle
+    pub bracket-down : from ≤ middle → middle < to → k ≤ rowKey t middle → Bracket t k from middle
     bracket-down l m h = record {
       order = l;
       within = omega arith;
@@ -76,7 +65,7 @@ find-key-hit : (t : List ℤ) (k n i : ℕ) → Good t n → i < n → rowKey t 
 unfolding findKey
 find-key-hit t k zero i g l e = absurd (not-suc-le-zero l)
 find-key-hit t k (suc n) i g l e =
-    go (eqb (rowKey t n) k) refl (λ h. find-key-hit t k n i (record { row = λ x p. g .row x (omega arith); ascend = λ x y p q. g .ascend x y p (omega arith) }) h e)
+    go (eqb (rowKey t n) k) refl (λ h. find-key-hit t k n i (good-fewer t n (suc n) (omega arith) g) h e)
   where
     go : (b : Bool) → eqb (rowKey t n) k ≡ b → (i < n → findKey t k n ≡ At i) → cond b (At n) (findKey t k n) ≡ At i
     go true q ih =
@@ -95,17 +84,18 @@ find-key-miss t k (suc n) h = go (eqb (rowKey t n) k) refl (find-key-miss t k n 
     go true q ih = absurd (h n (omega arith) (eqb-true (rowKey t n) k q))
     go false q ih = ih
 
-module _ (t : List ℤ) (n k i : ℕ) (g : Good t n) (b : LowerBound t n k i) where
-  pub bound-hit : i < n → rowKey t i ≤ k → findKey t k n ≡ At i
-  bound-hit l h = find-key-hit t k n i g l (let q = b .above i (omega arith) l in omega arith)
+-- the first row whose key is not below k is the row searched for, or there is none
+module _ (t : List ℤ) (k i : ℕ) (g : Good t (rowsOf t)) (b : Bracket t k i i) where
+  pub bound-hit : i < rowsOf t → rowKey t i ≤ k → findKey t k (rowsOf t) ≡ At i
+  bound-hit l h = find-key-hit t k (rowsOf t) i g l (let q = b .above i (omega arith) l in omega arith)
 
-  pub bound-miss : (i < n → k < rowKey t i) → findKey t k n ≡ Nothing
+  pub bound-miss : (i < rowsOf t → k < rowKey t i) → findKey t k (rowsOf t) ≡ Nothing
   bound-miss h =
-      find-key-miss t k n
+      find-key-miss t k (rowsOf t)
       (λ j l e.
       ⊎-elim
       (λ p. let u = b .below j p in omega arith)
-      (λ p. let u = h (omega arith) in let v = keys-ascend t n g i j p l in omega arith)
+      (λ p. let u = h (omega arith) in let v = keys-ascend t g i j p l in omega arith)
       (lt-or-ge j i))
 
 -- the search by words is the search by key
@@ -151,13 +141,13 @@ module _ (t : List ℤ) (g : Good t (rowsOf t)) where
       let f : At i ≡ At j = sym (finds i l) ∙ ap (findIn t) e ∙ finds j m in
       cc
 
--- The rows that put one more word in front of row i: their keys are the row's key times 65,536, plus the word.
+-- The rows that put one more word in front of row i: their keys are the row's key times the radix, plus the word.
 module _ (t : List ℤ) (g : Good t (rowsOf t)) (i : ℕ) (l : i < rowsOf t) (j : ℕ) (m : j < rowsOf t) where
-  front-key : rowKey t j ≡ wordOf (field t j 1) + 65536 * key (withoutFirst t j)
+  front-key : rowKey t j ≡ wordOf (field t j 1) + radix * key (withoutFirst t j)
   unfolding rowKey key
   front-key = ap key (words-cons t j (row-in t j m) (g .row j m .some))
 
-  front-in : withoutFirst t j ≡ words t i → (65536 * rowKey t i ≤ rowKey t j) × (rowKey t j < 65536 * rowKey t i + 65536)
+  front-in : withoutFirst t j ≡ words t i → (radix * rowKey t i ≤ rowKey t j) × (rowKey t j < radix * rowKey t i + radix)
   unfolding rowKey
   front-in e =
       let k : key (withoutFirst t j) ≡ key (words t i) = ap key e in
@@ -165,7 +155,7 @@ module _ (t : List ℤ) (g : Good t (rowsOf t)) (i : ℕ) (l : i < rowsOf t) (j 
       let u = upTo-le wordLimit (field t j 1) in
       (omega arith, omega arith)
 
-  front-only : 65536 * rowKey t i ≤ rowKey t j → rowKey t j < 65536 * rowKey t i + 65536 → withoutFirst t j ≡ words t i
+  front-only : radix * rowKey t i ≤ rowKey t j → rowKey t j < radix * rowKey t i + radix → withoutFirst t j ≡ words t i
   unfolding rowKey
   front-only p q =
       let c = front-key in
@@ -173,8 +163,9 @@ module _ (t : List ℤ) (g : Good t (rowsOf t)) (i : ℕ) (l : i < rowsOf t) (j 
       let k : key (withoutFirst t j) ≡ key (words t i) = omega arith in
       key-unique (withoutFirst t j) (words t i) (are-words-without-first t j (g .row j m) (row-in t j m)) (are-words t i (g .row i l)) k
 
-pub stretch : (t : List ℤ) (i from to : ℕ) → Good t (rowsOf t) → i < rowsOf t → LowerBound t (rowsOf t) (65536 * rowKey t i) from → LowerBound t (rowsOf t) (65536 * rowKey t i + 65536) to → Stretch t i from to
+pub stretch : (t : List ℤ) (i from to : ℕ) → Good t (rowsOf t) → i < rowsOf t → Bracket t (radix * rowKey t i) from from → Bracket t (radix * rowKey t i + radix) to to → Stretch t i from to
 stretch t i from to g l p q = record {
+  order = ⊎-elim (λ o. let x = p .below to o in let y = q .above to (omega arith) (omega (arith, p .within)) in absurd (omega arith)) (λ o. o) (lt-or-ge to from);
   within = q .within;
   inside = λ j u v.
       let m : j < rowsOf t = omega (arith, q .within) in
@@ -182,8 +173,8 @@ stretch t i from to g l p q = record {
   only = λ j m e. let f = front-in t g i l j m e in (from-le j m (f .0), to-lt j m (f .1));
 }
   where
-    from-le : (j : ℕ) → j < rowsOf t → 65536 * rowKey t i ≤ rowKey t j → from ≤ j
+    from-le : (j : ℕ) → j < rowsOf t → radix * rowKey t i ≤ rowKey t j → from ≤ j
     from-le j m k = ⊎-elim (λ o. let z = p .below j o in absurd (omega arith)) (λ o. o) (lt-or-ge j from)
 
-    to-lt : (j : ℕ) → j < rowsOf t → rowKey t j < 65536 * rowKey t i + 65536 → j < to
+    to-lt : (j : ℕ) → j < rowsOf t → rowKey t j < radix * rowKey t i + radix → j < to
     to-lt j m k = ⊎-elim (λ o. o) (λ o. let z = q .above j o m in absurd (omega arith)) (lt-or-ge j to)

@@ -17,9 +17,9 @@ status-of-requires c κs = search needs
 returns : tie.Need-returns
 returns c =
     let v = c .before .check-list .ensures .0 in
-    let number = c .status-of .ensures .0 ∙ ap numberOf v in
-    let place = c .status-of .ensures .1 ∙ ap placeOf v in
-    ((number, place), λ e. accepted-model _ (number-accepted _ (sym number ∙ e)))
+    let number = c .status-of .ensures .number ∙ ap numberOf v in
+    let place = c .status-of .ensures .place ∙ ap placeOf v in
+    (record { number = number; place = place }, λ e. accepted-model _ (number-accepted _ (sym number ∙ e)))
 
 pub backoff-check-spec : {M : Type 1} → statement M
 backoff-check-spec = tie.close (tie.spec check-list-requires status-of-requires returns)

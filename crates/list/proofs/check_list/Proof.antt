@@ -30,10 +30,10 @@ record Scanned (t : List ℤ) (rows n i : ℕ) : Type 0 where
   rest : verdict t ≡ scan t n i (rows - i)
 
 abbrev Inv-loop : tie.InvT-loop
-Inv-loop table rows n i₀ i = Scanned table rows n i
+Inv-loop table rows n near₀ i₀ near i = Scanned table rows n i
 
 abbrev μ-loop : tie.MeasureT-loop
-μ-loop table rows n i₀ i = rows - i
+μ-loop table rows n near₀ i₀ near i = rows - i
 
 -- the outcome says what it means
 answer : (t : List ℤ) (v : Verdict) → verdict t ≡ v → (v ≡ verdict t) × (v ≡ Accepted → AcceptedModel (modelOf t))
@@ -68,17 +68,18 @@ loop-holds c =
 row-fault-requires : tie.Need-row-fault-requires Inv-loop μ-loop
 row-fault-requires c κs = (omega arith, c .before .loop .inv .good)
 
-add-t10 : tie.Need-add-t10 Inv-loop μ-loop
-add-t10 c = omega arith
+add-t11 : tie.Need-add-t11 Inv-loop μ-loop
+add-t11 c = omega arith
 
-cast-t11 : tie.Need-cast-t11 Inv-loop μ-loop
-cast-t11 c = omega arith
+cast-t12 : tie.Need-cast-t12 Inv-loop μ-loop
+cast-t12 c = omega arith
 
 returns-2 : tie.Need-returns-2 Inv-loop μ-loop
 returns-2 c =
-    let l = c .before .before .before .loop in
-    let e = c .before .row-fault .ensures in
-    answer _ _ (l .inv .rest ∙ scan-fault _ _ _ _ (c .before .before .loop-test .taken) (λ z. c .if2 .taken (e ∙ z)) ∙ ap (λ (f : ℕ). Refused f (l .i + 1)) (sym e))
+    let r = c .before .before in
+    let l = r .before .before .loop in
+    let e = r .row-fault .ensures in
+    answer _ _ (l .inv .rest ∙ scan-fault _ _ _ _ (r .before .loop-test .taken) (λ z. c .if2 .taken (e ∙ z)) ∙ ap (λ (f : ℕ). Refused f (l .i + 1)) (sym e))
 
 add-i : tie.Need-add-i Inv-loop μ-loop
 add-i c = omega arith
@@ -88,14 +89,15 @@ loop-less c = omega arith
 
 loop-again : tie.Need-loop-again Inv-loop μ-loop
 loop-again c =
-    let l = c .before .before .before .loop in
-    let e = sym (c .before .row-fault .ensures) ∙ c .if2 .left in
+    let r = c .before .before in
+    let l = r .before .before .loop in
+    let e = sym (r .row-fault .ensures) ∙ c .if2 .left in
     let p = passed-row _ _ _ e in
     record {
       within = omega arith;
       limit = l .inv .limit;
-      good = good-more _ _ (l .inv .good) (p .good) (p .after);
-      rest = l .inv .rest ∙ scan-pass _ _ _ _ (c .before .before .loop-test .taken) e;
+      good = good-more _ _ (l .inv .good) (p .fields .good) (p .after);
+      rest = l .inv .rest ∙ scan-pass _ _ _ _ (r .before .loop-test .taken) e;
     }
 
 reserved-listed-requires : tie.Need-reserved-listed-requires Inv-loop μ-loop
@@ -125,8 +127,8 @@ check-list-spec =
     length-of-requires
     loop-holds
     row-fault-requires
-    add-t10
-    cast-t11
+    add-t11
+    cast-t12
     returns-2
     add-i
     loop-less

@@ -3,7 +3,7 @@ use Prim.Native.Nat.{ℕ, _+_, _*_, _<_}
 use native.Mathlib.Omega.{arith}
 use denote.Ref.{now}
 use Rattle.list.specs.Table.{rowsOf}
-use Rattle.list.specs.Keys.{rowKey, LowerBound}
+use Rattle.list.specs.Keys.{radix, lowLimit, rowKey, Bracket}
 use Rattle.list.proofs.Good.{row-key-limit}
 use Rattle.list.proofs.Search.{stretch}
 use borrow.Author.Needs.{needs}
@@ -14,11 +14,11 @@ row-key-requires : tie.Need-row-key-requires
 unfolding rowsOf
 row-key-requires c κs = (c .pre .0, c .pre .1 .row (c .args .i) (omega arith))
 
-limit : (c : tie.After-row-key) → rowKey (now (c .before .args .table)) (c .before .args .i) < 1208925819614629174706176
+limit : (c : tie.After-row-key) → rowKey (now (c .before .args .table)) (c .before .args .i) < radix * lowLimit
 unfolding rowsOf
 limit c = row-key-limit _ _ (c .before .pre .1 .row (c .before .args .i) (omega arith))
 
-high-limit : (c : tie.After-row-key) → c .row-key .result .high < 65536
+high-limit : (c : tie.After-row-key) → c .row-key .result .high < radix
 high-limit c = let l = limit c in omega (arith, c .row-key .ensures)
 
 key-shifted-requires : tie.Need-key-shifted-requires
@@ -43,11 +43,11 @@ returns c =
     let r = f .before .before in
     let s = r .before in
     let t = now (s .args .table) in
-    let a = f .before .key-shifted .ensures ∙ ap (λ (k : ℕ). 65536 * k) (r .row-key .ensures) in
-    let b = c .before .key-next .ensures ∙ ap (λ (k : ℕ). k + 65536) a in
+    let a = f .before .key-shifted .ensures ∙ ap (λ (k : ℕ). radix * k) (r .row-key .ensures) in
+    let b = c .before .key-next .ensures ∙ ap (λ (k : ℕ). k + radix) a in
     stretch t (s .args .i) (f .lower-bound .result) (c .lower-bound2 .result) (s .pre .1) (omega arith)
-    (subst (λ (k : ℕ). LowerBound t (rowsOf t) k (f .lower-bound .result)) a (f .lower-bound .ensures))
-    (subst (λ (k : ℕ). LowerBound t (rowsOf t) k (c .lower-bound2 .result)) b (c .lower-bound2 .ensures))
+    (subst (λ (k : ℕ). Bracket t k (f .lower-bound .result) (f .lower-bound .result)) a (f .lower-bound .ensures))
+    (subst (λ (k : ℕ). Bracket t k (c .lower-bound2 .result) (c .lower-bound2 .result)) b (c .lower-bound2 .ensures))
 
 pub children-spec : {M : Type 1} → statement M
 children-spec =

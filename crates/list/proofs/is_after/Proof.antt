@@ -29,7 +29,7 @@ returns-2 : tie.Need-returns-2
 returns-2 c =
     let b = c .before .before in
     let s = b .before .before in
-    cc (c .key-less .ensures, b .row-key .ensures, c .before .row-key2 .ensures, after-key (now (s .args .t)) (s .args .i) (b .before .if1 .left) (s .pre .1) (s .pre .2))
+    cc (c .key-less .ensures, b .row-key .ensures, c .before .row-key2 .ensures, after-key (now (s .args .table)) (s .args .i) (b .before .if1 .left) (s .pre .1) (s .pre .2))
 
 pub is-after-spec : {M : Type 1} → statement M
 is-after-spec =

@@ -2,14 +2,15 @@
 use mathlib.Core.Path.{sym}
 use Prim.Native.Nat.{_<_}
 use native.Mathlib.Omega.{arith}
+use Rattle.list.specs.Keys.{lowLimit}
 use Rattle.list.proofs.Keys.{high-less, high-more, high-same}
 use Rattle.list.proofs.key_less.Statement.{statement}
 use Rattle.list.proofs.key_less.Tie as tie
 
-low-a : (c : tie.After-struct-known2) → c .before .before .args .a .low < 18446744073709551616
+low-a : (c : tie.After-struct-known2) → c .before .before .args .a .low < lowLimit
 low-a c = omega arith
 
-low-b : (c : tie.After-struct-known2) → c .before .before .args .b .low < 18446744073709551616
+low-b : (c : tie.After-struct-known2) → c .before .before .args .b .low < lowLimit
 low-b c = omega arith
 
 returns : tie.Need-returns

@@ -1,10 +1,12 @@
 use mathlib.Core.Path.{_≡_, sym, ap, _∙_}
-use mathlib.Core.Bool.{Bool, not, cond}
+use mathlib.Core.Bool.{Bool, true, not, cond}
 use native.Mathlib.Omega.{arith}
 use denote.Ref.{now}
 use borrow.Author.Tests.{not-true, not-false}
 use Rattle.backoff.specs.Refusal.{shorterRow}
-use Rattle.list.specs.Check.{orderFault}
+use Rattle.list.specs.Search.{isAt}
+use Rattle.list.specs.Check.{isAfter, orderFault}
+use Rattle.list.specs.declared.Found.{Found}
 use Rattle.list.proofs.Check.{fault-order, fault-shorter, fault-none}
 use borrow.Author.Needs.{needs}
 use Rattle.list.proofs.order_fault.Statement.{statement}
@@ -19,25 +21,35 @@ returns c = sym (fault-order _ _ (sym (c .before .is-after .ensures) ∙ not-tru
 length-of-requires : tie.Need-length-of-requires
 length-of-requires c κs = search needs
 
+after : (c : tie.Else1) → isAfter (now (c .before .before .args .table)) (c .before .before .args .i) ≡ true
+after c = sym (c .before .is-after .ensures) ∙ not-false _ (c .if1 .left)
+
+returns-2 : tie.Need-returns-2
+returns-2 c =
+    let d = c .before .before in
+    let m = c .before .length-of .ensures .0 in
+    let l = c .if2 .taken in
+    sym (fault-none _ _ (after d) (rw m at l))
+
 shorter-listed-requires : tie.Need-shorter-listed-requires
 shorter-listed-requires c κs = search needs
 
-last : (c : tie.After-shorter-listed) → cond (not (c .shorter-listed .result)) shorterRow 0 ≡ orderFault (now (c .before .before .before .before .before .args .t)) (c .before .before .before .before .before .args .i)
-last c =
-    let d = c .before .before .before in
-    ap (λ (b : Bool). cond (not b) shorterRow 0) (c .shorter-listed .ensures)
-    ∙ sym (fault-shorter _ _ (sym (d .before .is-after .ensures) ∙ not-false _ (d .if1 .left)) (omega arith))
+enum-known-found : tie.Need-enum-known-found
+enum-known-found c = search needs
 
-returns-2 : tie.Need-returns-2
-returns-2 c = sym (ap (λ (b : Bool). cond b shorterRow 0) (c .if3 .taken)) ∙ last (c .before)
+enum-told : tie.Need-enum-told
+enum-told c = search needs
+
+searched : (c : tie.After-shorter-listed) → cond (not (isAt (c .shorter-listed .result))) shorterRow 0 ≡ orderFault (now (c .before .before .before .before .before .args .table)) (c .before .before .before .before .before .args .i)
+searched c =
+    let d = c .before .before .before in
+    ap (λ (b : Bool). cond (not b) shorterRow 0) (c .shorter-listed .ensures) ∙ sym (fault-shorter _ _ (after d) (omega arith))
 
 returns-3 : tie.Need-returns-3
-returns-3 c = sym (ap (λ (b : Bool). cond b shorterRow 0) (c .if3 .left)) ∙ last (c .before)
+returns-3 c = sym (ap (λ (f : Found). cond (not (isAt f)) shorterRow 0) (c .enum-told .given .1)) ∙ searched (c .before .before)
 
 returns-4 : tie.Need-returns-4
-returns-4 c =
-    let d = c .before .before in
-    sym (fault-none _ _ (sym (d .before .is-after .ensures) ∙ not-false _ (d .if1 .left)) (omega arith))
+returns-4 c = sym (ap (λ (f : Found). cond (not (isAt f)) shorterRow 0) (c .before .found .given .1)) ∙ searched (c .before .before .before)
 
 pub order-fault-spec : {M : Type 1} → statement M
 order-fault-spec =
@@ -46,7 +58,9 @@ order-fault-spec =
     is-after-requires
     returns
     length-of-requires
-    shorter-listed-requires
     returns-2
+    shorter-listed-requires
+    enum-known-found
+    enum-told
     returns-3
     returns-4)

@@ -1,6 +1,6 @@
 use mathlib.Core.Path.{sym, _∙_}
 use Rattle.list.specs.Check.{rowFault}
-use Rattle.list.proofs.Check.{good-row, or-left, or-right}
+use Rattle.list.proofs.Check.{passed-fields, or-left, or-right}
 use borrow.Author.Needs.{needs}
 use Rattle.list.proofs.row_fault.Statement.{statement}
 use Rattle.list.proofs.row_fault.Tie as tie
@@ -15,7 +15,7 @@ returns c = let e = c .before .field-fault .ensures in e ∙ sym (or-left _ _ (�
 order-fault-requires : tie.Need-order-fault-requires
 order-fault-requires c κs =
     let s = c .before .before in
-    (s .pre .0, s .pre .1, good-row _ _ _ (sym (c .before .field-fault .ensures) ∙ c .if1 .left))
+    (s .pre .0, s .pre .1, passed-fields _ _ _ (sym (c .before .field-fault .ensures) ∙ c .if1 .left) .good)
 
 returns-2 : tie.Need-returns-2
 unfolding rowFault

@@ -30,7 +30,7 @@ returns c =
     let d2 = d3 .before in
     let d1 = d2 .before in
     let s = d1 .before in
-    cc (c .packed .ensures, d1 .digit .ensures .0, d2 .digit2 .ensures .0, d3 .digit3 .ensures .0, d4 .digit4 .ensures .0, d5 .digit5 .ensures .0, row-key (now (s .args .t)) (s .args .i) (s .pre .1))
+    cc (c .packed .ensures, d1 .digit .ensures .0, d2 .digit2 .ensures .0, d3 .digit3 .ensures .0, d4 .digit4 .ensures .0, d5 .digit5 .ensures .0, row-key (now (s .args .table)) (s .args .i) (s .pre .1))
 
 pub row-key-spec : {M : Type 1} → statement M
 row-key-spec =

@@ -26,7 +26,7 @@ returns : tie.Need-returns
 unfolding wordsOf
 returns c =
     let s = c .before .before .before in
-    c .is-at .ensures ∙ ap isAt (c .before .find-row .ensures ∙ ap (λ (z : ℤ). findIn (now (s .args .t)) (wordOf z ∷ [])) (toZ-ofZ (s .fits .word)))
+    c .is-at .ensures ∙ ap isAt (c .before .find-row .ensures ∙ ap (λ (z : ℤ). findIn (now (s .args .table)) (wordOf z ∷ [])) (toZ-ofZ (s .fits .word)))
 
 pub word-listed-spec : {M : Type 1} → statement M
 word-listed-spec =

@@ -6,8 +6,8 @@ use Rattle.list.specs.Table.{rowsOf}
 use Rattle.list.specs.Search.{findIn}
 use Rattle.list.specs.Keys.{findKey}
 use Rattle.list.proofs.Search.{find-key-words}
-use Rattle.list.proofs.find_row.Statement.{statement}
-use Rattle.list.proofs.find_row.Tie as tie
+use Rattle.list.proofs.find_near.Statement.{statement}
+use Rattle.list.proofs.find_near.Tie as tie
 
 key-of-requires : tie.Need-key-of-requires
 key-of-requires c κs = search needs
@@ -22,5 +22,5 @@ returns c =
     let t = now (s .args .part) in
     c .find-key .ensures ∙ ap (λ (k : ℕ). findKey t k (rowsOf t)) (c .before .key-of .ensures) ∙ find-key-words t _ (rowsOf t) (s .pre .0 .row) (s .pre .2)
 
-pub find-row-spec : {M : Type 1} → statement M
-find-row-spec = tie.close (tie.spec key-of-requires find-key-requires returns)
+pub find-near-spec : {M : Type 1} → statement M
+find-near-spec = tie.close (tie.spec key-of-requires find-key-requires returns)

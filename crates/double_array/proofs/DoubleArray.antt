@@ -1,0 +1,269 @@
+-- Laws of specs/DoubleArray.antt: markers packed and read, children, the head, the walk. Of a definition by tests, the law `..-told` says in plain
+-- facts what holds where it answers, and `..-shown` is the converse. Assumes nothing.
+use mathlib.Core.Path.{_≡_, refl, ap, _∙_}
+use mathlib.Core.Bool.{Bool, true, false, cond, _&&_, false≢true}
+use mathlib.Core.List.{List, [], _∷_}
+use mathlib.Core.Option.{none, some}
+use Prim.Native.Nat.{ℕ, zero, suc, _≤_, _<_}
+use native.Mathlib.Omega.{arith}
+use lib.Dec.{eqb, leb, ltb}
+use lib.ListN.{length, getD}
+use lib.IntN.{ℤ, pos, negsuc, negℤ, natAbs, _+ℤ_, _*ℤ_}
+use lib.Signed.{leZ, ltZ, _≤ℤ_}
+use borrow.Author.Tests.{lt-ltb, le-leb, eq-eqb}
+use Rattle.integer.specs.Integer.{eqZ, between, bit, twice, half, odd}
+use Rattle.integer.proofs.Arithmetic.{zarith, add, sub, mul, shr, abs}
+use Rattle.integer.proofs.Ranges.{and-left, and-right, and-both, between-low, between-high, between-yes}
+use Rattle.integer.proofs.Halving.{half-twice, odd-twice, half-odd, bit-bounds}
+use Rattle.backoff.specs.Limits.{largestBackoff, orderLimit, rowLimit, slotLimit}
+use Rattle.backoff.specs.Words.{isWord}
+use Rattle.backoff.specs.Model.{inProbability, inBackoff}
+use Rattle.backoff.specs.Store.{broken, here, Store}
+use Rattle.double_array.specs.DoubleArray.{markerCheck, markerBase, markerOf, childSlot, baseAt, checkAt, markerAt, childAt, downTo, lookFrom, sizesOk, headOk, isArray, orderIn, lookRow, storeIn, opened}
+use Rattle.double_array.specs.declared.Marker.{Marker}
+use Rattle.double_array.specs.declared.Marker.the-variants.{Sound, Broken}
+use Rattle.double_array.specs.declared.Child.the-variants.{At, Nothing}
+
+-- within a list the item does not depend on the default
+pub getD-inside : {A : Type 0} (l : List A) (i : ℕ) (d e : A) → i < length l → getD l i d ≡ getD l i e
+getD-inside [] i d e h = absurd (omega arith)
+getD-inside (x ∷ l) zero d e h = refl
+getD-inside (x ∷ l) (suc i) d e h = getD-inside l i d e (omega arith)
+
+-- four tests that all hold
+all-four : (a b c d : Bool) → (a && (b && (c && d))) ≡ true → (a ≡ true) × (b ≡ true) × (c ≡ true) × (d ≡ true)
+all-four true true true d h = (refl, refl, refl, h)
+all-four true true false d h = absurd (false≢true h)
+all-four true false c d h = absurd (false≢true h)
+all-four false b c d h = absurd (false≢true h)
+
+-- ---- markers
+
+module _ (check base : ℤ) where
+  pub marker-sound : (inProbability (check +ℤ pos 1) && inBackoff (half base)) ≡ true → markerOf check base ≡ Sound (check +ℤ pos 1) (half base) (odd base)
+  unfolding markerOf
+  marker-sound e = rw e
+
+  pub marker-broken : (inProbability (check +ℤ pos 1) && inBackoff (half base)) ≡ false → markerOf check base ≡ Broken
+  unfolding markerOf
+  marker-broken e = rw e
+
+twice-half : (z : ℤ) → twice (half z) (odd z) ≡ z
+twice-half z = omega (zarith, half-odd z, add (pos 2 *ℤ half z) (bit (odd z)), mul 2 (half z), bit-bounds (odd z))
+
+-- a sound marker behind two tests
+guarded : (t u : Bool) (m : Marker) (p b : ℤ) (f : Bool) → cond (t && u) m Broken ≡ Sound p b f → (t ≡ true) × (u ≡ true) × (m ≡ Sound p b f)
+guarded true true m p b f h = (refl, refl, h)
+guarded true false m p b f h = absurd (false≢true (cc))
+guarded false u m p b f h = absurd (false≢true (cc))
+
+-- what is read was packed, and is in range
+sound-read : (check base p b : ℤ) (f : Bool) → markerOf check base ≡ Sound p b f → (check ≡ markerCheck p) × (base ≡ markerBase b f) × (inProbability p ≡ true) × (inBackoff b ≡ true)
+unfolding markerOf
+sound-read check base p b f h =
+    let tests = guarded (inProbability (check +ℤ pos 1)) (inBackoff (half base)) (Sound (check +ℤ pos 1) (half base) (odd base)) p b f h in
+    let q : check +ℤ pos 1 ≡ p = cc in
+    let r : half base ≡ b = cc in
+    (omega (zarith, add check (pos 1), sub p (pos 1)), cc (twice-half base), rw q at (tests .0), rw r at (tests .1))
+
+pub sound-in-range : (check base p b : ℤ) (f : Bool) → markerOf check base ≡ Sound p b f → (inProbability p ≡ true) × (inBackoff b ≡ true)
+sound-in-range check base p b f h = let r = sound-read check base p b f h in (r .2, r .3)
+
+-- what was packed is read
+pub marker-round-trip : (p b : ℤ) (f : Bool) → inProbability p ≡ true → inBackoff b ≡ true → markerOf (markerCheck p) (markerBase b f) ≡ Sound p b f
+marker-round-trip p b f hp hb =
+    let e : markerCheck p +ℤ pos 1 ≡ p = omega (zarith, sub p (pos 1), add (markerCheck p) (pos 1)) in
+    marker-sound (markerCheck p) (markerBase b f) (and-both _ _ (ap inProbability e ∙ hp) (ap inBackoff (half-twice b f) ∙ hb))
+    ∙ rw (e, half-twice b f, odd-twice b f)
+
+-- K8, by computing; and a p that is stored as it is, 0 for one, is no marker
+k8 : markerOf (negsuc 4000) (negsuc 998) ≡ Sound (negsuc 3999) (negsuc 499) true
+unfolding markerOf inProbability inBackoff between
+k8 = refl
+
+p-itself : markerOf (pos 0) (pos 0) ≡ Broken
+unfolding markerOf inProbability inBackoff between
+p-itself = refl
+
+-- "A marker is sound if 1 ≤ d < N and the p and b read from it are in range."
+pub record IsMarker (base check : List ℤ) (s : ℕ) (p b : ℤ) (f : Bool) : Type 0 where
+  pub some-base : pos 1 ≤ℤ baseAt base check s
+  pub inside : natAbs (baseAt base check s) < length check
+  pub p-packed : checkAt base check (natAbs (baseAt base check s)) ≡ markerCheck p
+  pub b-packed : baseAt base check (natAbs (baseAt base check s)) ≡ markerBase b f
+  pub p-in-range : inProbability p ≡ true
+  pub b-in-range : inBackoff b ≡ true
+
+module _ (base check : List ℤ) (s : ℕ) (p b : ℤ) (f : Bool) where
+  pub marker-shown : IsMarker base check s p b f → markerAt base check s ≡ Sound p b f
+  unfolding markerAt
+  marker-shown m =
+      let d = baseAt base check s in
+      let l : leZ (pos 1) d ≡ true = omega zarith in
+      let u : ltZ d (pos (length check)) ≡ true = omega (zarith, abs d) in
+      rw (l, u, m .p-packed, m .b-packed) (marker-round-trip p b f (m .p-in-range) (m .b-in-range))
+
+  pub marker-told : markerAt base check s ≡ Sound p b f → IsMarker base check s p b f
+  unfolding markerAt
+  marker-told h =
+      let d = baseAt base check s in
+      let tests = guarded (leZ (pos 1) d) (ltZ d (pos (length check))) (markerOf (checkAt base check (natAbs d)) (baseAt base check (natAbs d))) p b f h in
+      let r = sound-read (checkAt base check (natAbs d)) (baseAt base check (natAbs d)) p b f (tests .2) in
+      record { some-base = omega zarith; inside = omega (zarith, abs d); p-packed = r .0; b-packed = r .1; p-in-range = r .2; b-in-range = r .3 }
+
+-- ---- children
+
+-- "a child exists if 1 ≤ d, d + w < N and CHECK[d + w] = s"
+pub record IsChild (base check : List ℤ) (s w t : ℕ) : Type 0 where
+  pub word : isWord w ≡ true
+  pub some-base : pos 1 ≤ℤ baseAt base check s
+  pub slot : childSlot (natAbs (baseAt base check s)) w ≡ t
+  pub inside : t < length check
+  pub owner : checkAt base check t ≡ pos s
+
+-- a child behind a test
+chosen : (test : Bool) (u t : ℕ) → cond test (At u) Nothing ≡ At t → (test ≡ true) × (u ≡ t)
+chosen true u t h = (refl, cc)
+chosen false u t h = absurd (false≢true (cc))
+
+module _ (base check : List ℤ) (s w t : ℕ) where
+  pub child-told : childAt base check s w ≡ At t → IsChild base check s w t
+  unfolding childAt
+  child-told h =
+      let d = baseAt base check s in
+      let u = childSlot (natAbs d) w in
+      let found = chosen (isWord w && (leZ (pos 1) d && (ltb u (length check) && eqZ (checkAt base check u) (pos s)))) u t h in
+      let tests = all-four (isWord w) (leZ (pos 1) d) (ltb u (length check)) (eqZ (checkAt base check u) (pos s)) (found .0) in
+      let owned : checkAt base check u ≡ pos s = omega zarith in
+      let same : u ≡ t = found .1 in
+      record { word = tests .0; some-base = omega zarith; slot = same; inside = omega zarith; owner = rw same at owned }
+
+  pub child-shown : IsChild base check s w t → childAt base check s w ≡ At t
+  unfolding childAt
+  child-shown c =
+      let d = baseAt base check s in
+      let low : leZ (pos 1) d ≡ true = omega zarith in
+      let owned : eqZ (checkAt base check t) (pos s) ≡ true = omega zarith in
+      rw (c .word, low, c .slot, lt-ltb t (length check) (c .inside), owned)
+
+  pub child-inside : childAt base check s w ≡ At t → t < length check
+  child-inside h = child-told h .inside
+
+-- a slot has one CHECK, so it is the child of one node for one word
+pub child-unique : (base check : List ℤ) (s w r v t : ℕ) → childAt base check s w ≡ At t → childAt base check r v ≡ At t → (s ≡ r) × (w ≡ v)
+child-unique base check s w r v t h k =
+    let c = child-told base check s w t h in
+    let e = child-told base check r v t k in
+    let same : s ≡ r = omega (zarith, c .owner, e .owner) in
+    let d = ap (λ (i : ℕ). natAbs (baseAt base check i)) same in
+    (same, omega arith)
+
+-- ---- the head
+
+-- the lengths that 2 and 11 leave
+pub record Sizes (base check : List ℤ) : Type 0 where
+  pub same : length base ≡ length check
+  pub low : 2 ≤ length base
+  pub high : length base ≤ slotLimit
+
+-- "BASE[0] is 1 and CHECK[0] is n. CHECK[1] is −1 and BASE[1] is the number of rows"
+pub record Head (base check : List ℤ) : Type 0 where
+  pub root-base : baseAt base check 0 ≡ pos 1
+  pub order : between (pos 1) (pos orderLimit) (checkAt base check 0) ≡ true
+  pub root-check : checkAt base check 1 ≡ negsuc 0
+  pub rows : between (pos 3) (pos rowLimit) (baseAt base check 1) ≡ true
+
+module _ (base check : List ℤ) where
+  pub sizes-told : sizesOk base check ≡ true → Sizes base check
+  unfolding sizesOk
+  sizes-told h =
+      let n = length base in
+      let m = length check in
+      let same = and-left (eqb n m) (leb 2 n && leb n slotLimit) h in
+      let rest = and-right (eqb n m) (leb 2 n && leb n slotLimit) h in
+      let low = and-left (leb 2 n) (leb n slotLimit) rest in
+      let high = and-right (leb 2 n) (leb n slotLimit) rest in
+      record { same = omega zarith; low = omega zarith; high = omega zarith }
+
+  pub sizes-shown : Sizes base check → sizesOk base check ≡ true
+  unfolding sizesOk
+  sizes-shown z = rw (eq-eqb (length base) (length check) (z .same), le-leb 2 (length base) (z .low), le-leb (length base) slotLimit (z .high))
+
+  pub head-told : headOk base check ≡ true → Head base check
+  unfolding headOk
+  head-told h =
+      let tests = all-four (eqZ (baseAt base check 0) (pos 1)) (between (pos 1) (pos orderLimit) (checkAt base check 0)) (eqZ (checkAt base check 1) (negsuc 0)) (between (pos 3) (pos rowLimit) (baseAt base check 1)) h in
+      record { root-base = omega zarith; order = tests .1; root-check = omega zarith; rows = tests .3 }
+
+  pub head-shown : Head base check → headOk base check ≡ true
+  unfolding headOk
+  head-shown e =
+      let b : eqZ (baseAt base check 0) (pos 1) ≡ true = omega zarith in
+      let k : eqZ (checkAt base check 1) (negsuc 0) ≡ true = omega zarith in
+      rw (b, e .order, k, e .rows)
+
+-- ---- the array that 11 lets pass
+
+module _ (base check : List ℤ) (h : isArray base check ≡ true) where
+  pub opened-sizes : Sizes base check
+  opened-sizes = sizes-told base check (and-left (sizesOk base check) (headOk base check) h)
+
+  pub opened-head : Head base check
+  opened-head = head-told base check (and-right (sizesOk base check) (headOk base check) h)
+
+  pub opened-order : (1 ≤ orderIn check) × (orderIn check ≤ orderLimit)
+  unfolding orderIn
+  opened-order =
+      let n = checkAt base check 0 in
+      let l = between-low (pos 1) (pos orderLimit) n (opened-head .order) in
+      let u = between-high (pos 1) (pos orderLimit) n (opened-head .order) in
+      omega (zarith, abs n)
+
+  -- the marker of the root is slot 1
+  pub root-sound : markerAt base check 0 ≡ Sound (pos 0) (half (baseAt base check 1)) (odd (baseAt base check 1))
+  unfolding markerAt inProbability inBackoff between
+  root-sound =
+      let z = opened-sizes in
+      let inside : ltZ (pos 1) (pos (length check)) ≡ true = omega zarith in
+      let rows = baseAt base check 1 in
+      let l = between-low (pos 3) (pos rowLimit) rows (opened-head .rows) in
+      let u = between-high (pos 3) (pos rowLimit) rows (opened-head .rows) in
+      let b = between-yes (negℤ (pos largestBackoff)) (pos largestBackoff) (half rows) (omega (zarith, shr 2 rows tt)) (omega (zarith, shr 2 rows tt)) in
+      rw (opened-head .root-base, inside, opened-head .root-check) (marker-sound (negsuc 0) rows (and-both _ _ refl b))
+
+  pub opened-some : opened base check ≡ some (storeIn base check)
+  unfolding opened
+  opened-some = rw h
+
+-- the converse: what opens has passed, and it is the store of the two slices
+pub opened-is : (base check : List ℤ) (S : Store) → opened base check ≡ some S → (isArray base check ≡ true) × (storeIn base check ≡ S)
+unfolding opened
+opened-is base check S h = go (isArray base check) refl h
+  where
+    go : (t : Bool) → isArray base check ≡ t → cond t (some (storeIn base check)) none ≡ some S → (isArray base check ≡ true) × (storeIn base check ≡ S)
+    go true e g = (e, cc)
+    go false e g = absurd (false≢true (cc))
+
+pub opened-none : (base check : List ℤ) → isArray base check ≡ false → opened base check ≡ none
+unfolding opened
+opened-none base check h = rw h
+
+-- ---- the walk
+
+module _ (base check : List ℤ) (s : ℕ) where
+  pub look-here : (p b : ℤ) (f : Bool) → markerAt base check s ≡ Sound p b f → lookFrom base check s [] ≡ here (record { p = p; b = b; f = f })
+  unfolding lookFrom
+  look-here p b f e = rw e
+
+  pub look-down : (p b : ℤ) (f : Bool) (w : ℕ) (ws : List ℕ) → markerAt base check s ≡ Sound p b f → lookFrom base check s (w ∷ ws) ≡ downTo (childAt base check s w) (λ (t : ℕ). lookFrom base check t ws)
+  unfolding lookFrom
+  look-down p b f w ws e = rw e
+
+  pub look-broken : (ws : List ℕ) → markerAt base check s ≡ Broken → lookFrom base check s ws ≡ broken
+  unfolding lookFrom
+  look-broken [] e = rw e
+  look-broken (w ∷ ws) e = rw e
+
+pub look-row : (base check : List ℤ) (l : List ℕ) → 1 ≤ length l → lookRow base check l ≡ lookFrom base check 0 l
+look-row base check [] h = absurd (omega arith)
+look-row base check (w ∷ ws) h = refl

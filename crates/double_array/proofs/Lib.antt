@@ -1,0 +1,3 @@
+-- The laws of the double array and of lookup.
+pub mod DoubleArray
+pub mod LookupMeaning

@@ -1,0 +1,106 @@
+-- The double array of document 01: two lists of numbers, BASE and CHECK, of which nothing is known. Markers, children, the walk, the head, and the
+-- array as a store. Slots are natural numbers; words are newest first on a walk. Assumes nothing.
+use mathlib.Core.Bool.{Bool, cond, _&&_}
+use mathlib.Core.List.{List, [], _∷_}
+use mathlib.Core.Option.{Option, none, some}
+use Prim.Native.Nat.{ℕ, _+_}
+use lib.Dec.{eqb, leb, ltb}
+use lib.ListN.{length, getD}
+use lib.IntN.{ℤ, pos, negsuc, natAbs, _+ℤ_, _-ℤ_}
+use lib.Signed.{leZ, ltZ}
+use Rattle.integer.specs.Integer.{eqZ, between, twice, half, odd}
+use Rattle.backoff.specs.Limits.{orderLimit, rowLimit, slotLimit}
+use Rattle.backoff.specs.Words.{isWord}
+use Rattle.backoff.specs.Model.{inProbability, inBackoff}
+use Rattle.backoff.specs.Store.{Look, absent, broken, here, Store}
+use Rattle.double_array.specs.declared.Marker.{Marker}
+use Rattle.double_array.specs.declared.Marker.the-variants.{Sound, Broken}
+use Rattle.double_array.specs.declared.Child.{Child}
+use Rattle.double_array.specs.declared.Child.the-variants.{At, Nothing}
+
+-- "A free slot has BASE 0 and CHECK −2,147,483,648."
+abbrev pub freeCheck : ℤ
+freeCheck = negsuc 2147483647
+
+-- "A row's marker has CHECK = p − 1 and BASE = 2 × b + f"
+abbrev pub markerCheck : ℤ → ℤ
+markerCheck p = p -ℤ pos 1
+
+abbrev pub markerBase : ℤ → Bool → ℤ
+markerBase b f = twice b f
+
+-- What a marker says, from its CHECK and BASE. The paper's "sound": "the p and b read from it are in range"
+unfoldable pub markerOf : ℤ → ℤ → Marker
+markerOf check base =
+    cond (inProbability (check +ℤ pos 1) && inBackoff (half base)) (Sound (check +ℤ pos 1) (half base) (odd base)) Broken
+
+-- "its child for word w in slot d + w"
+abbrev pub childSlot : ℕ → ℕ → ℕ
+childSlot d w = d + w
+
+module _ (base check : List ℤ) where
+  abbrev pub baseAt : ℕ → ℤ
+  baseAt s = getD base s (pos 0)
+
+  abbrev pub checkAt : ℕ → ℤ
+  checkAt s = getD check s freeCheck
+
+  -- The marker of the node in slot s, whose BASE is d: "A marker is sound if 1 ≤ d < N and the p and b read from it are in range."
+  unfoldable pub markerAt : ℕ → Marker
+  markerAt s = cond (leZ (pos 1) (baseAt s) && ltZ (baseAt s) (pos (length check))) (markerOf (checkAt (natAbs (baseAt s))) (baseAt (natAbs (baseAt s)))) Broken
+
+  -- "a child exists if 1 ≤ d, d + w < N and CHECK[d + w] = s"; a word "outside 1..65,535 is unlisted"
+  unfoldable pub childAt : ℕ → ℕ → Child
+  childAt s w =
+      cond (isWord w && (leZ (pos 1) (baseAt s) && (ltb (childSlot (natAbs (baseAt s)) w) (length check) && eqZ (checkAt (childSlot (natAbs (baseAt s)) w)) (pos s))))
+      (At (childSlot (natAbs (baseAt s)) w))
+      Nothing
+
+abbrev pub lookMarker : Marker → Look
+lookMarker (Sound p b f) = here (record { p = p; b = b; f = f })
+lookMarker Broken = broken
+
+-- the rest of a walk past a node, which needs a sound marker
+abbrev pub past : Marker → Look → Look
+past (Sound p b f) rest = rest
+past Broken rest = broken
+
+abbrev pub downTo : Child → (ℕ → Look) → Look
+downTo (At t) rest = rest t
+downTo Nothing rest = absent
+
+-- The walk from the node in slot s: every node that it reaches needs a sound marker.
+unfoldable pub lookFrom : List ℤ → List ℤ → ℕ → List ℕ → Look
+lookFrom base check s [] = lookMarker (markerAt base check s)
+lookFrom base check s (w ∷ ws) = past (markerAt base check s) (downTo (childAt base check s w) (λ (t : ℕ). lookFrom base check t ws))
+
+-- "BASE and CHECK differ in length, N out of range": what 2 and 11 leave of the lengths
+unfoldable pub sizesOk : List ℤ → List ℤ → Bool
+sizesOk base check = eqb (length base) (length check) && (leb 2 (length base) && leb (length base) slotLimit)
+
+-- "BASE[0] is 1 and CHECK[0] is n. CHECK[1] is −1 and BASE[1] is the number of rows", "with n 1..5 and 3..65,535 rows"
+unfoldable pub headOk : List ℤ → List ℤ → Bool
+headOk base check =
+    eqZ (baseAt base check 0) (pos 1)
+    && (between (pos 1) (pos orderLimit) (checkAt base check 0)
+    && (eqZ (checkAt base check 1) (negsuc 0) && between (pos 3) (pos rowLimit) (baseAt base check 1)))
+
+-- what 11 asks of the two slices
+abbrev pub isArray : List ℤ → List ℤ → Bool
+isArray base check = sizesOk base check && headOk base check
+
+unfoldable pub orderIn : List ℤ → ℕ
+orderIn check = natAbs (getD check 0 freeCheck)
+
+-- what the array has for words, newest first: what the walk from the root comes to, but nothing for the empty sequence, as the root is no row
+abbrev pub lookRow : List ℤ → List ℤ → List ℕ → Look
+lookRow base check [] = absent
+lookRow base check (w ∷ ws) = lookFrom base check 0 (w ∷ ws)
+
+-- the array as a store
+unfoldable pub storeIn : List ℤ → List ℤ → Store
+storeIn base check = record { order = orderIn check; look = lookRow base check }
+
+-- the array that start, run, lookup and unload are lent: none where 11 refuses it
+unfoldable pub opened : List ℤ → List ℤ → Option Store
+opened base check = cond (isArray base check) (some (storeIn base check)) none

@@ -1,0 +1,187 @@
+// The double array of document 01, lent as two slices of which nothing is known: markers, children, the walk, and lookup.
+ghost use mathlib.Core.Path.{_≡_};
+ghost use mathlib.Core.Bool.{true};
+ghost use mathlib.Core.List.{reverse};
+ghost use Prim.Native.Nat.{ℕ, _≤_, _<_};
+ghost use lib.ListN.{length};
+ghost use Rattle.backoff.specs.Limits.{slotLimit};
+ghost use Rattle.backoff.specs.Model.{inProbability, inBackoff};
+ghost use Rattle.double_array.specs.DoubleArray.{markerCheck, markerBase, markerOf, markerAt, childAt, lookFrom, sizesOk, headOk, isArray};
+ghost use Rattle.double_array.specs.Lookup.{lookupOf, lookupOutcome, LookupMeans};
+
+// CHECK of a free slot; its BASE is 0.
+pub const FREE: i32 = -2147483648;
+
+// What a marker says. The paper's "sound" marker holds a p and a b in range; `f` is set where some row is this row followed by one more word.
+pub enum Marker {
+    Sound { p: i32, b: i32, f: bool },
+    Broken,
+}
+
+// The slot of a child.
+pub enum Child {
+    At(usize),
+    Nothing,
+}
+
+// The answer of a lookup.
+pub enum Lookup {
+    Found { p: i32, b: i32 },
+    NotFound,
+    Refused { number: u32, place: u32 },
+}
+
+// CHECK of the marker of a row with this p.
+pub fn marker_check(p: i32) -> i32
+    requires { ⌜ inProbability p ≡ true ⌝ }
+    ensures { λ r. ⌜ r ≡ markerCheck p ⌝ }
+{
+    p - 1
+}
+
+// BASE of the marker of a row with this b and f.
+pub fn marker_base(b: i32, f: bool) -> i32
+    requires { ⌜ inBackoff b ≡ true ⌝ }
+    ensures { λ r. ⌜ r ≡ markerBase b f ⌝ }
+{
+    2 * b + (f as i32)
+}
+
+// What a marker's CHECK and BASE say.
+fn marker_of(check: i32, base: i32) -> Marker
+    ensures { λ r. ⌜ r ≡ markerOf check base ⌝ }
+{
+    if 0 <= check {
+        return Marker::Broken;
+    }
+    let p = check + 1;
+    let b = base >> 1;
+    if (backoff::LEAST_PROBABILITY <= p)
+        & (backoff::LEAST_BACKOFF <= b)
+        & (b <= backoff::LARGEST_BACKOFF)
+    {
+        return Marker::Sound {
+            p,
+            b,
+            f: base & 1 == 1,
+        };
+    }
+    Marker::Broken
+}
+
+// The marker of the node in slot s.
+pub fn read_marker(base: &[i32], check: &[i32], s: usize) -> Marker
+    requires { ⌜ length (now base) ≡ length (now check) ⌝ }
+    requires { ⌜ s < length (now base) ⌝ }
+    ensures { λ r. ⌜ r ≡ markerAt (now (base .entry)) (now (check .entry)) s ⌝ }
+{
+    let d = base[s];
+    if d < 1 {
+        return Marker::Broken;
+    }
+    let t = d as usize;
+    if check.len() <= t {
+        return Marker::Broken;
+    }
+    marker_of(check[t], base[t])
+}
+
+// The child for word w of the node in slot s.
+pub fn find_child(base: &[i32], check: &[i32], s: usize, w: u32) -> Child
+    requires { ⌜ s < length (now base) ⌝ }
+    requires { ⌜ length (now base) ≤ slotLimit ⌝ }
+    ensures child { λ r. ⌜ r ≡ childAt (now (base .entry)) (now (check .entry)) s w ⌝ }
+    ensures inside { λ r. ⌜ ((t : ℕ) → r ≡ Child.At t → t < length (now (check .entry))) ⌝ }
+{
+    let d = base[s];
+    if !((1 <= w) & (w <= backoff::WORD_LIMIT as u32) & (1 <= d)) {
+        return Child::Nothing;
+    }
+    let t = d as usize + w as usize;
+    if t < check.len() && check[t] == s as i32 {
+        return Child::At(t);
+    }
+    Child::Nothing
+}
+
+// Whether BASE and CHECK have lengths that an array can have.
+pub fn sizes_ok(base: &[i32], check: &[i32]) -> bool
+    ensures { λ r. ⌜ r ≡ sizesOk (now (base .entry)) (now (check .entry)) ⌝ }
+{
+    let n = base.len();
+    (n == check.len()) & (2 <= n) & (n <= backoff::SLOT_LIMIT)
+}
+
+// Whether slots 0 and 1 are as a build writes them.
+fn head_ok(base: &[i32], check: &[i32]) -> bool
+    requires { ⌜ 2 ≤ length (now base) ⌝ }
+    requires { ⌜ 2 ≤ length (now check) ⌝ }
+    ensures { λ r. ⌜ r ≡ headOk (now (base .entry)) (now (check .entry)) ⌝ }
+{
+    let order = check[0];
+    let rows = base[1];
+    (base[0] == 1)
+        & (1 <= order)
+        & (order <= backoff::ORDER_LIMIT)
+        & (check[1] == -1)
+        & (3 <= rows)
+        & (rows <= backoff::ROW_LIMIT as i32)
+}
+
+// Whether the slices have the lengths and the head of an array, so that 11 does not refuse them.
+pub fn is_array(base: &[i32], check: &[i32]) -> bool
+    ensures { λ r. ⌜ r ≡ isArray (now (base .entry)) (now (check .entry)) ⌝ }
+{
+    sizes_ok(base, check) && head_ok(base, check)
+}
+
+// The answer of the walk from the root over the words, newest first. The root's marker is sound in every array.
+fn walk(base: &[i32], check: &[i32], words: &[u32]) -> Lookup
+    requires { ⌜ isArray (now base) (now check) ≡ true ⌝ }
+    requires { ⌜ 1 ≤ length (now words) ⌝ }
+    ensures { λ r. ⌜ r ≡ lookupOf (lookFrom (now (base .entry)) (now (check .entry)) 0 (reverse (now (words .entry)))) ⌝ }
+{
+    let mut s = 0;
+    let mut left = words.len();
+    loop {
+        left -= 1;
+        let Child::At(t) = find_child(base, check, s, words[left]) else {
+            return Lookup::NotFound;
+        };
+        let Marker::Sound { p, b, f: _ } = read_marker(base, check, t) else {
+            return Lookup::Refused {
+                number: backoff::BROKEN_NODE,
+                place: 0,
+            };
+        };
+        if left == 0 {
+            return Lookup::Found { p, b };
+        }
+        s = t;
+    }
+}
+
+// The paper's lookup: the p and b of the row that the words are, oldest first.
+pub fn look_up(base: &[i32], check: &[i32], words: &[u32]) -> Lookup
+    ensures outcome { λ r. ⌜ r ≡ lookupOutcome (now (base .entry)) (now (check .entry)) (now (words .entry)) ⌝ }
+    ensures meaning { λ r. ⌜ LookupMeans (now (base .entry)) (now (check .entry)) (now (words .entry)) r ⌝ }
+{
+    if !is_array(base, check) {
+        return Lookup::Refused {
+            number: backoff::ARRAY_HEAD,
+            place: 0,
+        };
+    }
+    let count = words.len();
+    if count < 1 || (backoff::ORDER_LIMIT as usize) < count {
+        return Lookup::Refused {
+            number: backoff::WORD_COUNT,
+            place: 0,
+        };
+    }
+    let order = check[0];
+    if (order as usize) < count {
+        return Lookup::NotFound;
+    }
+    walk(base, check, words)
+}

@@ -1,0 +1,21 @@
+-- The answers that cross to C, as numbers. Assumes nothing.
+use mathlib.Core.Path.{_≡_}
+use Rattle.backoff.specs.Refusal.{numberOf, placeOf}
+use Rattle.backoff.specs.declared.Verdict.{Verdict}
+use Rattle.double_array.specs.Lookup as lookup
+use Rattle.double_array.specs.declared.Lookup.{Lookup}
+use Rattle.grader.specs.declared.Status.{Status}
+use Rattle.grader.specs.declared.Found.{Found}
+
+-- a verdict as its number and place
+pub record StatusIs (v : Verdict) (r : Status) : Type 0 where
+  pub number : r .number ≡ numberOf v
+  pub place : r .place ≡ placeOf v
+
+-- a lookup's answer; a refused one, and one that found nothing, have two zeros
+pub record FoundIs (l : Lookup) (r : Found) : Type 0 where
+  pub number : r .number ≡ lookup.numberOf l
+  pub place : r .place ≡ lookup.placeOf l
+  pub found : r .found ≡ lookup.foundOf l
+  pub p : r .p ≡ lookup.pOf l
+  pub b : r .b ≡ lookup.bOf l

@@ -1,0 +1,2 @@
+-- The answers that cross to C.
+pub mod Exports

@@ -1,0 +1,138 @@
+-- Laws of the first fit: what it finds is free, at least 1, the smallest such and the only one. Assumes nothing.
+use mathlib.Core.Path.{_≡_, refl, sym, _∙_, subst}
+use mathlib.Core.Bool.{Bool, true, false, false≢true}
+use mathlib.Core.List.{List, [], _∷_, List·Memᴰ, List·Memᴰ·head, List·Memᴰ·tail}
+use Prim.Native.Nat.{ℕ, zero, suc, _+_, _≤_, _<_}
+use native.Mathlib.Omega.{arith}
+use native.Mathlib.Decide.{ℕ-discrete, decLt}
+use lib.IntN.{ℤ}
+use Rattle.integer.proofs.Arithmetic.{zarith}
+use Rattle.integer.proofs.Ranges.{and-left, and-right, and-both}
+use Rattle.double_array.specs.DoubleArray.{freeCheck, childSlot}
+use Rattle.placing.specs.Placing.{Room, isFree, allFree, fits, search, firstFit}
+
+pub isFree-true : (z : ℤ) → isFree z ≡ true → z ≡ freeCheck
+unfolding isFree
+isFree-true z e = omega zarith
+
+pub isFree-yes : (z : ℤ) → z ≡ freeCheck → isFree z ≡ true
+unfolding isFree
+isFree-yes z e = rw e
+
+-- ---- the search, for any test
+
+module _ (test : ℕ → Bool) where
+  search-from : (more d : ℕ) (b : Bool) → d ≤ search test more d b
+  unfolding search
+  search-from zero d b = omega arith
+  search-from (suc more) d true = omega arith
+  search-from (suc more) d false = omega (arith, search-from more (suc d) (test (suc d)))
+
+  search-passes : (more d : ℕ) (b : Bool) → test d ≡ b → test (d + more) ≡ true → test (search test more d b) ≡ true
+  unfolding search
+  search-passes zero d b e h = subst (λ (k : ℕ). test k ≡ true) (omega arith) h
+  search-passes (suc more) d true e h = e
+  search-passes (suc more) d false e h =
+      search-passes more (suc d) (test (suc d)) refl (subst (λ (k : ℕ). test k ≡ true) (omega arith) h)
+
+  search-first : (more d : ℕ) (b : Bool) → test d ≡ b → (e : ℕ) → d ≤ e → e < search test more d b → test e ≡ false
+  unfolding search
+  search-first zero d b q e h k = absurd (omega arith)
+  search-first (suc more) d true q e h k = absurd (omega arith)
+  search-first (suc more) d false q e h k =
+      go (λ (l : suc d ≤ e). search-first more (suc d) (test (suc d)) refl e l k) (ℕ-discrete d e)
+    where
+      go : (suc d ≤ e → test e ≡ false) → Dec (d ≡ e) → test e ≡ false
+      go rec (yes p) = subst (λ (x : ℕ). test x ≡ false) p q
+      go rec (no ne) = rec (omega arith)
+
+-- ---- the test of the placing rule
+
+module _ (c : Room) (ws : List ℕ) where
+  all-free : (vs : List ℕ) (d : ℕ) → ((w : ℕ) → List·Memᴰ w vs → isFree (c (childSlot d w)) ≡ true) → allFree c d vs ≡ true
+  unfolding allFree
+  all-free [] d h = refl
+  all-free (v ∷ vs) d h =
+      and-both (isFree (c (childSlot d v))) (allFree c d vs) (h v (List·Memᴰ·head refl)) (all-free vs d (λ w m. h w (List·Memᴰ·tail m)))
+
+  all-free-at : (vs : List ℕ) (d : ℕ) → allFree c d vs ≡ true → (w : ℕ) → List·Memᴰ w vs → isFree (c (childSlot d w)) ≡ true
+  unfolding allFree
+  all-free-at (v ∷ vs) d h w (List·Memᴰ·head e) = rw e (and-left (isFree (c (childSlot d v))) (allFree c d vs) h)
+  all-free-at (v ∷ vs) d h w (List·Memᴰ·tail m) = all-free-at vs d (and-right (isFree (c (childSlot d v))) (allFree c d vs) h) w m
+
+  -- the tests that a search makes of d
+  pub fits-yes : (d : ℕ) → isFree (c d) ≡ true → ((w : ℕ) → List·Memᴰ w ws → isFree (c (childSlot d w)) ≡ true) → fits c ws d ≡ true
+  unfolding fits
+  fits-yes d e h = and-both (isFree (c d)) (allFree c d ws) e (all-free ws d h)
+
+  pub fits-child : (d : ℕ) → fits c ws d ≡ true → (w : ℕ) → List·Memᴰ w ws → isFree (c (childSlot d w)) ≡ true
+  unfolding fits
+  fits-child d e = all-free-at ws d (and-right (isFree (c d)) (allFree c d ws) e)
+
+  pub d-taken : (d : ℕ) → isFree (c d) ≡ false → fits c ws d ≡ false
+  unfolding fits
+  d-taken d e = rw e
+
+  pub child-taken : (d w : ℕ) → List·Memᴰ w ws → isFree (c (childSlot d w)) ≡ false → fits c ws d ≡ false
+  child-taken d w m e = go (fits c ws d) refl
+    where
+      go : (b : Bool) → fits c ws d ≡ b → b ≡ false
+      go true q = absurd (false≢true (sym e ∙ fits-child d q w m))
+      go false q = refl
+
+  pub past-top : (top d : ℕ) → ((t : ℕ) → top ≤ t → c t ≡ freeCheck) → top ≤ d → fits c ws d ≡ true
+  past-top top d h k = fits-yes d (isFree-yes (c d) (h d k)) (λ w m. isFree-yes (c (childSlot d w)) (h (childSlot d w) (omega arith)))
+
+  -- the laws of the first fit, where all slots from top on are free
+  module _ (top : ℕ) (h : (t : ℕ) → top ≤ t → c t ≡ freeCheck) where
+    pub fit-fits : fits c ws (firstFit c ws top) ≡ true
+    unfolding firstFit
+    fit-fits = search-passes (fits c ws) top 1 (fits c ws 1) refl (past-top top (1 + top) h (omega arith))
+
+    pub fit-positive : 1 ≤ firstFit c ws top
+    unfolding firstFit
+    fit-positive = search-from (fits c ws) top 1 (fits c ws 1)
+
+    pub fit-free : c (firstFit c ws top) ≡ freeCheck
+    unfolding fits
+    fit-free =
+        let d = firstFit c ws top in
+        isFree-true (c d) (and-left (isFree (c d)) (allFree c d ws) fit-fits)
+
+    pub fit-children-free : (w : ℕ) → List·Memᴰ w ws → c (childSlot (firstFit c ws top) w) ≡ freeCheck
+    fit-children-free w m =
+        let d = firstFit c ws top in
+        isFree-true (c (childSlot d w)) (fits-child d fit-fits w m)
+
+    pub fit-least : (e : ℕ) → 1 ≤ e → e < firstFit c ws top → fits c ws e ≡ false
+    unfolding firstFit
+    fit-least = search-first (fits c ws) top 1 (fits c ws 1) refl
+
+    -- what a search in code has to show of its d
+    pub fit-only : (d : ℕ) → 1 ≤ d → fits c ws d ≡ true → ((e : ℕ) → 1 ≤ e → e < d → fits c ws e ≡ false) → d ≡ firstFit c ws top
+    fit-only d p q l = go (decLt d (firstFit c ws top)) (decLt (firstFit c ws top) d)
+      where
+        go : Dec (d < firstFit c ws top) → Dec (firstFit c ws top < d) → d ≡ firstFit c ws top
+        go (yes a) b = absurd (false≢true (sym (fit-least d p a) ∙ q))
+        go (no a) (yes b) = absurd (false≢true (sym (l (firstFit c ws top) fit-positive b) ∙ fit-fits))
+        go (no a) (no b) = omega arith
+
+    -- the same of a search that begins at `front`, where the slots before it are taken
+    module _ (front : ℕ) (p : 1 ≤ front) (full : (t : ℕ) → 1 ≤ t → t < front → isFree (c t) ≡ false) where
+      pub fit-only-from : (d : ℕ) → front ≤ d → fits c ws d ≡ true → ((e : ℕ) → front ≤ e → e < d → fits c ws e ≡ false) → d ≡ firstFit c ws top
+      fit-only-from d k q l = fit-only d (omega arith) q (λ e a b. go e a b (decLt e front))
+        where
+          go : (e : ℕ) → 1 ≤ e → e < d → Dec (e < front) → fits c ws e ≡ false
+          go e a b (yes r) = d-taken e (full e a r)
+          go e a b (no r) = l e (omega arith) b
+
+      pub fit-from : (more : ℕ) → top ≤ front + more → search (fits c ws) more front (fits c ws front) ≡ firstFit c ws top
+      fit-from more k =
+          let here = fits c ws front in
+          fit-only-from (search (fits c ws) more front here) (search-from (fits c ws) more front here)
+          (search-passes (fits c ws) more front here refl (past-top top (front + more) h k))
+          (search-first (fits c ws) more front here refl)
+
+  -- how far past the last used slot `top` is does not matter
+  pub fit-any-top : (a b : ℕ) → ((t : ℕ) → a ≤ t → c t ≡ freeCheck) → ((t : ℕ) → b ≤ t → c t ≡ freeCheck) → firstFit c ws a ≡ firstFit c ws b
+  fit-any-top a b f g = fit-only b g (firstFit c ws a) (fit-positive a f) (fit-fits a f) (fit-least a f)

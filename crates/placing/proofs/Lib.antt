@@ -1,0 +1,10 @@
+-- The laws of the placing rule.
+pub mod Members
+pub mod Trie
+pub mod FirstFit
+pub mod Rooms
+pub mod Placing
+pub mod NodeByNode
+pub mod Slots
+pub mod Walk
+pub mod Sample

@@ -1,0 +1,58 @@
+-- Laws of what a node writes in the room: one slot, the children's slots, and how far it reaches. Assumes nothing.
+use mathlib.Core.Path.{_≡_, refl, ap, _∙_}
+use mathlib.Core.Logic.{_≢_}
+use mathlib.Core.List.{List, [], _∷_, List·Memᴰ, List·Memᴰ·head, List·Memᴰ·tail, List·Memᴰ·not-nil}
+use Prim.Native.Nat.{ℕ, _≤_, _<_}
+use native.Mathlib.Omega.{arith}
+use native.Mathlib.Decide.{ℕ-discrete}
+use borrow.Author.Tests.{eq-eqb, ne-eqb}
+use lib.IntN.{ℤ, pos}
+use Rattle.double_array.specs.DoubleArray.{childSlot}
+use Rattle.placing.specs.Placing.{Room, update, own, reach}
+
+module _ (f : Room) (i : ℕ) (v : ℤ) where
+  pub update-same : (t : ℕ) → t ≡ i → update f i v t ≡ v
+  unfolding update
+  update-same t e = rw (eq-eqb t i e)
+
+  pub update-other : (t : ℕ) → t ≢ i → update f i v t ≡ f t
+  unfolding update
+  update-other t h = rw (ne-eqb t i h)
+
+-- what CHECK holds in slot t once the children ws belong to the node in slot s: as before, and t is no child's, or s, and t is a child's
+pub data Owned (d s : ℕ) (ws : List ℕ) (t : ℕ) (old new : ℤ) : Type 0 where
+  kept : new ≡ old → ((w : ℕ) → List·Memᴰ w ws → t ≢ childSlot d w) → Owned d s ws t old new
+  given : (w : ℕ) → List·Memᴰ w ws → t ≡ childSlot d w → new ≡ pos s → Owned d s ws t old new
+
+pub own-cases : (d s : ℕ) (ws : List ℕ) (c : Room) (t : ℕ) → Owned d s ws t (c t) (own d s ws c t)
+unfolding own
+own-cases d s [] c t = kept refl (λ w h. absurd (List·Memᴰ·not-nil h))
+own-cases d s (x ∷ ws) c t = go (ℕ-discrete t (childSlot d x)) (own-cases d s ws (update c (childSlot d x) (pos s)) t)
+  where
+    c′ : Room
+    c′ = update c (childSlot d x) (pos s)
+
+    no-child : t ≢ childSlot d x → ((w : ℕ) → List·Memᴰ w ws → t ≢ childSlot d w) → (w : ℕ) → List·Memᴰ w (x ∷ ws) → t ≢ childSlot d w
+    no-child ne h w (List·Memᴰ·head e) = λ q. ne (q ∙ ap (childSlot d) e)
+    no-child ne h w (List·Memᴰ·tail m) = h w m
+
+    go : Dec (t ≡ childSlot d x) → Owned d s ws t (c′ t) (own d s ws c′ t) → Owned d s (x ∷ ws) t (c t) (own d s ws c′ t)
+    go (yes e) (kept q h) = given x (List·Memᴰ·head refl) e (q ∙ update-same c (childSlot d x) (pos s) t e)
+    go (no e) (kept q h) = kept (q ∙ update-other c (childSlot d x) (pos s) t e) (no-child e h)
+    go (yes e) (given w m p q) = given w (List·Memᴰ·tail m) p q
+    go (no e) (given w m p q) = given w (List·Memᴰ·tail m) p q
+
+pub reach-top : (top d : ℕ) (ws : List ℕ) → (top ≤ reach top d ws) × (d < reach top d ws)
+unfolding reach
+reach-top top d [] = omega arith
+reach-top top d (w ∷ ws) = let h = reach-top top d ws in omega arith
+
+pub reach-child : (top d : ℕ) (ws : List ℕ) (w : ℕ) → List·Memᴰ w ws → childSlot d w < reach top d ws
+unfolding reach
+reach-child top d (x ∷ ws) w (List·Memᴰ·head e) = omega arith
+reach-child top d (x ∷ ws) w (List·Memᴰ·tail m) = omega (arith, reach-child top d ws w m)
+
+pub reach-within : (top d : ℕ) (ws : List ℕ) (N : ℕ) → top ≤ N → d < N → ((w : ℕ) → List·Memᴰ w ws → childSlot d w < N) → reach top d ws ≤ N
+unfolding reach
+reach-within top d [] N t h f = omega arith
+reach-within top d (w ∷ ws) N t h f = omega (arith, f w (List·Memᴰ·head refl), reach-within top d ws N t h (λ v m. f v (List·Memᴰ·tail m)))

@@ -1,0 +1,118 @@
+-- The sample's trie and the array that the rule places for it, computed. Assumes nothing.
+use mathlib.Core.Path.{_≡_, refl, sym, ap, _∙_}
+use mathlib.Core.Logic.{_≢_}
+use mathlib.Core.Bool.{Bool, true, false, not, _&&_, false≢true}
+use mathlib.Core.List.{List, [], _∷_, map}
+use Prim.Native.Nat.{ℕ, zero, suc, _<_}
+use native.Mathlib.Omega.{arith}
+use native.Mathlib.Decide.{ℕ-discrete}
+use borrow.Author.Tests.{ltb-true}
+use lib.Dec.{ltb}
+use lib.IntN.{pos, negsuc, negℤ}
+use lib.ListN.{length, getD}
+use Rattle.integer.proofs.Ranges.{and-left, and-right}
+use Rattle.backoff.specs.Words.{sameWords, isWord, areWords}
+use Rattle.double_array.specs.DoubleArray.{markerBase}
+use Rattle.placing.specs.Trie.{Node, children, nodeAt, HasParent, Ready}
+use Rattle.placing.specs.Placing.{Placed, isFree, update, allFree, fits, search, firstFit, own, reach, give, settle, place, placeAll, unplaced, placing, slots}
+use Rattle.backoff.proofs.Words.{same-eq, same-refl}
+
+-- a row's node, from its words, −p, −b and f
+abbrev row : List ℕ → ℕ → ℕ → Bool → Node
+row ws cost fall f = record { words = ws; cost = cost; load = markerBase (negℤ (pos fall)) f }
+
+abbrev pub sampleNodes : List Node
+sampleNodes =
+    record { words = []; cost = 0; load = pos 9 }
+    ∷ row (1 ∷ []) 20000 0 false
+    ∷ row (2 ∷ []) 990000 3000 true
+    ∷ row (3 ∷ []) 10000 0 false
+    ∷ row (4 ∷ []) 6000 2000 true
+    ∷ row (5 ∷ []) 9000 1000 true
+    ∷ row (5 ∷ 3 ∷ []) 1500 0 false
+    ∷ row (2 ∷ 4 ∷ []) 4000 500 true
+    ∷ row (4 ∷ 5 ∷ []) 3000 0 false
+    ∷ row (2 ∷ 4 ∷ 5 ∷ []) 1000 0 false
+    ∷ []
+
+samplePlaced : Placed
+unfolding sameWords children isFree update allFree fits search firstFit own reach give settle place placeAll unplaced placing slots
+samplePlaced = placing 3 sampleNodes
+
+-- so N = 20 is enough, and N = 19 is not
+sample-top : placing 3 sampleNodes .top ≡ 20
+unfolding samplePlaced
+sample-top = refl
+
+sample-base : slots 20 (placing 3 sampleNodes .base)
+    ≡ pos 1 ∷ pos 9 ∷ pos 7 ∷ pos 8 ∷ pos 9 ∷ pos 10 ∷ pos 11 ∷ pos 0 ∷ negsuc 5998 ∷ pos 0 ∷ negsuc 3998 ∷ negsuc 1998 ∷ pos 16 ∷ pos 0 ∷ pos 13 ∷ pos 17 ∷ negsuc 998 ∷ pos 0 ∷ pos 0 ∷ pos 18 ∷ []
+unfolding samplePlaced
+sample-base = refl
+
+sample-check : slots 20 (placing 3 sampleNodes .check)
+    ≡ pos 3 ∷ negsuc 0 ∷ pos 0 ∷ pos 0 ∷ pos 0 ∷ pos 0 ∷ pos 0 ∷ negsuc 20000 ∷ negsuc 990000 ∷ negsuc 10000 ∷ negsuc 6000 ∷ negsuc 9000 ∷ pos 5 ∷ negsuc 1500 ∷ pos 4 ∷ pos 6 ∷ negsuc 4000 ∷ negsuc 3000 ∷ negsuc 1000 ∷ pos 15 ∷ []
+unfolding samplePlaced
+sample-check = refl
+
+-- the root's slot, then those of the rows
+sample-slots : map (λ m. placing 3 sampleNodes .slot (m .words)) sampleNodes ≡ 0 ∷ 2 ∷ 3 ∷ 4 ∷ 5 ∷ 6 ∷ 14 ∷ 12 ∷ 15 ∷ 19 ∷ []
+unfolding samplePlaced
+sample-slots = refl
+
+-- A d is passed over for a child's sake, which the sample has no case of: slot 3 is free, and slot 3 + 3 is taken by the root's child 5.
+passed-over : placing 2 (row [] 0 0 false ∷ row (1 ∷ []) 0 0 false ∷ row (5 ∷ []) 0 0 false ∷ row (3 ∷ 1 ∷ []) 0 0 false ∷ []) .base 2 ≡ pos 4
+unfolding samplePlaced
+passed-over = refl
+
+-- ---- `Ready` asks nothing that the sample has not
+
+allBelow : (ℕ → Bool) → ℕ → Bool
+allBelow test zero = true
+allBelow test (suc n) = test n && allBelow test n
+
+all-below : (test : ℕ → Bool) (n : ℕ) → allBelow test n ≡ true → (i : ℕ) → i < n → test i ≡ true
+unfolding allBelow
+all-below test zero e i h = absurd (omega arith)
+all-below test (suc n) e i h = go (all-below test n (and-right (test n) (allBelow test n) e) i) (ℕ-discrete i n)
+  where
+    go : (i < n → test i ≡ true) → Dec (i ≡ n) → test i ≡ true
+    go rec (yes q) = rw q (and-left (test n) (allBelow test n) e)
+    go rec (no q) = rec (omega arith)
+
+abbrev words : ℕ → List ℕ
+words i = nodeAt sampleNodes i .words
+
+-- of each row, its word in front and its parent's number
+abbrev word : ℕ → ℕ
+word i = getD (1 ∷ 2 ∷ 3 ∷ 4 ∷ 5 ∷ 5 ∷ 2 ∷ 4 ∷ 2 ∷ []) i 0
+
+abbrev parent : ℕ → ℕ
+parent i = getD (0 ∷ 0 ∷ 0 ∷ 0 ∷ 0 ∷ 3 ∷ 4 ∷ 5 ∷ 8 ∷ []) i 0
+
+sample-parent : (i : ℕ) → 0 < i → i < length sampleNodes → HasParent sampleNodes i
+unfolding allBelow sameWords
+sample-parent zero p h = absurd (omega arith)
+sample-parent (suc i) p h = record {
+  word = word i;
+  parent = parent i;
+  earlier = ltb-true (parent i) (suc i) (all-below (λ k. ltb (parent k) (suc k)) 9 refl i (omega arith));
+  words = same-eq (words (suc i)) (word i ∷ words (parent i)) (all-below (λ k. sameWords (words (suc k)) (word k ∷ words (parent k))) 9 refl i (omega arith));
+}
+
+sample-distinct : (i j : ℕ) → i < j → j < length sampleNodes → words i ≢ words j
+unfolding allBelow sameWords
+sample-distinct i j l h e =
+    let apart : ℕ → ℕ → Bool = λ j i. not (sameWords (words i) (words j)) in
+    let t : not (sameWords (words i) (words j)) ≡ true = all-below (apart j) j (all-below (λ j. allBelow (apart j) j) 10 refl j h) i l in
+    false≢true (ap not (sym (same-refl (words j))) ∙ ap (λ (us : List ℕ). not (sameWords us (words j))) (sym e) ∙ t)
+
+sample-ready : Ready sampleNodes
+unfolding allBelow areWords isWord
+sample-ready = record {
+  nonempty = omega arith;
+  root = refl;
+  parents = sample-parent;
+  distinct = sample-distinct;
+  in-words = all-below (λ i. areWords (words i)) 10 refl;
+  costs = λ i h. ltb-true (nodeAt sampleNodes i .cost) 2147483647 (all-below (λ i. ltb (nodeAt sampleNodes i .cost) 2147483647) 10 refl i h);
+}

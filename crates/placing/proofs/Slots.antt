@@ -1,0 +1,76 @@
+-- A room's first slots as a list, and what stores on the list are in the room. Assumes nothing.
+use mathlib.Core.Path.{_≡_, refl, sym, ap, _∙_, fun-ext}
+use mathlib.Core.List.{List, [], _∷_, _++_}
+use Prim.Native.Nat.{ℕ, zero, suc, _≤_, _<_}
+use native.Mathlib.Omega.{arith}
+use native.Mathlib.Decide.{ℕ-discrete, decLt}
+use lib.IntN.{ℤ, pos, negsuc}
+use lib.ListN.{length, getD, set, length-set, List·getD-eq-default}
+use lib.Seq.{ext-getD, getD-set-same, getD-set-other}
+use Rattle.double_array.specs.DoubleArray.{freeCheck, childSlot}
+use Rattle.placing.specs.Trie.{Node}
+use Rattle.placing.specs.Placing.{Room, Placed, roomOf, slots, update, own, ownIn, settle}
+use Rattle.placing.proofs.Rooms.{update-same, update-other}
+
+pub length-slots : (n : ℕ) (f : Room) → length (slots n f) ≡ n
+unfolding slots
+length-slots zero f = refl
+length-slots (suc n) f = ap suc (length-slots n (λ t. f (suc t)))
+
+pub getD-slots : (n : ℕ) (f : Room) (t : ℕ) (x : ℤ) → t < n → getD (slots n f) t x ≡ f t
+unfolding slots
+getD-slots zero f t x h = absurd (omega arith)
+getD-slots (suc n) f zero x h = refl
+getD-slots (suc n) f (suc t) x h = getD-slots n (λ t. f (suc t)) t x (omega arith)
+
+-- a store past the end changes neither side
+pub set-slots : (n : ℕ) (f : Room) (i : ℕ) (v : ℤ) → set (slots n f) i v ≡ slots n (update f i v)
+set-slots n f i v =
+    ext-getD (pos 0) (set (slots n f) i v) (slots n (update f i v)) (length-set (slots n f) i v ∙ length-slots n f ∙ sym (length-slots n (update f i v)))
+    (λ t l. at t (omega (arith, length-set (slots n f) i v, length-slots n f)) (ℕ-discrete t i))
+  where
+    at : (t : ℕ) → t < n → Dec (t ≡ i) → getD (set (slots n f) i v) t (pos 0) ≡ getD (slots n (update f i v)) t (pos 0)
+    at t l (yes e) =
+        ap (λ (k : ℕ). getD (set (slots n f) i v) k (pos 0)) e
+        ∙ getD-set-same (slots n f) i v (pos 0) (omega (arith, length-slots n f))
+        ∙ sym (getD-slots n (update f i v) t (pos 0) l ∙ update-same f i v t e)
+    at t l (no e) =
+        getD-set-other (slots n f) i t v (pos 0) e ∙ getD-slots n f t (pos 0) l
+        ∙ sym (getD-slots n (update f i v) t (pos 0) l ∙ update-other f i v t e)
+
+-- a list that reaches as far as the room is used, read with its end counting as free, is the room
+pub roomOf-slots : (n top : ℕ) (c : Room) → ((t : ℕ) → top ≤ t → c t ≡ freeCheck) → top ≤ n → roomOf (slots n c) ≡ c
+roomOf-slots n top c past l = fun-ext (λ t. go t (decLt t n))
+  where
+    go : (t : ℕ) → Dec (t < n) → getD (slots n c) t freeCheck ≡ c t
+    go t (yes h) = getD-slots n c t freeCheck h
+    go t (no h) = List·getD-eq-default (slots n c) freeCheck (omega (arith, length-slots n c)) ∙ sym (past t (omega arith))
+
+-- ---- the children's slots
+
+pub ownIn-slots : (n d s : ℕ) (ws : List ℕ) (c : Room) → ownIn d s ws (slots n c) ≡ slots n (own d s ws c)
+unfolding ownIn own
+ownIn-slots n d s [] c = refl
+ownIn-slots n d s (w ∷ ws) c = ap (ownIn d s ws) (set-slots n c (childSlot d w) (pos s)) ∙ ownIn-slots n d s ws (update c (childSlot d w) (pos s))
+
+pub length-ownIn : (d s : ℕ) (ws : List ℕ) (check : List ℤ) → length (ownIn d s ws check) ≡ length check
+unfolding ownIn
+length-ownIn d s [] check = refl
+length-ownIn d s (w ∷ ws) check = length-ownIn d s ws (set check (childSlot d w) (pos s)) ∙ length-set check (childSlot d w) (pos s)
+
+-- one child more, as a loop over the children writes it
+pub ownIn-snoc : (d s : ℕ) (ws : List ℕ) (w : ℕ) (check : List ℤ) → ownIn d s (ws ++ (w ∷ [])) check ≡ set (ownIn d s ws check) (childSlot d w) (pos s)
+unfolding ownIn
+ownIn-snoc d s [] w check = refl
+ownIn-snoc d s (v ∷ ws) w check = ownIn-snoc d s ws w (set check (childSlot d v) (pos s))
+
+-- ---- one node's stores
+
+module _ (N : ℕ) (n : Node) (ws : List ℕ) (d : ℕ) (P : Placed) where
+  pub settle-base : set (set (slots N (P .base)) d (n .load)) (P .slot (n .words)) (pos d) ≡ slots N (settle n ws d P .base)
+  unfolding settle
+  settle-base = rw (set-slots N (P .base) d (n .load)) (set-slots N (update (P .base) d (n .load)) (P .slot (n .words)) (pos d))
+
+  pub settle-check : set (ownIn d (P .slot (n .words)) ws (slots N (P .check))) d (negsuc (n .cost)) ≡ slots N (settle n ws d P .check)
+  unfolding settle
+  settle-check = rw (ownIn-slots N d (P .slot (n .words)) ws (P .check)) (set-slots N (own d (P .slot (n .words)) ws (P .check)) d (negsuc (n .cost)))

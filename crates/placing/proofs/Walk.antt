@@ -1,0 +1,175 @@
+-- What a correct layout of a trie is, told by what a walk can see of it; that it suffices for walking; and that the placing rule's array is one.
+-- Assumes nothing.
+use mathlib.Core.Path.{_≡_, refl, sym, ap₂, _∙_}
+use mathlib.Core.Logic.{_≢_}
+use mathlib.Core.Bool.{Bool, true, false, cond, _&&_}
+use mathlib.Core.List.{List, [], _∷_, List·Memᴰ, reverse, reverseAux}
+use mathlib.Core.Option.{Option, none, some, Option·none-ne-some}
+use Prim.Native.Nat.{ℕ, _≤_, _<_}
+use native.Mathlib.Omega.{arith}
+use borrow.Author.Tests.{ltb-true, lt-ltb, le-leb}
+use lib.Dec.{leb, ltb}
+use lib.IntN.{ℤ, pos, negsuc, pos-ne-negsuc}
+use lib.ListN.{length}
+use Rattle.integer.specs.Integer.{eqZ}
+use Rattle.integer.proofs.Arithmetic.{zarith, eqZ-yes}
+use Rattle.integer.proofs.Ranges.{and-left, and-right}
+use Rattle.backoff.specs.Words.{isWord}
+use Rattle.backoff.specs.Store.{Look, absent}
+use Rattle.double_array.specs.declared.Marker.{Marker}
+use Rattle.double_array.specs.declared.Marker.the-variants.{Sound, Broken}
+use Rattle.double_array.specs.declared.Child.{Child}
+use Rattle.double_array.specs.declared.Child.the-variants.{At, Nothing}
+use Rattle.double_array.specs.DoubleArray.{freeCheck, markerOf, childSlot, baseAt, checkAt, markerAt, childAt, lookMarker, past, downTo, lookFrom}
+use Rattle.placing.specs.Trie.{Node, findNode, Ready}
+use Rattle.placing.specs.Placing.{Placed, placing, slots}
+use Rattle.placing.proofs.Trie.{child-found, found-child, found-in, root-found, found-word, absent-below}
+use Rattle.placing.proofs.Placing.{Lies, Inv, marker-used, only-children, below-top, slot-below-top}
+use Rattle.placing.proofs.NodeByNode.{placing-inv}
+use Rattle.placing.proofs.Slots.{length-slots, getD-slots}
+
+-- what a node's marker says, and what a walk that ends at a node, or at none, comes to
+abbrev pub nodeMarker : Node → Marker
+nodeMarker m = markerOf (negsuc (m .cost)) (m .load)
+
+abbrev pub lookNode : Option Node → Look
+lookNode none = absent
+lookNode (some m) = lookMarker (nodeMarker m)
+
+-- a child in slot t, where there is a node for it
+abbrev pub childIf : Option Node → ℕ → Child
+childIf none t = Nothing
+childIf (some m) t = At t
+
+-- BASE and CHECK hold the nodes, the node of the words `us` in slot `slot us`
+pub record LaidOut (nodes : List Node) (slot : List ℕ → ℕ) (base check : List ℤ) : Type 0 where
+  pub root : slot [] ≡ 0
+  pub marker : (us : List ℕ) (m : Node) → findNode nodes us ≡ some m → markerAt base check (slot us) ≡ nodeMarker m
+  pub child : (us : List ℕ) (m : Node) → findNode nodes us ≡ some m → (w : ℕ) → childAt base check (slot us) w ≡ childIf (findNode nodes (w ∷ us)) (slot (w ∷ us))
+
+-- ---- a layout suffices for walking
+
+past-sound : (k : Marker) → k ≢ Broken → (rest : Look) → past k rest ≡ rest
+past-sound (Sound p b f) h rest = refl
+past-sound Broken h rest = absurd (h refl)
+
+module _ {nodes : List Node} {slot : List ℕ → ℕ} {base check : List ℤ} (R : Ready nodes) (L : LaidOut nodes slot base check)
+    (sound : (m : Node) → List·Memᴰ m nodes → nodeMarker m ≢ Broken) where
+  -- the walk from a node
+  pub look-from : (q us : List ℕ) (m : Node) → findNode nodes us ≡ some m → lookFrom base check (slot us) q ≡ lookNode (findNode nodes (reverseAux q us))
+  unfolding lookFrom
+  look-from [] us m e = rw (L .marker us m e, e)
+  look-from (w ∷ q) us m e =
+      rw (L .marker us m e)
+      (past-sound (nodeMarker m) (sound m (found-in nodes us m e .0)) (downTo (childAt base check (slot us) w) (λ (t : ℕ). lookFrom base check t q))
+      ∙ go (λ k h. look-from q (w ∷ us) k h) (findNode nodes (w ∷ us)) refl)
+    where
+      there : Look
+      there = lookNode (findNode nodes (reverseAux q (w ∷ us)))
+
+      go : ((k : Node) → findNode nodes (w ∷ us) ≡ some k → lookFrom base check (slot (w ∷ us)) q ≡ there)
+          → (o : Option Node) → findNode nodes (w ∷ us) ≡ o → downTo (childAt base check (slot us) w) (λ (t : ℕ). lookFrom base check t q) ≡ there
+      go rec none h = rw (L .child us m e w, h, absent-below R q (w ∷ us) h)
+      go rec (some k) h = rw (L .child us m e w, h) (rec k h)
+
+  -- a walk from the root over words, newest first, comes to the node of those words
+  pub look-laid-out : (l : List ℕ) → lookFrom base check 0 l ≡ lookNode (findNode nodes (reverse l))
+  look-laid-out l =
+      let r = root-found R in
+      rw (L .root) at (look-from l [] (r .0) (r .1))
+
+-- ---- what a node's BASE says of its marker and its children
+
+module _ (base check : List ℤ) (s : ℕ) {d : ℕ} (b : baseAt base check s ≡ pos d) (p : 1 ≤ d) where
+  marker-read : d < length check → markerAt base check s ≡ markerOf (checkAt base check d) (baseAt base check d)
+  unfolding markerAt
+  marker-read l = rw (b, le-leb 1 d p, lt-ltb d (length check) l)
+
+  child-there : (w : ℕ) → isWord w ≡ true → childSlot d w < length check → checkAt base check (childSlot d w) ≡ pos s → childAt base check s w ≡ At (childSlot d w)
+  unfolding childAt
+  child-there w e l q = rw (b, e, le-leb 1 d p, lt-ltb (childSlot d w) (length check) l, q, eqZ-yes (pos s) (pos s) refl)
+
+  child-none : (w : ℕ) → (childSlot d w < length check → checkAt base check (childSlot d w) ≡ pos s → ⊥) → childAt base check s w ≡ Nothing
+  unfolding childAt
+  child-none w h = rw b (go (isWord w && (leb 1 d && (inside && owned))) refl)
+    where
+      inside : Bool
+      inside = ltb (childSlot d w) (length check)
+
+      owned : Bool
+      owned = eqZ (checkAt base check (childSlot d w)) (pos s)
+
+      go : (t : Bool) → (isWord w && (leb 1 d && (inside && owned))) ≡ t → cond t (At (childSlot d w)) Nothing ≡ Nothing
+      go true e =
+          let i = and-right (leb 1 d) (inside && owned) (and-right (isWord w) (leb 1 d && (inside && owned)) e) in
+          let o : owned ≡ true = and-right inside owned i in
+          absurd (h (ltb-true (childSlot d w) (length check) (and-left inside owned i)) (omega zarith))
+      go false e = refl
+
+-- ---- the placing rule's array
+
+module _ {order : ℕ} {nodes : List Node} {P : Placed} (R : Ready nodes) (I : Inv order nodes nodes P) {N : ℕ} (room : P .top ≤ N) where
+  abbrev B : List ℤ
+  B = slots N (P .base)
+
+  abbrev C : List ℤ
+  C = slots N (P .check)
+
+  check-read : (t : ℕ) → P .check t ≢ freeCheck → (t < length C) × (checkAt B C t ≡ P .check t)
+  check-read t h =
+      let l : t < P .top = below-top I t h in
+      (omega (arith, length-slots N (P .check)), getD-slots N (P .check) t freeCheck (omega arith))
+
+  module _ (m : Node) (h : List·Memᴰ m nodes) where
+    abbrev a : Lies nodes P m
+    a = I .lies m h
+
+    abbrev s : ℕ
+    s = P .slot (m .words)
+
+    base-read : baseAt B C s ≡ pos (a .d)
+    base-read = getD-slots N (P .base) s (pos 0) (omega (arith, slot-below-top I (m .words) (I .closed m h))) ∙ a .base
+
+    marker-laid : markerAt B C s ≡ nodeMarker m
+    marker-laid =
+        let c = check-read (a .d) (marker-used I m h) in
+        marker-read B C s base-read (a .d-positive) (c .0)
+        ∙ ap₂ markerOf (c .1 ∙ a .marker-check) (getD-slots N (P .base) (a .d) (pos 0) (omega (arith, length-slots N (P .check))) ∙ a .marker-base)
+
+    child-laid : (w : ℕ) → childAt B C s w ≡ childIf (findNode nodes (w ∷ m .words)) (P .slot (w ∷ m .words))
+    child-laid w = go (findNode nodes (w ∷ m .words)) refl
+      where
+        unlisted : findNode nodes (w ∷ m .words) ≡ none → childSlot (a .d) w < length C → checkAt B C (childSlot (a .d) w) ≡ pos s → ⊥
+        unlisted e l q =
+            let c : P .check (childSlot (a .d) w) ≡ pos s = sym (getD-slots N (P .check) (childSlot (a .d) w) freeCheck (omega (arith, length-slots N (P .check)))) ∙ q in
+            let k = child-found nodes (m .words) w (only-children I m h w c) in
+            Option·none-ne-some (k .0) (sym e ∙ k .1)
+
+        go : (o : Option Node) → findNode nodes (w ∷ m .words) ≡ o → childAt B C s w ≡ childIf o (P .slot (w ∷ m .words))
+        go none e = child-none B C s base-read (a .d-positive) w (unlisted e)
+        go (some k) e =
+            let is-child = found-child nodes (m .words) w k e in
+            let q = a .child-check w is-child in
+            let c = check-read (childSlot (a .d) w) (λ z. pos-ne-negsuc _ _ (sym q ∙ z)) in
+            rw (a .child-slot w is-child) (child-there B C s base-read (a .d-positive) w (found-word R w (m .words) k e) (c .0) (c .1 ∙ q))
+
+  inv-laid-out : LaidOut nodes (P .slot) (slots N (P .base)) (slots N (P .check))
+  inv-laid-out = record {
+    root = I .root;
+    marker = λ us m e.
+        let f = found-in nodes us m e in
+        rw (f .1) at (marker-laid m (f .0));
+    child = λ us m e w.
+        let f = found-in nodes us m e in
+        rw (f .1) at (child-laid m (f .0) w);
+  }
+
+-- The first N slots of the placed array, N being enough for it, hold the nodes,
+pub placing-laid-out : (order : ℕ) {nodes : List Node} → Ready nodes → (N : ℕ) → placing order nodes .top ≤ N
+    → LaidOut nodes (placing order nodes .slot) (slots N (placing order nodes .base)) (slots N (placing order nodes .check))
+placing-laid-out order {nodes} R N room = inv-laid-out R (placing-inv order nodes R) room
+
+-- so that a walk over any words, newest first, comes to the node of those words where there is one, and reads its own marker.
+pub look-placed : (order : ℕ) {nodes : List Node} → Ready nodes → ((m : Node) → List·Memᴰ m nodes → nodeMarker m ≢ Broken) → (N : ℕ) → placing order nodes .top ≤ N
+    → (l : List ℕ) → lookFrom (slots N (placing order nodes .base)) (slots N (placing order nodes .check)) 0 l ≡ lookNode (findNode nodes (reverse l))
+look-placed order R sound N room = look-laid-out R (placing-laid-out order R N room) sound

@@ -1,0 +1,3 @@
+-- The placing rule.
+pub mod Trie
+pub mod Placing
