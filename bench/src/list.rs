@@ -2,12 +2,17 @@
 
 use backoff::Status;
 
+pub const MOST_ROWS: usize = 65_535;
+pub const LARGEST_WORD: i32 = 65_535;
+pub const LOWEST_P: i32 = -990_000;
+pub const LARGEST_B: i32 = 990_000;
+
 /// The verdict on a list: 1, then row by row 3 to 8, then 9.
 pub fn check(table: &[i32]) -> Status {
-    let (rows, rest) = table.as_chunks::<8>();
-    if rows.is_empty() || !rest.is_empty() || rows.len() > 65_535 {
+    if !length_fits(table) {
         return Status { number: 1, place: 0 };
     }
+    let (rows, _) = table.as_chunks::<8>();
     match first_fault(rows) {
         Some((number, row)) => Status { number, place: row as u32 + 1 },
         None if has_marks(rows) => Status { number: 0, place: 0 },
@@ -15,7 +20,11 @@ pub fn check(table: &[i32]) -> Status {
     }
 }
 
-type Row = [i32; 8];
+pub fn length_fits(table: &[i32]) -> bool {
+    !table.is_empty() && table.len().is_multiple_of(8) && table.len() / 8 <= MOST_ROWS
+}
+
+pub type Row = [i32; 8];
 
 fn first_fault(rows: &[Row]) -> Option<(u32, usize)> {
     let order = rows[rows.len() - 1][0];
@@ -47,13 +56,13 @@ fn field_fault(row: &Row, order: i32) -> Option<u32> {
     }
     let words = [w1, w2, w3, w4, w5];
     let (used, unused) = words.split_at(m as usize);
-    if used.iter().any(|w| !(1..=65_535).contains(w)) || unused.iter().any(|&w| w != 0) {
+    if used.iter().any(|w| !(1..=LARGEST_WORD).contains(w)) || unused.iter().any(|&w| w != 0) {
         return Some(4);
     }
-    if !(-990_000..=0).contains(&p) {
+    if !(LOWEST_P..=0).contains(&p) {
         return Some(5);
     }
-    if !(-990_000..=990_000).contains(&b) || (m == order && b != 0) {
+    if !(-LARGEST_B..=LARGEST_B).contains(&b) || (m == order && b != 0) {
         return Some(6);
     }
     None
@@ -61,13 +70,13 @@ fn field_fault(row: &Row, order: i32) -> Option<u32> {
 
 /// Keys ascend as the rows do: m and the fifth word, then the fourth to the first.
 #[derive(Clone, Copy, PartialEq, Eq, PartialOrd, Ord)]
-struct Key {
+pub struct Key {
     high: u32,
     low: u64,
 }
 
 impl Key {
-    fn of(row: &Row) -> Key {
+    pub fn of(row: &Row) -> Key {
         Key { high: (row[0] as u32) << 16 | row[5] as u32, low: low(row) }
     }
 
@@ -77,7 +86,7 @@ impl Key {
 }
 
 /// The first four words in one number; rows of the same m below 5 ascend by it.
-fn low(row: &Row) -> u64 {
+pub fn low(row: &Row) -> u64 {
     row[1] as u64 | (row[2] as u64) << 16 | (row[3] as u64) << 32 | (row[4] as u64) << 48
 }
 

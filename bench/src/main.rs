@@ -1,30 +1,102 @@
 //! The calls against Rust written by the team for the same work: prints both times and their ratio.
 
+mod array;
 mod list;
 mod time;
 
+use list::MOST_ROWS;
 use std::time::Duration;
 use tests::lists::{natural, table, uniform};
 use tests::random::Random;
-
-const MOST_ROWS: usize = 65_535;
+use tests::reference::array::MOST_SLOTS;
+use tests::reference::build::{place, slots_used};
+use tests::reference::list::Row;
 
 fn main() {
     let mut random = Random::new(1);
-    let uniform = table(&uniform(&mut random, 5, 20_000, MOST_ROWS));
-    let natural = table(&natural(&mut random, 5, 30_000, MOST_ROWS));
-    println!("{:<32} {:>12} {:>12} {:>8}", "call", "ours", "Rust", "ratio");
-    bench_check("uniform", &uniform);
-    bench_check("natural", &natural);
+    // Words like a text's, words all equally frequent, and the hardest case for placing: many nodes with many children.
+    let lists = [
+        List::new("natural, 65,535 rows", natural(&mut random, 5, 30_000, MOST_ROWS)),
+        List::new("uniform, 65,535 rows", uniform(&mut random, 5, 20_000, MOST_ROWS)),
+        List::new("order 2, 65,535 rows", uniform(&mut random, 2, 3_000, MOST_ROWS)),
+        List::new("natural, 1,000 rows", natural(&mut random, 5, 1_000, 1_000)),
+        List::new("uniform, 1,000 rows", uniform(&mut random, 5, 300, 1_000)),
+    ];
+    println!("{:<48} {:>12} {:>12} {:>8}", "", "ours", "Rust", "ratio");
+    for list in &lists {
+        bench_check(list);
+        let arrays = bench_build(list);
+        bench_lookup(&mut random, list, &arrays);
+    }
 }
 
-fn bench_check(name: &str, table: &[i32]) {
-    assert_eq!(backoff::check(table), list::check(table));
-    let times = time::medians(41, || backoff::check(table), || list::check(table));
-    print(&format!("check, 65,535 rows, {name}"), times);
+struct List {
+    name: &'static str,
+    rows: Vec<Row>,
+    table: Vec<i32>,
 }
 
-fn print(name: &str, (ours, rust): (Duration, Duration)) {
+impl List {
+    fn new(name: &'static str, rows: Vec<Row>) -> List {
+        let table = table(&rows);
+        List { name, rows, table }
+    }
+}
+
+struct Arrays {
+    base: Vec<i32>,
+    check: Vec<i32>,
+    work: Vec<u32>,
+}
+
+impl Arrays {
+    fn new(slots: usize, rows: usize) -> Arrays {
+        Arrays { base: vec![0; slots], check: vec![0; slots], work: vec![0; rows] }
+    }
+}
+
+fn bench_check(list: &List) {
+    assert_eq!(backoff::check(&list.table), list::check(&list.table));
+    let times = time::medians(|| backoff::check(&list.table), || list::check(&list.table));
+    print("check", list, times);
+}
+
+/// Times the build and gives the arrays; the longest lists are built into the largest arrays.
+fn bench_build(list: &List) -> Arrays {
+    let used = slots_used(&place(&list.rows));
+    let slots = if list.rows.len() < MOST_ROWS { used } else { MOST_SLOTS };
+    let (mut ours, mut rust) = (Arrays::new(slots, list.rows.len()), Arrays::new(slots, list.rows.len()));
+    let times = time::medians(
+        || backoff::build(&list.table, &mut ours.base, &mut ours.check, &mut ours.work),
+        || array::build(&list.table, &mut rust.base, &mut rust.check, &mut rust.work),
+    );
+    assert_eq!(ours.base[1] as usize, list.rows.len(), "the list is built");
+    assert!(ours.base == rust.base && ours.check == rust.check && ours.work == rust.work);
+    print("build", list, times);
+    let taken = 2 * list.rows.len() + 2;
+    println!("    {taken} of {used} slots used: {:.1} %", 100.0 * taken as f64 / used as f64);
+    ours
+}
+
+/// Every row's words, and as many words with the first one changed, in random order.
+fn bench_lookup(random: &mut Random, list: &List, arrays: &Arrays) {
+    let mut sequences: Vec<Vec<u32>> = list.rows.iter().map(|row| row.words.iter().map(|&word| word as u32).collect()).collect();
+    for row in &list.rows {
+        let mut other: Vec<u32> = row.words.iter().map(|&word| word as u32).collect();
+        other[0] = 1 + random.below(MOST_ROWS) as u32;
+        sequences.push(other);
+    }
+    for last in (1..sequences.len()).rev() {
+        sequences.swap(last, random.below(last + 1));
+    }
+    let ours = || sequences.iter().map(|words| backoff::lookup(&arrays.base, &arrays.check, words).p as i64).sum::<i64>();
+    let rust = || sequences.iter().map(|words| array::lookup(&arrays.base, &arrays.check, words).p as i64).sum::<i64>();
+    assert_eq!(ours(), rust());
+    print("lookup of twice as many", list, time::medians(ours, rust));
+}
+
+fn print(call: &str, list: &List, (ours, rust): (Duration, Duration)) {
     let ratio = ours.as_secs_f64() / rust.as_secs_f64();
-    println!("{name:<32} {:>9.3} ms {:>9.3} ms {ratio:>8.2}", ours.as_secs_f64() * 1e3, rust.as_secs_f64() * 1e3);
+    let name = format!("{call}: {}", list.name);
+    println!("{name:<48} {:>9.3} ms {:>9.3} ms {ratio:>8.2}", ours.as_secs_f64() * 1e3, rust.as_secs_f64() * 1e3);
 }

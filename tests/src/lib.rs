@@ -1,6 +1,7 @@
 //! What the tests and the benchmarks share: a second implementation of the team's own, written from document 01 alone,
 //! random lists, and damage to them.
 
+pub mod arrays;
 pub mod damage;
 pub mod guard;
 pub mod lists;

@@ -48,6 +48,16 @@ pub fn small(random: &mut Random, order: usize) -> Vec<Row> {
     from_sentences(random, order, MOST_ROWS, first, sentence)
 }
 
+/// A list of up to 25 rows and words up to 30, whose array is small.
+pub fn tiny(random: &mut Random, order: usize) -> Vec<Row> {
+    loop {
+        let rows = small(random, order);
+        if rows.len() <= 25 && rows.iter().all(|row| row.words[0] <= 30) {
+            return rows;
+        }
+    }
+}
+
 /// A list of the given number of rows whose words are all equally frequent.
 pub fn uniform(random: &mut Random, order: usize, words: i32, rows: usize) -> Vec<Row> {
     let sentence = |random: &mut Random| Some((0..order).map(|_| random.between(1, words)).collect());
@@ -63,7 +73,7 @@ pub fn natural(random: &mut Random, order: usize, words: i32, rows: usize) -> Ve
 }
 
 /// A sentence between its marks, its words by Zipf's law.
-pub fn natural_sentence(random: &mut Random, words: i32) -> Vec<i32> {
+fn natural_sentence(random: &mut Random, words: i32) -> Vec<i32> {
     let length = 5 + random.below(25);
     let mut sentence = vec![2];
     sentence.extend((0..length).map(|_| 3 + random.zipf(words - 3)));

@@ -1,9 +1,13 @@
 -- The answers that cross to C, as numbers. Assumes nothing.
 use mathlib.Core.Path.{_≡_}
+use mathlib.Core.List.{List}
+use Prim.Native.Nat.{ℕ}
+use lib.IntN.{ℤ}
 use Rattle.backoff.specs.Refusal.{numberOf, placeOf}
 use Rattle.backoff.specs.declared.Verdict.{Verdict}
 use Rattle.double_array.specs.Lookup as lookup
 use Rattle.double_array.specs.declared.Lookup.{Lookup}
+use Rattle.build.specs.Build.{Built}
 use Rattle.grader.specs.declared.Status.{Status}
 use Rattle.grader.specs.declared.Found.{Found}
 
@@ -19,3 +23,10 @@ pub record FoundIs (l : Lookup) (r : Found) : Type 0 where
   pub found : r .found ≡ lookup.foundOf l
   pub p : r .p ≡ lookup.pOf l
   pub b : r .b ≡ lookup.bOf l
+
+-- a build's answer, and the three slices at exit
+pub record BuiltIs (o : Built) (r : Status) (base check : List ℤ) (work : List ℕ) : Type 0 where
+  pub status : StatusIs (o .answer) r
+  pub base-is : base ≡ o .base
+  pub check-is : check ≡ o .check
+  pub work-is : work ≡ o .work

@@ -2,11 +2,13 @@
 use backoff::Verdict;
 use double_array::Lookup;
 ghost use mathlib.Core.Path.{_≡_};
+ghost use lib.ListN.{length};
 ghost use Rattle.backoff.specs.Model.{AcceptedModel};
 ghost use Rattle.list.specs.Check.{verdict};
 ghost use Rattle.list.specs.ListModel.{modelOf};
 ghost use Rattle.double_array.specs.Lookup.{lookupOutcome, LookupMeans};
-ghost use Rattle.grader.specs.Exports.{StatusIs, FoundIs};
+ghost use Rattle.build.specs.Build.{buildOutcome, BuildMeans};
+ghost use Rattle.grader.specs.Exports.{StatusIs, FoundIs, BuiltIs};
 
 // The refusal's number and place, 0 and 0 where nothing is refused.
 #[repr(C)]
@@ -72,6 +74,20 @@ pub extern "C" fn backoff_check(table: &[i32]) -> Status
     ensures meaning { λ r. ⌜ (r .number ≡ 0 → AcceptedModel (modelOf (now (table .entry)))) ⌝ }
 {
     status_of(list::check_list(table))
+}
+
+// Builds the double array of a list: 1, 2, rows 3 to 8, 9, 10. `work` gets the slots of the rows' nodes.
+#[no_mangle]
+pub extern "C" fn backoff_build(
+    table: &[i32],
+    base: &mut [i32],
+    check: &mut [i32],
+    work: &mut [u32],
+) -> Status
+    ensures outcome { λ r. ⌜ BuiltIs (buildOutcome (now (table .entry)) (now (base .entry)) (now (check .entry)) (now (work .entry))) r (now (base .exit)) (now (check .exit)) (now (work .exit)) ⌝ }
+    ensures meaning { λ r. ⌜ (r .number ≡ 0 → BuildMeans (now (table .entry)) (length (now (base .entry))) (now (base .exit)) (now (check .exit))) ⌝ }
+{
+    status_of(build::build(table, base, check, work))
 }
 
 // Looks up the words, oldest first, in the array: 11, 14, 12.

@@ -182,7 +182,7 @@ module _ {order : ℕ} {all done : List Node} {P : Placed} (I : Inv order all do
   unfolding settle
   check-other t h = update-other (own d s ws (P .check)) d (negsuc (n .cost)) t h
 
-  check-stays : (t : ℕ) → P .check t ≢ freeCheck → P′ .check t ≡ P .check t
+  pub check-stays : (t : ℕ) → P .check t ≢ freeCheck → P′ .check t ≡ P .check t
   check-stays t h = check-other t (λ e. h (ap (P .check) e ∙ N .d-free)) ∙ go (own-cases d s ws (P .check) t)
     where
       go : Owned d s ws t (P .check t) (own d s ws (P .check) t) → own d s ws (P .check) t ≡ P .check t

@@ -36,6 +36,11 @@ impl Row {
     }
 }
 
+/// The rows of an accepted list.
+pub fn rows(table: &[i32]) -> Vec<Row> {
+    table.chunks(8).map(Row::read).collect()
+}
+
 /// The verdict on a lent list: 1, then row by row 3 to 8, then 9.
 pub fn verdict(table: &[i32]) -> Refusal {
     if table.is_empty() || !table.len().is_multiple_of(8) || table.len() / 8 > MOST_ROWS {

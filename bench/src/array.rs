@@ -1,0 +1,192 @@
+//! Build and lookup as the team writes them in Rust: the two arrays and work are all the memory there is.
+
+use crate::list::{self, Row, LARGEST_B, LARGEST_WORD, LOWEST_P, MOST_ROWS};
+use backoff::{Found, Status};
+
+const FREE: i32 = i32::MIN;
+const MOST_SLOTS: usize = 1_048_576;
+const ACCEPTED: Status = Status { number: 0, place: 0 };
+
+/// Builds the double array of a list: 1, 2, row by row 3 to 8, 9, 10.
+pub fn build(table: &[i32], base: &mut [i32], check: &mut [i32], work: &mut [u32]) -> Status {
+    let (rows, _) = table.as_chunks::<8>();
+    if list::length_fits(table) && (!lengths_fit(base, check) || work.len() < rows.len()) {
+        return Status { number: 2, place: 0 };
+    }
+    let verdict = list::check(table);
+    if verdict != ACCEPTED {
+        return verdict;
+    }
+    clear(base, check);
+    if place(rows, base, check, work).is_none() {
+        clear(base, check);
+        work[..rows.len()].fill(0);
+        return Status { number: 10, place: 0 };
+    }
+    set_continued(rows, base);
+    ACCEPTED
+}
+
+pub fn lengths_fit(base: &[i32], check: &[i32]) -> bool {
+    base.len() == check.len() && (2..=MOST_SLOTS).contains(&base.len())
+}
+
+fn clear(base: &mut [i32], check: &mut [i32]) {
+    base.fill(0);
+    check.fill(FREE);
+}
+
+/// Places all nodes and writes everything but the f of the markers; nothing where a slot at or past the end is used.
+fn place(rows: &[Row], base: &mut [i32], check: &mut [i32], work: &mut [u32]) -> Option<()> {
+    let order = rows[rows.len() - 1][0];
+    let ones = rows.partition_point(|row| row[0] == 1);
+    (base[0], check[0]) = (0, order);
+    let mut front = 1;
+    let d = settle(&rows[..ones], 0, &mut front, base, check, &mut work[..ones])?;
+    (base[d], check[d]) = (rows.len() as i32, -1);
+    // The children of the rows, in the order of the rows, are the rows of two and more words.
+    let mut next = ones;
+    for (i, row) in rows.iter().enumerate() {
+        let m = row[0] as usize;
+        let is_child = |child: &Row| child[0] == row[0] + 1 && child[2..2 + m] == row[1..1 + m];
+        let end = rows[next..].iter().position(|child| !is_child(child)).map_or(rows.len(), |count| next + count);
+        let slot = work[i] as usize;
+        let d = settle(&rows[next..end], slot, &mut front, base, check, &mut work[next..end])?;
+        (base[d], check[d]) = (2 * row[7], row[6] - 1);
+        next = end;
+    }
+    Some(())
+}
+
+/// Finds the d of the node in `slot`, and takes the slots of its children.
+fn settle(children: &[Row], slot: usize, front: &mut usize, base: &mut [i32], check: &mut [i32], work: &mut [u32]) -> Option<usize> {
+    while *front < check.len() && check[*front] != FREE {
+        *front += 1;
+    }
+    let d = first_fit(children, *front, check);
+    let highest = children.last().map_or(d, |child| d + child[1] as usize);
+    if highest >= check.len() {
+        return None;
+    }
+    base[slot] = d as i32;
+    for (child, item) in children.iter().zip(work) {
+        let place = d + child[1] as usize;
+        check[place] = slot as i32;
+        *item = place as u32;
+    }
+    Some(d)
+}
+
+fn first_fit(children: &[Row], front: usize, check: &[i32]) -> usize {
+    let free = |slot: usize| slot >= check.len() || check[slot] == FREE;
+    let mut d = front;
+    'next: loop {
+        if free(d) {
+            for child in children {
+                if !free(d + child[1] as usize) {
+                    d += 1;
+                    continue 'next;
+                }
+            }
+            return d;
+        }
+        d += 1;
+    }
+}
+
+/// Sets f in the marker of every row that some row continues.
+fn set_continued(rows: &[Row], base: &mut [i32]) {
+    for row in rows.iter().filter(|row| row[0] > 1) {
+        let without_last = &row[1..row[0] as usize];
+        let node = without_last.iter().rev().fold(0, |slot, &word| (base[slot] + word) as usize);
+        base[base[node] as usize] |= 1;
+    }
+}
+
+/// Check 11.
+pub fn head_fits(base: &[i32], check: &[i32]) -> bool {
+    lengths_fit(base, check) && base[0] == 1 && (1..=5).contains(&check[0]) && check[1] == -1 && (3..=MOST_ROWS as i32).contains(&base[1])
+}
+
+/// The slot of a node's child for a word.
+pub fn child(base: &[i32], check: &[i32], node: usize, word: u32) -> Option<usize> {
+    let d = base[node];
+    if d < 1 || word.wrapping_sub(1) >= LARGEST_WORD as u32 {
+        return None;
+    }
+    let slot = d as usize + word as usize;
+    (slot < check.len() && check[slot] == node as i32).then_some(slot)
+}
+
+/// What a node's marker holds: p, and 2 × b + f; nothing where it is not sound.
+pub fn marker(base: &[i32], check: &[i32], node: usize) -> Option<(i32, i32)> {
+    let d = base[node];
+    if d < 1 || d as usize >= base.len() {
+        return None;
+    }
+    let (last, packed) = (check[d as usize], base[d as usize]);
+    let sound = (LOWEST_P - 1..=-1).contains(&last) && (-2 * LARGEST_B..=2 * LARGEST_B + 1).contains(&packed);
+    sound.then_some((last + 1, packed))
+}
+
+/// Looks a sequence up, oldest word first: 11, 14, 12.
+#[inline(never)]
+pub fn lookup(base: &[i32], check: &[i32], words: &[u32]) -> Found {
+    let refused = |number| Found { number, place: 0, found: 0, p: 0, b: 0 };
+    if !head_fits(base, check) {
+        return refused(11);
+    }
+    if words.is_empty() || words.len() > 5 {
+        return refused(14);
+    }
+    let not_found = refused(0);
+    if words.len() > check[0] as usize {
+        return not_found;
+    }
+    let mut node = 0;
+    let mut found = not_found;
+    for &word in words.iter().rev() {
+        let Some(slot) = child(base, check, node, word) else { return not_found };
+        let Some((p, packed)) = marker(base, check, slot) else { return refused(12) };
+        found = Found { number: 0, place: 0, found: 1, p, b: packed >> 1 };
+        node = slot;
+    }
+    found
+}
+
+#[cfg(test)]
+mod tests {
+    use tests::arrays::drawn;
+    use tests::lists::{small, table};
+    use tests::random::Random;
+    use tests::reference;
+
+    /// The builder that ours is timed against writes the same arrays.
+    #[test]
+    fn same_arrays() {
+        let mut random = Random::new(1);
+        for i in 0..500 {
+            let table = table(&small(&mut random, 1 + i % 5));
+            let slots = random.pick(&[40, 400, 70_000]);
+            let (mut base, mut check, mut work) = (vec![5; slots], vec![5; slots], vec![5; table.len() / 8]);
+            let (mut base2, mut check2, mut work2) = (base.clone(), check.clone(), work.clone());
+            let status = super::build(&table, &mut base, &mut check, &mut work);
+            let second = reference::build::build(&table, &mut base2, &mut check2, &mut work2);
+            assert_eq!((status.number, status.place), second);
+            assert!(base == base2 && check == check2 && work == work2);
+        }
+    }
+
+    /// The lookup that ours is timed against gives the same answers over any arrays.
+    #[test]
+    fn same_lookups() {
+        let mut random = Random::new(2);
+        for _ in 0..20_000 {
+            let arrays = drawn(&mut random);
+            let words: Vec<u32> = (0..random.below(6)).map(|_| random.below(20) as u32).collect();
+            let found = super::lookup(&arrays.base, &arrays.check, &words);
+            let second = reference::array::lookup(&arrays.base, &arrays.check, &words);
+            assert_eq!(((found.number, found.place), found.found == 1, found.p, found.b), second);
+        }
+    }
+}

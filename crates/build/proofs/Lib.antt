@@ -1,0 +1,14 @@
+-- The laws of the trie of a list, of what a build leaves, and of the builder's steps.
+pub mod ListTrie
+pub mod Built
+pub mod Found
+pub mod Sample
+pub mod OldestWords
+pub mod Front
+pub mod OneWord
+pub mod Parts
+pub mod Turn
+pub mod NodeByNode
+pub mod Continued
+pub mod Each
+pub mod Outcome

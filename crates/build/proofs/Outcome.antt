@@ -1,0 +1,173 @@
+-- From the steps to the outcome of build: the slices before the first node, and what they hold at the end. Assumes nothing.
+use mathlib.Core.Path.{_≡_, refl, sym, ap, _∙_}
+use mathlib.Core.Bool.{Bool, true, false, cond, _&&_}
+use mathlib.Core.List.{List, [], _∷_, _++_, append-nil}
+use Prim.Native.Nat.{ℕ, zero, suc, _+_, _/_, _≤_, _<_}
+use native.Mathlib.Omega.{arith}
+use lib.Dec.{leb}
+use lib.IntN.{ℤ, pos}
+use lib.ListN.{length, getD, set, take, drop, replicate, length-map, length-replicate, List·getD-map, drop-of-length-le, length-take}
+use lib.Seq.{ext-getD}
+use Rattle.backoff.specs.Limits.{slotLimit}
+use Rattle.backoff.specs.Refusal.{tableLength, arrayLength, noRoom}
+use Rattle.backoff.specs.Run.{written}
+use Rattle.backoff.specs.declared.Verdict.{Verdict}
+use Rattle.backoff.specs.declared.Verdict.the-variants.{Accepted, Refused}
+use Rattle.double_array.specs.DoubleArray.{freeCheck, sizesOk}
+use Rattle.double_array.proofs.DoubleArray.{opened-some}
+use Rattle.list.specs.Table.{rowsOf, orderOf, words}
+use Rattle.list.specs.Check.{verdict, tableFits}
+use Rattle.list.specs.ListModel.{continuedIn}
+use Rattle.list.proofs.ListModel.{accepted-model}
+use Rattle.placing.specs.Placing.{placeAll, unplaced, slots}
+use Rattle.placing.proofs.Slots.{set-slots}
+use Rattle.build.specs.ListTrie.{placedList, slotsFrom, rowSlots}
+use Rattle.build.specs.Build.{untouched, filled, emptied, checkedBuild, buildOutcome, IsBuilt, BuildMeans}
+use Rattle.build.specs.Steps.{Flagged, placedNodes, Filled, Tried, halved, Wiped}
+use Rattle.build.proofs.Built.{build-accepted, build-holds}
+use Rattle.build.proofs.Turn.{item-half}
+
+-- ---- before the first node
+
+same-slots : (n : ℕ) (v : ℤ) → slots n (λ t. v) ≡ replicate n v
+unfolding slots
+same-slots zero v = refl
+same-slots (suc n) v = ap (λ (l : List ℤ). v ∷ l) (same-slots n v)
+
+pub filled-none : (t : List ℤ) {N : ℕ} {B C : List ℤ} {W : List ℕ} → 2 ≤ N → N ≤ slotLimit → B ≡ replicate N (pos 0)
+    → C ≡ set (replicate N freeCheck) 0 (pos (orderOf t)) → Flagged t (rowsOf t) W → Filled t N (placedNodes t 0) B C W
+unfolding placeAll unplaced continuedIn
+filled-none t {N} low high b c F = record {
+  size = (low, high);
+  room = omega arith;
+  base-slots = b ∙ sym (same-slots N (pos 0));
+  check-slots = c ∙ ap (λ (l : List ℤ). set l 0 (pos (orderOf t))) (sym (same-slots N freeCheck)) ∙ set-slots N (λ t. freeCheck) 0 (pos (orderOf t));
+  each = F .each;
+  item = F .item;
+}
+
+-- ---- the rows' slots
+
+length-slotsFrom : (t : List ℤ) (i k : ℕ) → length (slotsFrom t i k) ≡ k
+unfolding slotsFrom
+length-slotsFrom t i zero = refl
+length-slotsFrom t i (suc k) = ap suc (length-slotsFrom t (suc i) k)
+
+getD-slotsFrom : (t : List ℤ) (i k j : ℕ) → j < k → getD (slotsFrom t i k) j 0 ≡ placedList t .slot (words t (i + j))
+unfolding slotsFrom
+getD-slotsFrom t i zero j h = absurd (omega arith)
+getD-slotsFrom t i (suc k) zero h = ap (λ (x : ℕ). placedList t .slot (words t x)) (omega arith)
+getD-slotsFrom t i (suc k) (suc j) h = getD-slotsFrom t (suc i) k j (omega arith) ∙ ap (λ (x : ℕ). placedList t .slot (words t x)) (omega arith)
+
+length-rowSlots : (t : List ℤ) → length (rowSlots t) ≡ rowsOf t
+unfolding rowSlots
+length-rowSlots t = length-slotsFrom t 0 (rowsOf t)
+
+halved-slots : {t : List ℤ} {N : ℕ} {B C : List ℤ} {W : List ℕ} → Filled t N (placedList t) B C W → halved W ≡ rowSlots t
+unfolding halved rowSlots
+halved-slots {t} {W = W} F = ext-getD 0 (halved W) (rowSlots t) (count ∙ sym (length-rowSlots t)) (λ j l. at j (omega (arith, count)))
+  where
+    count : length (halved W) ≡ rowsOf t
+    count = length-map W (λ (x : ℕ). x / 2) ∙ F .each
+
+    at : (j : ℕ) → j < rowsOf t → getD (halved W) j 0 ≡ getD (rowSlots t) j 0
+    at j l =
+        List·getD-map (λ (x : ℕ). x / 2) W j 0 ∙ ap (λ (x : ℕ). x / 2) (F .item j l)
+        ∙ item-half (placedList t .slot (words t j)) (continuedIn t (words t j))
+        ∙ sym (getD-slotsFrom t 0 (rowsOf t) j l ∙ ap (λ (x : ℕ). placedList t .slot (words t x)) (omega arith))
+
+-- ---- the outcome of an accepted list
+
+-- a slice as long as what is written
+written-whole : {A : Type 0} (new old : List A) → length new ≡ length old → written new old ≡ new
+unfolding written
+written-whole {A} new old e = ap (λ (l : List A). new ++ l) (drop-of-length-le old {i = length new} (omega arith)) ∙ append-nil new
+
+module _ (t B C : List ℤ) (W : List ℕ) (same : length B ≡ length C) (each : length W ≡ rowsOf t) where
+  pub built-accepted : {placed : Bool} {B′ C′ : List ℤ} {W′ : List ℕ} → placed ≡ true → Tried t (length C) (placedList t) placed B′ C′ W′
+      → IsBuilt (checkedBuild t B C W Accepted) Accepted B′ C′ (halved W′)
+  unfolding filled
+  built-accepted e T =
+      let F = T .filled e in
+      let room : leb (placedList t .top) (length B) ≡ true = ap (leb (placedList t .top)) same ∙ sym (T .answer) ∙ e in
+      rw room (record {
+        answer-is = refl;
+        base-is = F .base-slots ∙ ap (λ (n : ℕ). slots n (placedList t .base)) (sym same);
+        check-is = F .check-slots;
+        work-is = halved-slots F ∙ sym (written-whole (rowSlots t) W (length-rowSlots t ∙ sym each));
+      })
+
+  pub built-refused : {placed : Bool} {B₁ C₁ B′ C′ : List ℤ} {W₁ W′ : List ℕ} → placed ≡ false → Tried t (length C) (placedList t) placed B₁ C₁ W₁
+      → length B₁ ≡ length B → length C₁ ≡ length C → length W₁ ≡ length W → Wiped B₁ C₁ W₁ B′ C′ W′ → IsBuilt (checkedBuild t B C W Accepted) (Refused noRoom 0) B′ C′ W′
+  unfolding emptied
+  built-refused e T b c w X =
+      let room : leb (placedList t .top) (length B) ≡ false = ap (leb (placedList t .top)) same ∙ sym (T .answer) ∙ e in
+      rw room (record {
+        answer-is = refl;
+        base-is = X .base-free ∙ ap (λ (n : ℕ). replicate n (pos 0)) b;
+        check-is = X .check-free ∙ ap (λ (n : ℕ). replicate n freeCheck) c;
+        work-is = X .items-zero ∙ ap (λ (n : ℕ). replicate n 0) (w ∙ each) ∙ sym (written-whole (replicate (rowsOf t) 0) W (length-replicate (rowsOf t) 0 ∙ sym each));
+      })
+
+-- the work items past the rows are untouched
+written-part : {A : Type 0} (k : ℕ) (new old : List A) → length new ≡ k → written new (take k old) ++ drop k old ≡ written new old
+unfolding written
+written-part {A} k new old e =
+    let none : drop (length new) (take k old) ≡ [] = drop-of-length-le (take k old) {i = length new} (rw length-take (omega arith)) in
+    rw (none, append-nil new, e)
+
+-- ---- the outcome of build
+
+module _ (t B C : List ℤ) (W : List ℕ) where
+  -- what "accepted" means follows from the outcome
+  pub answers : {r : Verdict} {B′ C′ : List ℤ} {W′ : List ℕ} → IsBuilt (buildOutcome t B C W) r B′ C′ W′
+      → IsBuilt (buildOutcome t B C W) r B′ C′ W′ × (r ≡ Accepted → BuildMeans t (length B) B′ C′)
+  answers b = (
+    b,
+    λ e.
+        let accepted : buildOutcome t B C W .answer ≡ Accepted = sym (b .answer-is) ∙ e in
+        let k = build-accepted t B C W accepted in
+        let h = build-holds t B C W accepted in
+        rw (b .base-is, b .check-is)
+        (record { accepted = accepted-model t (k .accepted); room = k .room; opens = opened-some _ _ (h .array); model = h .model }),
+  )
+
+  untouched-is : (v : Verdict) → IsBuilt (untouched t B C W v) v B C W
+  unfolding untouched
+  untouched-is v = record { answer-is = refl; base-is = refl; check-is = refl; work-is = refl }
+
+  pub outcome-table : tableFits (length t) ≡ false → IsBuilt (buildOutcome t B C W) (Refused tableLength 0) B C W
+  unfolding buildOutcome
+  outcome-table e = rw e (untouched-is (Refused tableLength 0))
+
+  module _ (f : tableFits (length t) ≡ true) where
+    pub outcome-sizes : (sizesOk B C && leb (rowsOf t) (length W)) ≡ false → IsBuilt (buildOutcome t B C W) (Refused arrayLength 0) B C W
+    unfolding buildOutcome
+    outcome-sizes e = rw (f, e) (untouched-is (Refused arrayLength 0))
+
+    module _ (z : (sizesOk B C && leb (rowsOf t) (length W)) ≡ true) where
+      pub outcome-rows : {v : Verdict} {n k : ℕ} → v ≡ verdict t → v ≡ Refused n k → IsBuilt (buildOutcome t B C W) v B C W
+      unfolding buildOutcome
+      outcome-rows {n = n} {k = k} e q = rw (f, z, ← e, q) (untouched-is (Refused n k))
+
+      -- the part of the work items that is the rows' comes back
+      part-back : (b : Bool) {r : Verdict} {B′ C′ : List ℤ} {W′ : List ℕ} → IsBuilt (cond b (filled t B C (take (rowsOf t) W)) (emptied t B C (take (rowsOf t) W))) r B′ C′ W′
+          → IsBuilt (cond b (filled t B C W) (emptied t B C W)) r B′ C′ (W′ ++ drop (rowsOf t) W)
+      unfolding filled emptied
+      part-back true i = record {
+        answer-is = i .answer-is;
+        base-is = i .base-is;
+        check-is = i .check-is;
+        work-is = ap (λ (l : List ℕ). l ++ drop (rowsOf t) W) (i .work-is) ∙ written-part (rowsOf t) (rowSlots t) W (length-rowSlots t);
+      }
+      part-back false i = record {
+        answer-is = i .answer-is;
+        base-is = i .base-is;
+        check-is = i .check-is;
+        work-is = ap (λ (l : List ℕ). l ++ drop (rowsOf t) W) (i .work-is) ∙ written-part (rowsOf t) (replicate (rowsOf t) 0) W (length-replicate (rowsOf t) 0);
+      }
+
+      pub outcome-placed : verdict t ≡ Accepted → {r : Verdict} {B′ C′ : List ℤ} {W′ : List ℕ} → IsBuilt (checkedBuild t B C (take (rowsOf t) W) Accepted) r B′ C′ W′
+          → IsBuilt (buildOutcome t B C W) r B′ C′ (W′ ++ drop (rowsOf t) W)
+      unfolding buildOutcome
+      outcome-placed e i = rw (f, z, e) (part-back (leb (placedList t .top) (length B)) i)

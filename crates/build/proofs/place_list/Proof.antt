@@ -1,0 +1,86 @@
+-- Where all nodes have room, the items are halved; where they have not, the slices are wiped.
+use mathlib.Core.Path.{_∙_}
+use lib.ListN.{length}
+use denote.Ref.{now}
+use borrow.Author.Needs.{needs}
+use Rattle.double_array.proofs.DoubleArray.{sizes-told}
+use Rattle.build.specs.ListTrie.{placedList}
+use Rattle.build.specs.Steps.{Tried}
+use Rattle.build.proofs.Turn.{filled-check, filled-here}
+use Rattle.build.proofs.Outcome.{built-accepted, built-refused}
+use Rattle.build.proofs.place_list.Statement.{statement}
+use Rattle.build.proofs.place_list.Tie as tie
+
+prepare-requires : tie.Need-prepare-requires
+prepare-requires c κs = search needs
+
+place-nodes-requires : tie.Need-place-nodes-requires
+place-nodes-requires c κs = let p = c .before .before .before .before .before .before .before in (p .before .before .before .before .before .pre .accepted, filled-here (p .prepare .ensures))
+
+abbrev prepared : tie.After-place-nodes → tie.After-prepare
+prepared c = c .before .before .before .before .before .before .before .before
+
+abbrev start : tie.After-place-nodes → tie.Start
+start c = prepared c .before .before .before .before .before
+
+tried : (c : tie.After-place-nodes) → Tried (now (start c .args .table)) (length (now (start c .args .check))) (placedList (now (start c .args .table))) (c .place-nodes .result) (c .place-nodes .last .1 .0) (c .place-nodes .last .1 .1 .0) (c .place-nodes .last .1 .1 .1 .0)
+tried c = rw (filled-check (prepared c .prepare .ensures)) at (c .place-nodes .ensures)
+
+halve-requires : tie.Need-halve-requires
+halve-requires c κs = search needs
+
+same-length : tie.Need-same-length
+same-length c = search needs
+
+same-length-2 : tie.Need-same-length-2
+same-length-2 c = search needs
+
+same-length-3 : tie.Need-same-length-3
+same-length-3 c = search needs
+
+returns : tie.Need-returns
+returns c =
+    let h = c .before .before in
+    let n = h .before .before .before .before .before .before .before in
+    let s = start n in
+    rw (h .halve .ensures) (built-accepted (now (s .args .table)) (now (s .args .base)) (now (s .args .check)) (now (s .args .work)) (sizes-told _ _ (s .pre .sizes) .same) (s .pre .each) (h .before .before .if1 .taken) (tried n))
+
+wipe-requires : tie.Need-wipe-requires
+wipe-requires c κs = search needs
+
+same-length-4 : tie.Need-same-length-4
+same-length-4 c = search needs
+
+same-length-5 : tie.Need-same-length-5
+same-length-5 c = search needs
+
+same-length-6 : tie.Need-same-length-6
+same-length-6 c = search needs
+
+returns-2 : tie.Need-returns-2
+returns-2 c =
+    let w = c .before .before .before .before in
+    let e = w .before .before .before .before in
+    let n = e .before .before .before .before .before in
+    let s = start n in
+    let p = prepared n .prepare .kept in
+    let k = n .place-nodes .kept in
+    built-refused (now (s .args .table)) (now (s .args .base)) (now (s .args .check)) (now (s .args .work)) (sizes-told _ _ (s .pre .sizes) .same) (s .pre .each) (e .if1 .left) (tried n)
+    (k .1 .0 ∙ p .1 .0) (k .1 .1 .0 ∙ p .1 .1 .0) (k .1 .1 .1 .0 ∙ p .1 .1 .1 .0) (w .wipe .ensures)
+
+pub place-list-spec : {M : Type 1} → statement M
+place-list-spec =
+    tie.close
+    (tie.spec
+    prepare-requires
+    place-nodes-requires
+    halve-requires
+    same-length
+    same-length-2
+    same-length-3
+    returns
+    wipe-requires
+    same-length-4
+    same-length-5
+    same-length-6
+    returns-2)

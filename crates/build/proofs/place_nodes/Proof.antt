@@ -1,0 +1,63 @@
+-- The rows are placed where the root is; where it has no room, the list has none.
+use lib.ListN.{length}
+use denote.Ref.{now}
+use borrow.Author.Needs.{needs}
+use borrow.Author.Tests.{not-true, not-false}
+use Rattle.build.specs.Steps.{placedNodes, Filled}
+use Rattle.build.proofs.Turn.{filled-check, filled-here}
+use Rattle.build.proofs.NodeByNode.{over-refused}
+use Rattle.build.proofs.place_nodes.Statement.{statement}
+use Rattle.build.proofs.place_nodes.Tie as tie
+
+place-root-requires : tie.Need-place-root-requires
+place-root-requires c κs = search needs
+
+same-length : tie.Need-same-length
+same-length c = search needs
+
+same-length-2 : tie.Need-same-length-2
+same-length-2 c = search needs
+
+same-length-3 : tie.Need-same-length-3
+same-length-3 c = search needs
+
+returns : tie.Need-returns
+returns c = over-refused 1 (not-true _ (c .if1 .taken)) (c .before .before .before .before .before .place-root .ensures)
+
+placed : (c : tie.Else1) → let r = c .before .before .before .before .before in let s = r .before .before .before .before .before in
+    Filled (now (s .args .table)) (length (now (s .args .check))) (placedNodes (now (s .args .table)) 1) (r .place-root .last .1 .0) (r .place-root .last .1 .1 .0) (r .place-root .last .1 .1 .1 .0)
+placed c = c .before .before .before .before .before .place-root .ensures .filled (not-false _ (c .if1 .left))
+
+place-rows-requires : tie.Need-place-rows-requires
+place-rows-requires c κs =
+    let e = c .before .before .before in
+    (e .before .before .before .before .before .before .before .before .before .before .pre .0, filled-here (placed e))
+
+same-length-4 : tie.Need-same-length-4
+same-length-4 c = search needs
+
+same-length-5 : tie.Need-same-length-5
+same-length-5 c = search needs
+
+same-length-6 : tie.Need-same-length-6
+same-length-6 c = search needs
+
+returns-2 : tie.Need-returns-2
+returns-2 c =
+    let r = c .before .before .before .before in
+    rw (filled-check (placed (r .before .before .before .before))) at (r .place-rows .ensures)
+
+pub place-nodes-spec : {M : Type 1} → statement M
+place-nodes-spec =
+    tie.close
+    (tie.spec
+    place-root-requires
+    same-length
+    same-length-2
+    same-length-3
+    returns
+    place-rows-requires
+    same-length-4
+    same-length-5
+    same-length-6
+    returns-2)

@@ -1,0 +1,132 @@
+-- Invariant: the root and the rows before row i are placed, and before `front` no slot is free.
+use mathlib.Core.Path.{_≡_, sym, _∙_}
+use mathlib.Core.List.{List}
+use Prim.Native.Nat.{ℕ, suc, _+_, _-_, _≤_, _<_}
+use native.Mathlib.Numerals.{add-one}
+use native.Mathlib.Omega.{arith}
+use lib.IntN.{ℤ}
+use lib.ListN.{length}
+use denote.Ref.{now}
+use borrow.Author.Needs.{needs}
+use borrow.Author.Tests.{not-true, not-false}
+use Rattle.list.specs.Table.{rowsOf}
+use Rattle.build.specs.ListTrie.{nodesOf}
+use Rattle.build.specs.Steps.{Front, placedNodes, Filled, Tried}
+use Rattle.build.proofs.ListTrie.{length-nodesOf}
+use Rattle.build.proofs.Front.{front-first}
+use Rattle.build.proofs.Turn.{filled-base, filled-check, filled-here, front-stays}
+use Rattle.build.proofs.NodeByNode.{over-refused, all-placed}
+use Rattle.build.proofs.place_rows.Statement.{statement}
+use Rattle.build.proofs.place_rows.Tie as tie
+
+record Reached (t : List ℤ) (N : ℕ) (base check : List ℤ) (work : List ℕ) (front i : ℕ) : Type 0 where
+  within : i ≤ rowsOf t
+  filled : Filled t N (placedNodes t (i + 1)) base check work
+  taken : Front check front
+
+abbrev Inv-loop : tie.InvT-loop
+Inv-loop table base₀ check₀ work₀ front₀ i₀ base check work front i = Reached table (length check₀) base check work front i
+
+abbrev μ-loop : tie.MeasureT-loop
+μ-loop table base₀ check₀ work₀ front₀ i₀ base check work front i = rowsOf table - i
+
+loop-holds : tie.Need-loop-holds Inv-loop μ-loop
+loop-holds c = record { within = omega arith; filled = c .before .pre .1; taken = front-first _ }
+
+next-free-requires : tie.Need-next-free-requires Inv-loop μ-loop
+next-free-requires c κs = c .before .before .loop .inv .taken
+
+place-row-requires : tie.Need-place-row-requires Inv-loop μ-loop
+place-row-requires c κs =
+    let f = c .before .before .before in
+    let l = f .before .before .before in
+    let s = l .before .before in
+    let F = l .loop .inv .filled in
+    ((s .pre .0, omega (arith, f .before .before .loop-test .taken, F .each), f .next-free .ensures .0), filled-here F)
+
+abbrev at : tie.After-place-row Inv-loop μ-loop → tie.At-loop Inv-loop μ-loop
+at c = c .before .before .before .before .before .before .before
+
+abbrev table : tie.At-loop Inv-loop μ-loop → List ℤ
+table l = now (l .before .before .args .table)
+
+-- the slices keep their lengths
+base-kept : (l : tie.At-loop Inv-loop μ-loop) → length (l .loop .base) ≡ length (now (l .before .before .args .base))
+base-kept l = filled-base (l .loop .inv .filled) ∙ sym (filled-base (l .before .before .pre .1))
+
+work-kept : (l : tie.At-loop Inv-loop μ-loop) → length (l .loop .work) ≡ length (now (l .before .before .args .work))
+work-kept l = l .loop .inv .filled .each ∙ sym (l .before .before .pre .1 .each)
+
+-- row i's turn
+turn : (c : tie.After-place-row Inv-loop μ-loop) → Tried (table (at c)) (length (now (at c .before .before .args .check))) (placedNodes (table (at c)) (suc (at c .loop .i + 1))) (c .place-row .result) (c .place-row .last .1 .1 .0) (c .place-row .last .1 .1 .1 .0) (c .place-row .last .1 .1 .1 .1 .0)
+turn c =
+    let e : at c .loop .i + 2 ≡ suc (at c .loop .i + 1) = omega arith in
+    rw (e, filled-check (at c .loop .inv .filled)) at (c .place-row .ensures)
+
+same-length : tie.Need-same-length Inv-loop μ-loop
+same-length c = let p = c .before .before .before .before .before in p .place-row .kept .1 .1 .0 ∙ base-kept (at p)
+
+same-length-2 : tie.Need-same-length-2 Inv-loop μ-loop
+same-length-2 c = let p = c .before .before .before .before .before in p .place-row .kept .1 .1 .1 .0 ∙ filled-check (at p .loop .inv .filled)
+
+same-length-3 : tie.Need-same-length-3 Inv-loop μ-loop
+same-length-3 c = let p = c .before .before .before .before .before in p .place-row .kept .1 .1 .1 .1 .0 ∙ work-kept (at p)
+
+returns : tie.Need-returns Inv-loop μ-loop
+returns c =
+    let p = c .before .before .before .before .before in
+    over-refused (suc (at p .loop .i + 1)) (not-true _ (c .if1 .taken)) (turn p)
+
+add-i : tie.Need-add-i Inv-loop μ-loop
+add-i c = search needs
+
+loop-less : tie.Need-loop-less Inv-loop μ-loop
+loop-less c = let p = c .before .before .before .before .before in omega (arith, at p .loop .inv .within, p .before .before .before .before .before .before .loop-test .taken, at p .loop .inv .filled .each)
+
+loop-again : tie.Need-loop-again Inv-loop μ-loop
+loop-again c =
+    let p = c .before .before .before .before .before in
+    let l = at p in
+    let f = p .before .before .before .before in
+    let t = table l in
+    let F = turn p .filled (not-false _ (c .if1 .left)) in
+    let inside : l .loop .i < rowsOf t = omega (arith, f .before .before .loop-test .taken, l .loop .inv .filled .each) in
+    let node : l .loop .i + 1 < length (nodesOf t) = omega (arith, length-nodesOf t) in
+    record {
+      within = omega arith;
+      filled = rw (add-one (l .loop .i + 1)) F;
+      taken = front-stays t (l .before .before .pre .0) node (l .loop .inv .filled) F _ (f .next-free .ensures .0);
+    }
+
+same-length-4 : tie.Need-same-length-4 Inv-loop μ-loop
+same-length-4 c = base-kept (c .before)
+
+same-length-5 : tie.Need-same-length-5 Inv-loop μ-loop
+same-length-5 c = filled-check (c .before .loop .inv .filled)
+
+same-length-6 : tie.Need-same-length-6 Inv-loop μ-loop
+same-length-6 c = work-kept (c .before)
+
+returns-2 : tie.Need-returns-2 Inv-loop μ-loop
+returns-2 c = let l = c .before in all-placed (l .loop .i + 1) (omega (arith, c .loop-test .left, l .loop .inv .within, l .loop .inv .filled .each)) (l .loop .inv .filled)
+
+pub place-rows-spec : {M : Type 1} → statement M
+place-rows-spec =
+    tie.close
+    (tie.spec
+    Inv-loop
+    μ-loop
+    loop-holds
+    next-free-requires
+    place-row-requires
+    same-length
+    same-length-2
+    same-length-3
+    returns
+    add-i
+    loop-less
+    loop-again
+    same-length-4
+    same-length-5
+    same-length-6
+    returns-2)

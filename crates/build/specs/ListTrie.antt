@@ -1,0 +1,49 @@
+-- The trie of a list: "Nodes are the root (slot 0) and one per row". Rows are counted from 0 here. Assumes nothing.
+use mathlib.Core.Path.{_≡_}
+use mathlib.Core.List.{List, [], _∷_}
+use Prim.Native.Nat.{ℕ, zero, suc, _≤_, _<_}
+use lib.IntN.{ℤ, pos, natAbs}
+use Rattle.list.specs.Table.{rowsOf, field, probabilityAt, backoffAt, lengthOf, orderOf, wordOf, words}
+use Rattle.list.specs.ListModel.{continuedIn}
+use Rattle.double_array.specs.DoubleArray.{markerBase}
+use Rattle.placing.specs.Trie.{Node}
+use Rattle.placing.specs.Placing.{Placed, placing}
+
+-- row i's node: "A row's marker has CHECK = p − 1 and BASE = 2 × b + f", and p is not positive
+unfoldable pub nodeOf : List ℤ → ℕ → Node
+nodeOf t i = record { words = words t i; cost = natAbs (probabilityAt t i); load = markerBase (backoffAt t i) (continuedIn t (words t i)) }
+
+-- "CHECK[1] is −1 and BASE[1] is the number of rows": the root's marker
+unfoldable pub rootOf : List ℤ → Node
+rootOf t = record { words = []; cost = 0; load = pos (rowsOf t) }
+
+-- the nodes of the k rows from row i on
+unfoldable pub nodesFrom : List ℤ → ℕ → ℕ → List Node
+nodesFrom t i zero = []
+nodesFrom t i (suc k) = nodeOf t i ∷ nodesFrom t (suc i) k
+
+unfoldable pub nodesOf : List ℤ → List Node
+nodesOf t = rootOf t ∷ nodesFrom t 0 (rowsOf t)
+
+-- the oldest words of the k rows from row i on: where those rows are a node's children, the words that lead to them
+unfoldable pub oldestFrom : List ℤ → ℕ → ℕ → List ℕ
+oldestFrom t i zero = []
+oldestFrom t i (suc k) = wordOf (field t i 1) ∷ oldestFrom t (suc i) k
+
+-- rows 0 to k − 1 have one word each, the others have more
+pub record OneWordRows (t : List ℤ) (k : ℕ) : Type 0 where
+  pub within : k ≤ rowsOf t
+  pub one : (i : ℕ) → i < k → lengthOf t i ≡ 1
+  pub more : (i : ℕ) → k ≤ i → i < rowsOf t → 2 ≤ lengthOf t i
+
+-- the list placed by the placing rule, in room without an upper end
+unfoldable pub placedList : List ℤ → Placed
+placedList t = placing (orderOf t) (nodesOf t)
+
+-- the slots of the nodes of the k rows from row i on
+unfoldable pub slotsFrom : List ℤ → ℕ → ℕ → List ℕ
+slotsFrom t i zero = []
+slotsFrom t i (suc k) = placedList t .slot (words t i) ∷ slotsFrom t (suc i) k
+
+unfoldable pub rowSlots : List ℤ → List ℕ
+rowSlots t = slotsFrom t 0 (rowsOf t)

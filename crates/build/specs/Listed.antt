@@ -1,0 +1,24 @@
+-- What the array built of a list must answer to a lookup, told by the list alone. Assumes nothing.
+use mathlib.Core.Bool.{cond, _&&_}
+use mathlib.Core.List.{List}
+use Prim.Native.Nat.{ℕ}
+use lib.Dec.{leb}
+use lib.ListN.{length}
+use lib.IntN.{ℤ}
+use Rattle.backoff.specs.Limits.{orderLimit}
+use Rattle.backoff.specs.Refusal.{wordCount}
+use Rattle.list.specs.Table.{probabilityAt, backoffAt}
+use Rattle.list.specs.Search.{findIn}
+use Rattle.list.specs.declared.Found.{Found as Row}
+use Rattle.list.specs.declared.Found.the-variants.{At, Nothing}
+use Rattle.double_array.specs.declared.Lookup.{Lookup}
+use Rattle.double_array.specs.declared.Lookup.the-variants.{Found, NotFound, Refused}
+
+-- the row's own p and b
+abbrev pub answerAt : List ℤ → Row → Lookup
+answerAt t (At i) = Found (probabilityAt t i) (backoffAt t i)
+answerAt t Nothing = NotFound
+
+-- "lookup of 0 or above 5 words" is 14; else words, oldest first, are found exactly if they are listed
+unfoldable pub listedAnswer : List ℤ → List ℕ → Lookup
+listedAnswer t ws = cond (leb 1 (length ws) && leb (length ws) orderLimit) (answerAt t (findIn t ws)) (Refused wordCount 0)

@@ -1,0 +1,38 @@
+-- `grader::backoff_build` meets its contract: its numbers are those of build's outcome, and a number 0 says that the array holds the list.
+-- Assumes nothing.
+use borrow.Author.Needs.{needs}
+use mathlib.Core.Path.{_≡_, sym, ap, _∙_}
+use Rattle.backoff.specs.Refusal.{numberOf, placeOf}
+use Rattle.build.proofs.Built.{build-number}
+use Rattle.grader.proofs.backoff_build.Statement.{statement}
+use Rattle.grader.proofs.backoff_build.Tie as tie
+
+build-requires : tie.Need-build-requires
+build-requires c κs = search needs
+
+status-of-requires : tie.Need-status-of-requires
+status-of-requires c κs = search needs
+
+same-length : tie.Need-same-length
+same-length c = search needs
+
+same-length-2 : tie.Need-same-length-2
+same-length-2 c = search needs
+
+same-length-3 : tie.Need-same-length-3
+same-length-3 c = search needs
+
+returns : tie.Need-returns
+returns c =
+    let built = c .before .before .before .before .before .build .ensures in
+    let is = built .0 in
+    let number = c .status-of .ensures .number ∙ ap numberOf (is .answer-is) in
+    let place = c .status-of .ensures .place ∙ ap placeOf (is .answer-is) in (
+      record { status = record { number = number; place = place }; base-is = is .base-is; check-is = is .check-is; work-is = is .work-is },
+      λ e. built .1 (is .answer-is ∙ build-number _ _ _ _ (sym number ∙ e)),
+    )
+
+pub backoff-build-spec : {M : Type 1} → statement M
+backoff-build-spec =
+    tie.close
+    (tie.spec build-requires status-of-requires same-length same-length-2 same-length-3 returns)

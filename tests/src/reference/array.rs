@@ -1,0 +1,92 @@
+//! "The double array" of document 01 as it is read: any two lent slices, whoever wrote them.
+
+use super::list::{Refusal, ACCEPTED, LARGEST_B, LARGEST_WORD, LOWEST_P, MOST_ROWS};
+
+pub const MOST_SLOTS: usize = 1_048_576;
+pub const ROOT: usize = 0;
+
+/// What a sound marker holds.
+#[derive(Clone, Copy, Debug, PartialEq, Eq)]
+pub struct Marker {
+    pub p: i32,
+    pub b: i32,
+    pub f: i32,
+}
+
+/// Two lent slices whose lengths and slots 0 and 1 pass check 11.
+#[derive(Clone, Copy)]
+pub struct Array<'a> {
+    base: &'a [i32],
+    check: &'a [i32],
+}
+
+impl<'a> Array<'a> {
+    /// Nothing where 11 refuses.
+    pub fn new(base: &'a [i32], check: &'a [i32]) -> Option<Array<'a>> {
+        let head = |array: &Array| base[0] == 1 && (1..=5).contains(&check[0]) && check[1] == -1 && (3..=MOST_ROWS).contains(&array.rows());
+        let array = Array { base, check };
+        (lengths_fit(base, check) && head(&array)).then_some(array)
+    }
+
+    pub fn order(&self) -> usize {
+        self.check[0] as usize
+    }
+
+    /// The number of rows that the head tells.
+    pub fn rows(&self) -> usize {
+        self.base[1] as usize
+    }
+
+    pub fn slots(&self) -> usize {
+        self.base.len()
+    }
+
+    /// "A child exists if 1 ≤ d, d + w < N and CHECK[d + w] = s"; a word outside 1..65,535 has none.
+    pub fn child(&self, node: usize, word: u32) -> Option<usize> {
+        let d = self.base[node];
+        if d < 1 || !(1..=LARGEST_WORD as u32).contains(&word) {
+            return None;
+        }
+        let slot = d as usize + word as usize;
+        (self.check.get(slot) == Some(&(node as i32))).then_some(slot)
+    }
+
+    /// "A marker is sound if 1 ≤ d < N and the p and b read from it are in range": nothing where it is not.
+    pub fn marker(&self, node: usize) -> Option<Marker> {
+        let d = usize::try_from(self.base[node]).ok().filter(|&d| 1 <= d && d < self.slots())?;
+        let p = self.check[d].checked_add(1)?;
+        let (b, f) = (self.base[d].div_euclid(2), self.base[d].rem_euclid(2));
+        let in_range = (LOWEST_P..=0).contains(&p) && (-LARGEST_B..=LARGEST_B).contains(&b);
+        in_range.then_some(Marker { p, b, f })
+    }
+}
+
+/// The part of the checks 2 and 11 that both share.
+pub fn lengths_fit(base: &[i32], check: &[i32]) -> bool {
+    base.len() == check.len() && (2..=MOST_SLOTS).contains(&base.len())
+}
+
+/// The answer of a lookup: number and place, found or not, p and b.
+pub type Found = (Refusal, bool, i32, i32);
+
+/// Looks a sequence up, oldest word first: 11, 14, 12.
+pub fn lookup(base: &[i32], check: &[i32], words: &[u32]) -> Found {
+    let refused = |number| ((number, 0), false, 0, 0);
+    let not_found = (ACCEPTED, false, 0, 0);
+    let Some(array) = Array::new(base, check) else { return refused(11) };
+    if words.is_empty() || words.len() > 5 {
+        return refused(14);
+    }
+    if words.len() > array.order() {
+        return not_found;
+    }
+    let mut node = ROOT;
+    let mut found = not_found;
+    for &word in words.iter().rev() {
+        let Some(child) = array.child(node, word) else { return not_found };
+        let Some(marker) = array.marker(child) else { return refused(12) };
+        node = child;
+        found = (ACCEPTED, true, marker.p, marker.b);
+    }
+    found
+}

@@ -1,0 +1,133 @@
+//! The placing rule of document 01, in room without an upper end, and the build.
+
+use super::array::lengths_fit;
+use super::list::{rows, verdict, Refusal, Row, ACCEPTED};
+use std::collections::{HashMap, HashSet};
+
+pub const FREE: i32 = i32::MIN;
+
+/// A node as it is placed: its slot, its d, and the slot of its parent.
+#[derive(Clone, Copy, Default)]
+pub struct Node {
+    pub slot: usize,
+    pub d: usize,
+    pub parent: usize,
+}
+
+/// Builds the double array of a list: 1, 2, row by row 3 to 8, 9, 10.
+pub fn build(table: &[i32], base: &mut [i32], check: &mut [i32], work: &mut [u32]) -> Refusal {
+    let verdict = verdict(table);
+    if verdict.0 == 1 {
+        return verdict;
+    }
+    let count = table.len() / 8;
+    if !lengths_fit(base, check) || work.len() < count {
+        return (2, 0);
+    }
+    if verdict != ACCEPTED {
+        return verdict;
+    }
+    let rows = rows(table);
+    let nodes = place(&rows);
+    base.fill(0);
+    check.fill(FREE);
+    if slots_used(&nodes) > base.len() {
+        work[..count].fill(0);
+        return (10, 0);
+    }
+    write(&rows, &nodes, base, check);
+    for (item, node) in work.iter_mut().zip(&nodes[1..]) {
+        *item = node.slot as u32;
+    }
+    ACCEPTED
+}
+
+/// The smallest N at which the nodes fit.
+pub fn slots_used(nodes: &[Node]) -> usize {
+    nodes.iter().map(|node| node.slot.max(node.d) + 1).max().unwrap_or(0)
+}
+
+/// "Nodes are placed in the order root, row 1, row 2 and so on."
+pub fn place(rows: &[Row]) -> Vec<Node> {
+    let mut room = Room::default();
+    room.take(0);
+    place_by(rows, |words| room.first_fit(words))
+}
+
+/// Places the root and the rows' nodes where `find` tells; it is given each node's child words and takes what it finds.
+pub fn place_by(rows: &[Row], mut find: impl FnMut(&[usize]) -> usize) -> Vec<Node> {
+    let children = children(rows);
+    let mut nodes = vec![Node::default(); rows.len() + 1];
+    for i in 0..nodes.len() {
+        let words: Vec<usize> = children[i].iter().map(|&child| rows[child - 1].words[0] as usize).collect();
+        nodes[i].d = find(&words);
+        for (word, &child) in words.iter().zip(&children[i]) {
+            nodes[child].slot = nodes[i].d + word;
+            nodes[child].parent = nodes[i].slot;
+        }
+    }
+    nodes
+}
+
+/// The children of the root (0) and of each row's node (from 1): the child for word w is the row with w in front.
+fn children(rows: &[Row]) -> Vec<Vec<usize>> {
+    let mut numbers: HashMap<&[i32], usize> = HashMap::from([(&[][..], 0)]);
+    numbers.extend(rows.iter().enumerate().map(|(i, row)| (&row.words[..], i + 1)));
+    let mut children = vec![Vec::new(); rows.len() + 1];
+    for (i, row) in rows.iter().enumerate() {
+        children[numbers[&row.words[1..]]].push(i + 1);
+    }
+    children
+}
+
+/// Slots without an upper end.
+#[derive(Default)]
+struct Room {
+    taken: Vec<bool>,
+    /// All slots below are taken.
+    front: usize,
+}
+
+impl Room {
+    /// "Each node takes the smallest d ≥ 1 for which d and all its children's slots are free."
+    fn first_fit(&mut self, words: &[usize]) -> usize {
+        while !self.free(self.front) {
+            self.front += 1;
+        }
+        let mut d = self.front;
+        while !(self.free(d) && words.iter().all(|word| self.free(d + word))) {
+            d += 1;
+        }
+        self.take(d);
+        for word in words {
+            self.take(d + word);
+        }
+        d
+    }
+
+    fn free(&self, slot: usize) -> bool {
+        !self.taken.get(slot).is_some_and(|&taken| taken)
+    }
+
+    fn take(&mut self, slot: usize) {
+        if slot >= self.taken.len() {
+            self.taken.resize(2 * slot + 1, false);
+        }
+        self.taken[slot] = true;
+    }
+}
+
+/// Writes the nodes, their markers and the head into free slots.
+pub fn write(rows: &[Row], nodes: &[Node], base: &mut [i32], check: &mut [i32]) {
+    let continued: HashSet<&[i32]> = rows.iter().map(|row| &row.words[..row.words.len() - 1]).collect();
+    for (row, node) in rows.iter().zip(&nodes[1..]) {
+        base[node.slot] = node.d as i32;
+        check[node.slot] = node.parent as i32;
+        base[node.d] = 2 * row.b + continued.contains(&row.words[..]) as i32;
+        check[node.d] = row.p - 1;
+    }
+    base[0] = 1;
+    check[0] = rows.last().map_or(0, |row| row.words.len() as i32);
+    base[1] = rows.len() as i32;
+    check[1] = -1;
+}

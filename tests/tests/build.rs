@@ -1,0 +1,183 @@
+//! `backoff_build` against the second builder: the answer, and BASE, CHECK and work number for number.
+
+use tests::damage::{self, Cells};
+use tests::guard::{Guard, Guarded};
+use tests::lists::{self, table};
+use tests::random::Random;
+use tests::reference::array::MOST_SLOTS;
+use tests::reference::build::{build, place, slots_used, FREE};
+use tests::reference::list::{Refusal, Row, ACCEPTED, MOST_ROWS};
+
+/// The lengths of BASE, CHECK and work.
+#[derive(Clone, Copy, Debug)]
+struct Lengths {
+    base: usize,
+    check: usize,
+    work: usize,
+}
+
+impl Lengths {
+    fn of(slots: usize, work: usize) -> Lengths {
+        Lengths { base: slots, check: slots, work }
+    }
+}
+
+/// Builds with both into slices of random numbers; gives what both agree on: the answer, BASE, CHECK and work.
+fn agreed(random: &mut Random, cells: &[i32], lengths: Lengths) -> (Refusal, Vec<i32>, Vec<i32>, Vec<u32>) {
+    let mut base: Vec<i32> = (0..lengths.base).map(|_| random.bits() as i32).collect();
+    let mut check: Vec<i32> = (0..lengths.check).map(|_| random.bits() as i32).collect();
+    let mut work: Vec<u32> = (0..lengths.work).map(|_| random.bits() as u32).collect();
+
+    let mut lent_cells = Guarded::new(cells);
+    let (mut lent_base, mut lent_check, mut lent_work) = (Guarded::new(&base), Guarded::new(&check), Guarded::new(&work));
+    let status = backoff::build(lent_cells.lend(), lent_base.lend(), lent_check.lend(), lent_work.lend());
+    let refusal = (status.number, status.place);
+    assert!(lent_cells.back() == cells, "the lent list was written");
+    if (1..=9).contains(&refusal.0) {
+        let untouched = lent_base.back() == base && lent_check.back() == check && lent_work.back() == work;
+        assert!(untouched, "written before {refusal:?}");
+    }
+
+    assert_eq!(refusal, build(cells, &mut base, &mut check, &mut work), "{lengths:?} {:?}", first_rows(cells));
+    assert_same("BASE", cells, lent_base.back(), &base);
+    assert_same("CHECK", cells, lent_check.back(), &check);
+    assert_same("work", cells, lent_work.back(), &work);
+    (refusal, base, check, work)
+}
+
+fn assert_same<T: Guard + std::fmt::Debug>(name: &str, cells: &[i32], ours: &[T], second: &[T]) {
+    if let Some(i) = (0..second.len()).find(|&i| ours[i] != second[i]) {
+        panic!("{name}[{i}] is {:?}, by the second builder {:?}: {:?}", ours[i], second[i], first_rows(cells));
+    }
+}
+
+fn first_rows(cells: &[i32]) -> &[i32] {
+    &cells[..cells.len().min(400)]
+}
+
+fn needed(rows: &[Row]) -> usize {
+    slots_used(&place(rows))
+}
+
+/// The sample's array as worked by hand, K7 (N = 20 builds) and K8 (row 2 4: node in slot 12, marker in 16).
+#[test]
+fn sample_array() {
+    let cells = table(&lists::sample());
+    let (refusal, base, check, work) = agreed(&mut Random::new(1), &cells, Lengths::of(20, 9));
+    assert_eq!(refusal, ACCEPTED);
+    assert_eq!(base, [1, 9, 7, 8, 9, 10, 11, 0, -5999, 0, -3999, -1999, 16, 0, 13, 17, -999, 0, 0, 18]);
+    let expected = [3, -1, 0, 0, 0, 0, 0, -20001, -990001, -10001, -6001, -9001, 5, -1501, 4, 6, -4001, -3001, -1001, 15];
+    assert_eq!(check, expected);
+    assert_eq!(work, [2, 3, 4, 5, 6, 14, 12, 15, 19]);
+}
+
+/// K7: N = 19 gives 10; all slots are free then, the rows' work items 0 and those past the rows as they were.
+#[test]
+fn k7_one_slot_less() {
+    let cells = table(&lists::sample());
+    let lengths = Lengths { work: 12, ..Lengths::of(19, 9) };
+    let (refusal, base, check, work) = agreed(&mut Random::new(1), &cells, lengths);
+    assert_eq!(refusal, (10, 0));
+    assert!(base.iter().all(|&cell| cell == 0) && check.iter().all(|&cell| cell == FREE));
+    assert!(work[..9].iter().all(|&item| item == 0) && work[9..].iter().all(|&item| item != 0));
+}
+
+/// Random lists with N exactly enough, one less, and more than enough.
+#[test]
+fn random_lists() {
+    let mut random = Random::new(2);
+    for i in 0..1_500 {
+        let rows = lists::small(&mut random, 1 + i % 5);
+        let (cells, slots) = (table(&rows), needed(&rows));
+        let work = rows.len() + random.below(3);
+        assert_eq!(agreed(&mut random, &cells, Lengths::of(slots, work)).0, ACCEPTED);
+        assert_eq!(agreed(&mut random, &cells, Lengths::of(slots - 1, work)).0, (10, 0));
+        let more = slots + random.below(100);
+        assert_eq!(agreed(&mut random, &cells, Lengths::of(more, work)).0, ACCEPTED);
+    }
+}
+
+/// Every N from 0 to 40 on the sample, and the largest ones: 2 out of range, 10 below 20, accepted from there.
+#[test]
+fn all_lengths() {
+    let mut random = Random::new(3);
+    let cells = table(&lists::sample());
+    let mut number = |slots| agreed(&mut random, &cells, Lengths::of(slots, 9)).0 .0;
+    for slots in 0..=40 {
+        let expected = match slots {
+            0..=1 => 2,
+            2..=19 => 10,
+            _ => 0,
+        };
+        assert_eq!(number(slots), expected, "N = {slots}");
+    }
+    assert_eq!(number(MOST_SLOTS), 0);
+    assert_eq!(number(MOST_SLOTS + 1), 2);
+}
+
+/// BASE and CHECK of differing lengths, and a work slice shorter than the rows, give 2.
+#[test]
+fn lengths_that_do_not_fit() {
+    let mut random = Random::new(4);
+    let cells = table(&lists::sample());
+    for (base, check) in [(20, 21), (21, 20), (0, 20), (20, 0), (2, 3), (MOST_SLOTS, MOST_SLOTS + 1)] {
+        assert_eq!(agreed(&mut random, &cells, Lengths { base, check, work: 9 }).0, (2, 0), "{base} {check}");
+    }
+    for work in 0..=12 {
+        let expected = if work < 9 { (2, 0) } else { ACCEPTED };
+        assert_eq!(agreed(&mut random, &cells, Lengths::of(20, work)).0, expected, "work of {work}");
+    }
+}
+
+/// The order of the refusals: 1 before 2, 2 before the rows, the rows before 10.
+#[test]
+fn order_of_refusals() {
+    let mut random = Random::new(5);
+    let mut cells = table(&lists::sample());
+    cells[0] = 9;
+    assert_eq!(agreed(&mut random, &cells[..71], Lengths { base: 1, check: 2, work: 0 }).0, (1, 0));
+    assert_eq!(agreed(&mut random, &cells, Lengths { base: 1, check: 2, work: 0 }).0, (2, 0));
+    assert_eq!(agreed(&mut random, &cells, Lengths::of(20, 8)).0, (2, 0));
+    assert_eq!(agreed(&mut random, &cells, Lengths::of(2, 9)).0, (3, 1));
+    cells = table(&lists::sample());
+    cells.drain(..8);
+    assert_eq!(agreed(&mut random, &cells, Lengths::of(2, 9)).0, (9, 0));
+}
+
+/// Damaged lists are refused as the list check refuses them, and nothing is written.
+#[test]
+fn damaged_lists() {
+    let mut random = Random::new(6);
+    let mut met = [0; 11];
+    for i in 0..300 {
+        let cells: Vec<Cells> = lists::small(&mut random, 1 + i % 5).iter().map(|row| row.cells()).collect();
+        for (_, damage) in damage::kinds() {
+            let mut damaged = cells.clone();
+            let row = random.below(cells.len());
+            damage(&mut random, &mut damaged, row);
+            let work = damaged.len();
+            let slots = random.pick(&[30, 100_000]);
+            let (refusal, ..) = agreed(&mut random, &damaged.concat(), Lengths::of(slots, work));
+            met[refusal.0 as usize] += 1;
+        }
+    }
+    assert!([0, 3, 4, 5, 6, 7, 8, 9, 10].iter().all(|&number| met[number] > 0), "{met:?}");
+}
+
+/// The longest lists, in the largest array and in one exactly large enough.
+#[test]
+fn longest_lists() {
+    let mut random = Random::new(7);
+    let longest = [
+        lists::all_words(&mut random),
+        lists::uniform(&mut random, 5, 65_535, MOST_ROWS),
+        lists::natural(&mut random, 5, 30_000, MOST_ROWS),
+        lists::natural(&mut random, 3, 65_535, MOST_ROWS),
+    ];
+    for rows in longest {
+        let (cells, slots) = (table(&rows), needed(&rows));
+        for (slots, expected) in [(MOST_SLOTS, ACCEPTED), (slots, ACCEPTED), (slots - 1, (10, 0))] {
+            assert_eq!(agreed(&mut random, &cells, Lengths::of(slots, MOST_ROWS)).0, expected, "N = {slots}");
+        }
+    }
+}

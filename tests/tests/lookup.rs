@@ -1,0 +1,288 @@
+//! `backoff_lookup` against the list itself and against the second lookup, over any lent arrays.
+
+use std::collections::HashMap;
+use tests::arrays::{built, drawn, each_change, spread, Arrays};
+use tests::guard::Guarded;
+use tests::lists;
+use tests::random::Random;
+use tests::reference::array::{lookup, Found, MOST_SLOTS};
+use tests::reference::list::{Row, ACCEPTED, MOST_ROWS};
+
+const NOT_FOUND: Found = (ACCEPTED, false, 0, 0);
+
+/// The answer that the call and the second lookup agree on; nothing that is lent may be written.
+fn agreed(arrays: &Arrays, words: &[u32]) -> Found {
+    let (mut base, mut check, mut lent_words) = (Guarded::new(&arrays.base), Guarded::new(&arrays.check), Guarded::new(words));
+    let answer = agreed_in_place(base.lend(), check.lend(), lent_words.lend());
+    assert!(base.back() == arrays.base && check.back() == arrays.check && lent_words.back() == words, "a lent slice was written");
+    answer
+}
+
+/// The same without guard zones, for arrays that are too long to copy for each lookup.
+fn agreed_in_place(base: &[i32], check: &[i32], words: &[u32]) -> Found {
+    let found = backoff::lookup(base, check, words);
+    assert!(found.found <= 1, "the flag is 0 or 1");
+    let answer = ((found.number, found.place), found.found == 1, found.p, found.b);
+    let first = |cells: &'_ [i32]| cells[..cells.len().min(60)].to_vec();
+    assert_eq!(answer, lookup(base, check, words), "{words:?} in BASE {:?}, CHECK {:?}", first(base), first(check));
+    answer
+}
+
+fn unsigned(words: &[i32]) -> Vec<u32> {
+    words.iter().map(|&word| word as u32).collect()
+}
+
+/// All sequences of up to three of the words, and some of four to six.
+fn sequences(words: &[u32]) -> Vec<Vec<u32>> {
+    let mut all = vec![vec![]];
+    let mut last = all.clone();
+    for _ in 0..3 {
+        last = last.iter().flat_map(|rest| words.iter().map(|&word| [&rest[..], &[word]].concat())).collect();
+        all.extend(last.clone());
+    }
+    all.extend([vec![1; 4], vec![4; 5], vec![2; 6], vec![70_000; 7]]);
+    all
+}
+
+/// K6: 2 4 is found with its own two numbers, 5 4 is not found.
+#[test]
+fn k6() {
+    let sample = built(&lists::sample(), 0);
+    assert_eq!(agreed(&sample, &[2, 4]), (ACCEPTED, true, -4_000, -500));
+    assert_eq!(agreed(&sample, &[5, 4]), NOT_FOUND);
+}
+
+/// Lookup of 0 or above 5 words gives 14; of more words than the order is simply not found.
+#[test]
+fn numbers_of_words() {
+    let sample = built(&lists::sample(), 0);
+    for count in 0..=8 {
+        let expected = match count {
+            0 | 6.. => ((14, 0), false, 0, 0),
+            _ if count == 1 => (ACCEPTED, true, -6_000, -2_000),
+            _ => NOT_FOUND,
+        };
+        assert_eq!(agreed(&sample, &vec![4; count]), expected, "{count} words");
+    }
+}
+
+/// Words outside 1..65,535 are unlisted, wherever they stand; no word is replaced.
+#[test]
+fn words_out_of_range() {
+    let largest = lists::all_words(&mut Random::new(1));
+    let arrays = built(&largest, 200_000);
+    assert_eq!(agreed(&arrays, &[65_535]), (ACCEPTED, true, largest[65_534].p, 0));
+    for word in [0, 65_536, 65_537, 131_071, 1 << 20, u32::MAX, u32::MAX - 1, 1 << 31] {
+        assert_eq!(agreed(&arrays, &[word]), NOT_FOUND, "{word}");
+        assert_eq!(agreed(&built(&lists::sample(), 0), &[word, 4]), NOT_FOUND, "{word} 4");
+        assert_eq!(agreed(&built(&lists::sample(), 0), &[4, word]), NOT_FOUND, "4 {word}");
+    }
+}
+
+/// Nor is such a word found where a slot stands as its child would: 65,535 is, 65,536 is not.
+#[test]
+fn no_child_above_the_largest_word() {
+    for node in [0, 5] {
+        let mut arrays = built(&lists::sample(), 0);
+        arrays.plant(node, 65_535);
+        arrays.plant(node, 65_537);
+        let words = |word| if node == 0 { vec![word] } else { vec![word, 4] };
+        assert_eq!(agreed(&arrays, &words(65_535)), (ACCEPTED, true, -4, 0));
+        assert_eq!(agreed(&arrays, &words(65_537)), NOT_FOUND);
+        arrays = built(&lists::sample(), 0);
+        arrays.plant(node, 65_536);
+        assert_eq!(agreed(&arrays, &words(65_536)), NOT_FOUND);
+    }
+}
+
+/// Every row is found with its own p and b, every other sequence is not found, in arrays of either placing.
+#[test]
+fn found_exactly_if_listed() {
+    let mut random = Random::new(2);
+    let mut unlisted = 0;
+    for i in 0..600 {
+        let rows = lists::small(&mut random, 1 + i % 5);
+        let listed: HashMap<Vec<u32>, (i32, i32)> = rows.iter().map(|row| (unsigned(&row.words), (row.p, row.b))).collect();
+        for arrays in [built(&rows, random.below(5)), spread(&mut random, &rows)] {
+            for row in &rows {
+                let words = unsigned(&row.words);
+                assert_eq!(agreed_in_place(&arrays.base, &arrays.check, &words), (ACCEPTED, true, row.p, row.b));
+                let other = neighbour(&mut random, &words);
+                let expected = listed.get(&other).map_or(NOT_FOUND, |&(p, b)| (ACCEPTED, true, p, b));
+                assert_eq!(agreed_in_place(&arrays.base, &arrays.check, &other), expected, "{other:?}");
+                unlisted += !listed.contains_key(&other) as usize;
+            }
+        }
+    }
+    assert!(unlisted > 10_000);
+}
+
+/// A sequence of one to five words that is a row's but for one word, one word more or less, or the order of the words.
+fn neighbour(random: &mut Random, words: &[u32]) -> Vec<u32> {
+    let mut other = words.to_vec();
+    let at = random.below(words.len());
+    let word = random.pick(&[0, 1, 2, 3, 4, 9, 65_535, 65_536, u32::MAX, words[at].wrapping_add(1), words[at] - 1]);
+    match random.below(4) {
+        0 if words.len() < 5 => other.insert(at, word),
+        1 if words.len() > 1 => {
+            other.remove(at);
+        }
+        2 => other.reverse(),
+        _ => other[at] = word,
+    }
+    other
+}
+
+/// All rows of the longest list, and as many sequences that it has not.
+#[test]
+fn longest_list() {
+    let mut random = Random::new(3);
+    let rows: Vec<Row> = lists::natural(&mut random, 5, 30_000, MOST_ROWS);
+    let arrays = built(&rows, 0);
+    for row in &rows {
+        let words = unsigned(&row.words);
+        assert_eq!(agreed_in_place(&arrays.base, &arrays.check, &words), (ACCEPTED, true, row.p, row.b));
+        agreed_in_place(&arrays.base, &arrays.check, &neighbour(&mut random, &words));
+    }
+}
+
+/// How often lookups were found, not found, refused by 11, by 14 and by 12.
+#[derive(Default, Debug)]
+struct Met {
+    found: usize,
+    not_found: usize,
+    refused: [usize; 15],
+}
+
+impl Met {
+    fn add(&mut self, (refusal, found, ..): Found) {
+        self.found += found as usize;
+        self.not_found += (refusal == ACCEPTED && !found) as usize;
+        self.refused[refusal.0 as usize] += 1;
+    }
+
+    fn assert_all(&self) {
+        assert!(self.found > 0 && self.not_found > 0 && [11, 12, 14].iter().all(|&number| self.refused[number] > 0), "{self:?}");
+    }
+}
+
+/// Every single number of the sample's array changed to each of several values.
+#[test]
+fn changed_sample() {
+    let sequences = sequences(&[0, 1, 2, 3, 4, 5, 6, u32::MAX]);
+    let mut met = Met::default();
+    each_change(&built(&lists::sample(), 2), |changed| {
+        for words in &sequences {
+            met.add(agreed_in_place(&changed.base, &changed.check, words));
+        }
+    });
+    met.assert_all();
+}
+
+/// The same with small random lists of every order, and the sequences of their rows.
+#[test]
+fn changed_random_arrays() {
+    let mut random = Random::new(4);
+    let mut met = Met::default();
+    for i in 0..50 {
+        let rows = lists::tiny(&mut random, 1 + i % 5);
+        let mut sequences: Vec<Vec<u32>> = rows.iter().map(|row| unsigned(&row.words)).collect();
+        sequences.extend([vec![], vec![1; 6]]);
+        each_change(&built(&rows, 1), |changed| {
+            for words in &sequences {
+                met.add(agreed_in_place(&changed.base, &changed.check, words));
+                met.add(agreed_in_place(&changed.base, &changed.check, &words[words.len() / 2..]));
+            }
+        });
+    }
+    met.assert_all();
+}
+
+/// Arrays that no build wrote.
+#[test]
+fn drawn_arrays() {
+    let mut random = Random::new(5);
+    let mut met = Met::default();
+    for _ in 0..30_000 {
+        let arrays = drawn(&mut random);
+        for _ in 0..20 {
+            let words: Vec<u32> = (0..random.below(6)).map(|_| random.below(20) as u32).collect();
+            met.add(agreed(&arrays, &words));
+        }
+    }
+    assert!(met.found > 1_000 && met.not_found > 1_000 && met.refused[12] > 1_000, "{met:?}");
+}
+
+/// Arrays of random bits, with lengths that fit or not.
+#[test]
+fn random_bits() {
+    let mut random = Random::new(6);
+    for _ in 0..5_000 {
+        let slots = random.below(10);
+        let mut arrays = Arrays { base: vec![0; slots], check: vec![0; slots + random.below(2)] };
+        arrays.base.iter_mut().chain(&mut arrays.check).for_each(|cell| *cell = random.bits() as i32);
+        assert_eq!(agreed(&arrays, &[1]).0, (11, 0));
+    }
+}
+
+/// 11: lengths that do not fit, and each limit of the head.
+#[test]
+fn lengths_and_head() {
+    let sample = built(&lists::sample(), 0);
+    let head = |base0, base1, check0, check1| {
+        let mut arrays = sample.clone();
+        arrays.base[..2].copy_from_slice(&[base0, base1]);
+        arrays.check[..2].copy_from_slice(&[check0, check1]);
+        agreed(&arrays, &[1]).0 .0
+    };
+    for rows in [3, 9, 65_535] {
+        assert!((1..=5).all(|order| head(1, rows, order, -1) == 0), "{rows} rows");
+    }
+    for (base0, base1, check0, check1) in [
+        (0, 9, 3, -1),
+        (2, 9, 3, -1),
+        (1, 2, 3, -1),
+        (1, 65_536, 3, -1),
+        (1, -9, 3, -1),
+        (1, 9, 0, -1),
+        (1, 9, 6, -1),
+        (1, 9, 3, 0),
+        (1, 9, 3, -2),
+    ] {
+        assert_eq!(head(base0, base1, check0, check1), 11, "{base0} {base1} {check0} {check1}");
+    }
+    let with_lengths = |base: usize, check: usize| {
+        let mut arrays = built(&lists::sample(), MOST_SLOTS - 20 + 1);
+        arrays.base.truncate(base);
+        arrays.check.truncate(check);
+        agreed(&arrays, &[2, 4]).0 .0
+    };
+    for (base, check, number) in [
+        (0, 0, 11),
+        (1, 1, 11),
+        (20, 21, 11),
+        (21, 20, 11),
+        (MOST_SLOTS + 1, MOST_SLOTS + 1, 11),
+        (MOST_SLOTS, MOST_SLOTS + 1, 11),
+        (MOST_SLOTS, MOST_SLOTS, 0),
+        (20, 20, 0),
+        (2, 2, 0),
+    ] {
+        assert_eq!(with_lengths(base, check), number, "{base} {check}");
+    }
+}
+
+/// The order 11, 14, 12; more than n words are not found even where every walk would give 12.
+#[test]
+fn order_of_refusals() {
+    let mut broken = built(&lists::sample(), 0);
+    (2..7).for_each(|slot| broken.base[slot] = 0);
+    assert_eq!(agreed(&broken, &[4]).0, (12, 0));
+    assert_eq!(agreed(&broken, &[70_000, 4]).0, (12, 0), "the newer word is walked first");
+    assert_eq!(agreed(&broken, &[4, 70_000]), NOT_FOUND);
+    assert_eq!(agreed(&broken, &[4; 4]), NOT_FOUND);
+    assert_eq!(agreed(&broken, &[4; 6]).0, (14, 0));
+    assert_eq!(agreed(&broken, &[]).0, (14, 0));
+    broken.check[1] = 0;
+    assert_eq!(agreed(&broken, &[4; 6]).0, (11, 0));
+}
