@@ -163,7 +163,7 @@ fn row_node(table: &[i32], i: usize, item: u32) -> Node
     }
 }
 
-// Places the node of row i. Answers whether it has room.
+// Places the node of row i, whose children's rows are soonest found from `near` on. Answers whether it has room.
 fn place_row(
     table: &[i32],
     i: usize,
@@ -171,13 +171,14 @@ fn place_row(
     check: &mut [i32],
     work: &mut [u32],
     front: usize,
+    near: usize,
 ) -> bool
     requires { ⌜ (verdict (now table) ≡ Accepted) × (i < rowsOf (now table)) × Front (now check) front ⌝ }
     requires { ⌜ Filled (now table) (length (now check)) (placedNodes (now table) (i + 1)) (now base) (now check) (now work) ⌝ }
     ensures { λ r. ⌜ Tried (now (table .entry)) (length (now (check .entry))) (placedNodes (now (table .entry)) (i + 2)) r (now (base .exit)) (now (check .exit)) (now (work .exit)) ⌝ }
 {
     let node = row_node(table, i, work[i]);
-    let list::Span { from, to } = list::children(table, i);
+    let list::Span { from, to } = list::children(table, i, near);
     let first = 8 * from;
     let end = 8 * to;
     place_node(
@@ -195,9 +196,9 @@ fn one_word_rows(table: &[i32]) -> usize
     requires { ⌜ verdict (now table) ≡ Accepted ⌝ }
     ensures { λ r. ⌜ OneWordRows (now (table .entry)) r ⌝ }
 {
-    let rows = table.len() / 8;
+    let count = table.len() / 8;
     let mut k = 0;
-    while k < rows {
+    while k < count {
         if list::length_of(table, k) != 1 {
             return k;
         }
@@ -222,6 +223,18 @@ fn place_root(table: &[i32], base: &mut [i32], check: &mut [i32], work: &mut [u3
     place_node(base, check, &table[..end], &mut work[..k], node, 1)
 }
 
+// The first row from j on whose node has no slot yet: where the children of the next node stand.
+fn next_without_slot(work: &[u32], j: usize) -> usize {
+    let mut k = j;
+    while k < work.len() {
+        if work[k] < 2 {
+            return k;
+        }
+        k += 1;
+    }
+    k
+}
+
 // Places the nodes of the rows, one by one. Answers whether they have room.
 fn place_rows(table: &[i32], base: &mut [i32], check: &mut [i32], work: &mut [u32]) -> bool
     requires { ⌜ verdict (now table) ≡ Accepted ⌝ }
@@ -229,10 +242,12 @@ fn place_rows(table: &[i32], base: &mut [i32], check: &mut [i32], work: &mut [u3
     ensures { λ r. ⌜ Tried (now (table .entry)) (length (now (check .entry))) (placedList (now (table .entry))) r (now (base .exit)) (now (check .exit)) (now (work .exit)) ⌝ }
 {
     let mut front = 1;
+    let mut near = 0;
     let mut i = 0;
     while i < work.len() {
         front = next_free(check, front);
-        if !place_row(table, i, base, check, work, front) {
+        near = next_without_slot(work, near);
+        if !place_row(table, i, base, check, work, front, near) {
             return false;
         }
         i += 1;
@@ -281,17 +296,18 @@ fn wipe(base: &mut [i32], check: &mut [i32], work: &mut [u32])
     zero(work);
 }
 
-// Sets f of the row that is row i without its last word.
-fn mark_row(table: &[i32], i: usize, work: &mut [u32])
+// Sets f of the row that is row i without its last word, and answers where it stands: the next one is often soon after.
+fn mark_row(table: &[i32], i: usize, work: &mut [u32], near: usize) -> usize
     requires { ⌜ (verdict (now table) ≡ Accepted) × (i < rowsOf (now table)) × Flagged (now table) i (now work) ⌝ }
     ensures { λ _. ⌜ Flagged (now (table .entry)) (i + 1) (now (work .exit)) ⌝ }
 {
     let first = 8 * i + 1;
     let last = 8 * i + list::length_of(table, i);
-    let list::Found::At(j) = list::find_row(table, &table[first..last]) else {
-        return;
+    let list::Found::At(j) = list::find_near(table, &table[first..last], near) else {
+        return near;
     };
     work[j] = 1;
+    j
 }
 
 // Sets f of all rows.
@@ -299,9 +315,10 @@ fn mark_continued(table: &[i32], work: &mut [u32])
     requires { ⌜ (verdict (now table) ≡ Accepted) × (now work ≡ replicate (rowsOf (now table)) 0) ⌝ }
     ensures { λ _. ⌜ Flagged (now (table .entry)) (rowsOf (now (table .entry))) (now (work .exit)) ⌝ }
 {
+    let mut near = 0;
     let mut i = 0;
     while i < work.len() {
-        mark_row(table, i, work);
+        near = mark_row(table, i, work, near);
         i += 1;
     }
 }

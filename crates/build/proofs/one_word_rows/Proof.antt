@@ -11,10 +11,10 @@ use Rattle.build.proofs.one_word_rows.Statement.{statement}
 use Rattle.build.proofs.one_word_rows.Tie as tie
 
 abbrev Inv-loop : tie.InvT-loop
-Inv-loop table rows k₀ k = (k ≤ rows) × ((j : ℕ) → j < k → lengthOf table j ≡ 1)
+Inv-loop table count k₀ k = (k ≤ count) × ((j : ℕ) → j < k → lengthOf table j ≡ 1)
 
 abbrev μ-loop : tie.MeasureT-loop
-μ-loop table rows k₀ k = rows - k
+μ-loop table count k₀ k = count - k
 
 loop-holds : tie.Need-loop-holds Inv-loop μ-loop
 loop-holds c = (omega arith, λ j l. absurd (not-suc-le-zero l))

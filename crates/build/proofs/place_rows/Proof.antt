@@ -25,10 +25,10 @@ record Reached (t : List ℤ) (N : ℕ) (base check : List ℤ) (work : List ℕ
   taken : Front check front
 
 abbrev Inv-loop : tie.InvT-loop
-Inv-loop table base₀ check₀ work₀ front₀ i₀ base check work front i = Reached table (length check₀) base check work front i
+Inv-loop table base₀ check₀ work₀ front₀ near₀ i₀ base check work front near i = Reached table (length check₀) base check work front i
 
 abbrev μ-loop : tie.MeasureT-loop
-μ-loop table base₀ check₀ work₀ front₀ i₀ base check work front i = rowsOf table - i
+μ-loop table base₀ check₀ work₀ front₀ near₀ i₀ base check work front near i = rowsOf table - i
 
 loop-holds : tie.Need-loop-holds Inv-loop μ-loop
 loop-holds c = record { within = omega arith; filled = c .before .pre .1; taken = front-first _ }
@@ -36,16 +36,19 @@ loop-holds c = record { within = omega arith; filled = c .before .pre .1; taken 
 next-free-requires : tie.Need-next-free-requires Inv-loop μ-loop
 next-free-requires c κs = c .before .before .loop .inv .taken
 
+next-without-slot-requires : tie.Need-next-without-slot-requires Inv-loop μ-loop
+next-without-slot-requires c κs = search needs
+
 place-row-requires : tie.Need-place-row-requires Inv-loop μ-loop
 place-row-requires c κs =
-    let f = c .before .before .before in
+    let f = c .before .before .before .before .before in
     let l = f .before .before .before in
     let s = l .before .before in
     let F = l .loop .inv .filled in
     ((s .pre .0, omega (arith, f .before .before .loop-test .taken, F .each), f .next-free .ensures .0), filled-here F)
 
 abbrev at : tie.After-place-row Inv-loop μ-loop → tie.At-loop Inv-loop μ-loop
-at c = c .before .before .before .before .before .before .before
+at c = c .before .before .before .before .before .before .before .before .before
 
 abbrev table : tie.At-loop Inv-loop μ-loop → List ℤ
 table l = now (l .before .before .args .table)
@@ -81,13 +84,13 @@ add-i : tie.Need-add-i Inv-loop μ-loop
 add-i c = search needs
 
 loop-less : tie.Need-loop-less Inv-loop μ-loop
-loop-less c = let p = c .before .before .before .before .before in omega (arith, at p .loop .inv .within, p .before .before .before .before .before .before .loop-test .taken, at p .loop .inv .filled .each)
+loop-less c = let p = c .before .before .before .before .before in omega (arith, at p .loop .inv .within, p .before .before .before .before .before .before .before .before .loop-test .taken, at p .loop .inv .filled .each)
 
 loop-again : tie.Need-loop-again Inv-loop μ-loop
 loop-again c =
     let p = c .before .before .before .before .before in
     let l = at p in
-    let f = p .before .before .before .before in
+    let f = p .before .before .before .before .before .before in
     let t = table l in
     let F = turn p .filled (not-false _ (c .if1 .left)) in
     let inside : l .loop .i < rowsOf t = omega (arith, f .before .before .loop-test .taken, l .loop .inv .filled .each) in
@@ -118,6 +121,7 @@ place-rows-spec =
     μ-loop
     loop-holds
     next-free-requires
+    next-without-slot-requires
     place-row-requires
     same-length
     same-length-2
