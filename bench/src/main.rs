@@ -2,11 +2,14 @@
 
 mod array;
 mod list;
+mod plain;
+mod score;
 mod time;
 
 use list::MOST_ROWS;
+use score::LONGEST_RUN;
 use std::time::Duration;
-use tests::lists::{natural, table, uniform};
+use tests::lists::{natural, natural_sentence, table, uniform};
 use tests::random::Random;
 use tests::reference::array::MOST_SLOTS;
 use tests::reference::build::{place, slots_used};
@@ -22,11 +25,14 @@ fn main() {
         List::new("natural, 1,000 rows", natural(&mut random, 5, 1_000, 1_000)),
         List::new("uniform, 1,000 rows", uniform(&mut random, 5, 300, 1_000)),
     ];
-    println!("{:<48} {:>12} {:>12} {:>8}", "", "ours", "Rust", "ratio");
+    println!("{:<52} {:>12} {:>12} {:>8}", "", "ours", "Rust", "ratio");
     for list in &lists {
         bench_check(list);
         let arrays = bench_build(list);
         bench_lookup(&mut random, list, &arrays);
+        let text = unseen_text(&mut random, list);
+        bench_run(list, &arrays, &text);
+        bench_plain(list, &text);
     }
 }
 
@@ -95,8 +101,67 @@ fn bench_lookup(random: &mut Random, list: &List, arrays: &Arrays) {
     print("lookup of twice as many", list, time::medians(ours, rust));
 }
 
+/// The longest text that a call takes: half of it sentences of the natural lists' kind, half the list's words in random order.
+fn unseen_text(random: &mut Random, list: &List) -> Vec<u32> {
+    let mut text = Vec::new();
+    while text.len() < LONGEST_RUN / 2 {
+        text.extend(natural_sentence(random, 30_000).iter().map(|&word| word as u32));
+    }
+    text.extend((text.len()..LONGEST_RUN).map(|_| list.rows[random.below(list.rows.len())].words[0] as u32));
+    text
+}
+
+/// What a scorer leaves behind.
+#[derive(PartialEq)]
+struct Scores {
+    points: Vec<i32>,
+    lengths: Vec<u8>,
+    total: i64,
+}
+
+impl Scores {
+    fn new(words: usize) -> Scores {
+        Scores { points: vec![0; words], lengths: vec![0; words], total: 0 }
+    }
+}
+
+/// A run from start, against Rust over the same arrays and against a HashMap of the rows.
+fn bench_run(list: &List, arrays: &Arrays, text: &[u32]) {
+    let (base, check) = (&arrays.base, &arrays.check);
+    let mut ours = Scores::new(text.len());
+    let mut rust = Scores::new(text.len());
+    let mut state = [0; 9];
+    let mut run_ours = || {
+        assert_eq!(backoff::start(base, check, &mut state).number, 0);
+        ours.total = backoff::run(base, check, &mut state, text, &mut ours.points, &mut ours.lengths).total;
+    };
+    let mut other_state = [0; 9];
+    let run_rust = || {
+        assert_eq!(score::start(base, check, &mut other_state).number, 0);
+        rust.total = score::run(base, check, &mut other_state, text, &mut rust.points, &mut rust.lengths).total;
+    };
+    print("run of 65,535 words", list, time::medians(&mut run_ours, run_rust));
+    let map = plain::Map::new(&list.table);
+    let mut hashed = Scores::new(text.len());
+    let run_hashed = || hashed.total = plain::score(&map, true, text, &mut hashed.points, &mut hashed.lengths);
+    print("the same with a HashMap", list, time::medians(&mut run_ours, run_hashed));
+    assert!(ours == rust && ours == hashed && state == other_state, "the scorers agree");
+}
+
+/// Plain scoring with its check of the list, against Rust with binary search too.
+fn bench_plain(list: &List, text: &[u32]) {
+    let mut ours = Scores::new(text.len());
+    let mut rust = Scores::new(text.len());
+    let times = time::medians(
+        || ours.total = backoff::plain(&list.table, true, text, &mut ours.points, &mut ours.lengths).total,
+        || rust.total = plain::plain(&list.table, true, text, &mut rust.points, &mut rust.lengths).total,
+    );
+    assert!(ours == rust, "the scorers agree");
+    print("plain scoring of 65,535 words", list, times);
+}
+
 fn print(call: &str, list: &List, (ours, rust): (Duration, Duration)) {
     let ratio = ours.as_secs_f64() / rust.as_secs_f64();
     let name = format!("{call}: {}", list.name);
-    println!("{name:<48} {:>9.3} ms {:>9.3} ms {ratio:>8.2}", ours.as_secs_f64() * 1e3, rust.as_secs_f64() * 1e3);
+    println!("{name:<52} {:>9.3} ms {:>9.3} ms {ratio:>8.2}", ours.as_secs_f64() * 1e3, rust.as_secs_f64() * 1e3);
 }

@@ -19,8 +19,17 @@ pub struct Found {
     pub b: i32,
 }
 
+/// The answer of a run: the total of its points, 0 where it was refused.
+#[repr(C)]
+#[derive(Clone, Copy, Debug, PartialEq, Eq)]
+pub struct Total {
+    pub number: u32,
+    pub place: u32,
+    pub total: i64,
+}
+
 mod raw {
-    use super::{Found, Status};
+    use super::{Found, Status, Total};
 
     // A slice crosses as a pointer and a length.
     extern "C" {
@@ -45,6 +54,42 @@ mod raw {
             words: *const u32,
             words_len: usize,
         ) -> Found;
+
+        pub fn backoff_start(
+            base: *const i32,
+            base_len: usize,
+            check: *const i32,
+            check_len: usize,
+            state: *mut i32,
+            state_len: usize,
+        ) -> Status;
+
+        pub fn backoff_run(
+            base: *const i32,
+            base_len: usize,
+            check: *const i32,
+            check_len: usize,
+            state: *mut i32,
+            state_len: usize,
+            words: *const u32,
+            words_len: usize,
+            points: *mut i32,
+            points_len: usize,
+            lengths: *mut u8,
+            lengths_len: usize,
+        ) -> Total;
+
+        pub fn backoff_plain(
+            table: *const i32,
+            table_len: usize,
+            after_start: bool,
+            words: *const u32,
+            words_len: usize,
+            points: *mut i32,
+            points_len: usize,
+            lengths: *mut u8,
+            lengths_len: usize,
+        ) -> Total;
     }
 }
 
@@ -74,4 +119,46 @@ pub fn build(table: &[i32], base: &mut [i32], check: &mut [i32], work: &mut [u32
 /// Looks a sequence up, oldest word first.
 pub fn lookup(base: &[i32], check: &[i32], words: &[u32]) -> Found {
     unsafe { raw::backoff_lookup(base.as_ptr(), base.len(), check.as_ptr(), check.len(), words.as_ptr(), words.len()) }
+}
+
+/// Leaves the state after `<s>` in a slice of nine numbers.
+pub fn start(base: &[i32], check: &[i32], state: &mut [i32]) -> Status {
+    unsafe { raw::backoff_start(base.as_ptr(), base.len(), check.as_ptr(), check.len(), state.as_mut_ptr(), state.len()) }
+}
+
+/// Scores words from the state and leaves the next state in its place.
+pub fn run(base: &[i32], check: &[i32], state: &mut [i32], words: &[u32], points: &mut [i32], lengths: &mut [u8]) -> Total {
+    unsafe {
+        raw::backoff_run(
+            base.as_ptr(),
+            base.len(),
+            check.as_ptr(),
+            check.len(),
+            state.as_mut_ptr(),
+            state.len(),
+            words.as_ptr(),
+            words.len(),
+            points.as_mut_ptr(),
+            points.len(),
+            lengths.as_mut_ptr(),
+            lengths.len(),
+        )
+    }
+}
+
+/// Scores words from the plain list, after `<s>` or with no context.
+pub fn plain(table: &[i32], after_start: bool, words: &[u32], points: &mut [i32], lengths: &mut [u8]) -> Total {
+    unsafe {
+        raw::backoff_plain(
+            table.as_ptr(),
+            table.len(),
+            after_start,
+            words.as_ptr(),
+            words.len(),
+            points.as_mut_ptr(),
+            points.len(),
+            lengths.as_mut_ptr(),
+            lengths.len(),
+        )
+    }
 }

@@ -73,12 +73,28 @@ pub fn natural(random: &mut Random, order: usize, words: i32, rows: usize) -> Ve
 }
 
 /// A sentence between its marks, its words by Zipf's law.
-fn natural_sentence(random: &mut Random, words: i32) -> Vec<i32> {
+pub fn natural_sentence(random: &mut Random, words: i32) -> Vec<i32> {
     let length = 5 + random.below(25);
     let mut sentence = vec![2];
     sentence.extend((0..length).map(|_| 3 + random.zipf(words - 3)));
     sentence.push(3);
     sentence
+}
+
+/// A text over a list: words of its rows, in their order or alone, and words that it may not have.
+pub fn text(random: &mut Random, rows: &[Row], length: usize) -> Vec<u32> {
+    let mut words = Vec::new();
+    while words.len() < length {
+        let row = &rows[random.below(rows.len())].words;
+        match random.below(10) {
+            0 => words.push(random.pick(&[0, 1, 2, 3, 65_535, 65_536, u32::MAX])),
+            1 => words.push(random.bits() as u32),
+            2..=4 => words.push(row[0] as u32),
+            _ => words.extend(row.iter().map(|&word| word as u32)),
+        }
+    }
+    words.truncate(length);
+    words
 }
 
 /// The marks and some further words, the largest among them in one list of four.

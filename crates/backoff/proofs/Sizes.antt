@@ -37,14 +37,14 @@ probability-size p e =
     omega (zarith, abs p)
 
 -- a back-off lies between −990,000 and 990,000
-backoff-size : (b : ℤ) → inBackoff b ≡ true → (up b ≤ down b + largestBackoff) × (down b ≤ up b + largestBackoff)
+pub backoff-size : (b : ℤ) → inBackoff b ≡ true → (up b ≤ down b + largestBackoff) × (down b ≤ up b + largestBackoff)
 unfolding inBackoff
 backoff-size b e =
     let l = between-low (negℤ (pos largestBackoff)) (pos largestBackoff) b e in
     let h = between-high (negℤ (pos largestBackoff)) (pos largestBackoff) b e in
     (omega zarith, omega zarith)
 
-each-in-backoff : (bs : List ℤ) → all (map inBackoff bs) ≡ true → (i : ℕ) → inBackoff (getD bs i (pos 0)) ≡ true
+pub each-in-backoff : (bs : List ℤ) → all (map inBackoff bs) ≡ true → (i : ℕ) → inBackoff (getD bs i (pos 0)) ≡ true
 unfolding inBackoff between
 each-in-backoff bs e i = sym (List·getD-map inBackoff bs i (pos 0)) ∙ passed (map inBackoff bs) i e
 

@@ -17,6 +17,10 @@ pub const LEAST_BACKOFF: i32 = -990000;
 
 pub const LARGEST_BACKOFF: i32 = 990000;
 
+pub const UNKNOWN_WORD: u32 = 1;
+
+pub const START_WORD: u32 = 2;
+
 pub const TABLE_LENGTH: u32 = 1;
 
 pub const ARRAY_LENGTH: u32 = 2;

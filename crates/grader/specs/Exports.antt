@@ -4,12 +4,15 @@ use mathlib.Core.List.{List}
 use Prim.Native.Nat.{ℕ}
 use lib.IntN.{ℤ}
 use Rattle.backoff.specs.Refusal.{numberOf, placeOf}
+use Rattle.backoff.specs.Run.{Answer}
+use Rattle.backoff.specs.Store.{Started}
 use Rattle.backoff.specs.declared.Verdict.{Verdict}
 use Rattle.double_array.specs.Lookup as lookup
 use Rattle.double_array.specs.declared.Lookup.{Lookup}
 use Rattle.build.specs.Build.{Built}
 use Rattle.grader.specs.declared.Status.{Status}
 use Rattle.grader.specs.declared.Found.{Found}
+use Rattle.grader.specs.declared.Total.{Total}
 
 -- a verdict as its number and place
 pub record StatusIs (v : Verdict) (r : Status) : Type 0 where
@@ -30,3 +33,22 @@ pub record BuiltIs (o : Built) (r : Status) (base check : List ℤ) (work : List
   pub base-is : base ≡ o .base
   pub check-is : check ≡ o .check
   pub work-is : work ≡ o .work
+
+-- start's answer, and the slice of the state at exit
+pub record StartedIs (a : Started) (r : Status) (state : List ℤ) : Type 0 where
+  pub number : r .number ≡ a .number
+  pub place : r .place ≡ a .place
+  pub state-is : state ≡ a .state
+
+-- a run's answer or that of plain scoring, and the slices of points and of length bytes at exit
+pub record TotalIs {S : Type 0} (a : Answer S) (r : Total) (points : List ℤ) (lengths : List ℕ) : Type 0 where
+  pub number : r .number ≡ a .number
+  pub place : r .place ≡ a .place
+  pub total : r .total ≡ a .total
+  pub points-are : points ≡ a .points
+  pub lengths-are : lengths ≡ a .lengths
+
+-- a run's answer with the slice of the state at exit
+pub record RanIs (a : Answer (List ℤ)) (r : Total) (state points : List ℤ) (lengths : List ℕ) : Type 0 where
+  pub total : TotalIs a r points lengths
+  pub end-is : state ≡ a .end

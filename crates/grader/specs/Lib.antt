@@ -1,2 +1,4 @@
--- The answers that cross to C.
+-- The answers that cross to C, and the statements over the calls.
 pub mod Exports
+pub mod RunsInARow
+pub mod MarkedCases

@@ -1,6 +1,7 @@
 // The calls that cross to C. A slice is a pointer and then a length. Each export is thin: one call, and its answer as numbers.
 use backoff::Verdict;
 use double_array::Lookup;
+use score::State;
 ghost use mathlib.Core.Path.{_≡_};
 ghost use lib.ListN.{length};
 ghost use Rattle.backoff.specs.Model.{AcceptedModel};
@@ -8,7 +9,13 @@ ghost use Rattle.list.specs.Check.{verdict};
 ghost use Rattle.list.specs.ListModel.{modelOf};
 ghost use Rattle.double_array.specs.Lookup.{lookupOutcome, LookupMeans};
 ghost use Rattle.build.specs.Build.{buildOutcome, BuildMeans};
-ghost use Rattle.grader.specs.Exports.{StatusIs, FoundIs, BuiltIs};
+ghost use Rattle.backoff.specs.Run.{Run};
+ghost use Rattle.backoff.specs.Store.{startOutcome, runOutcome};
+ghost use Rattle.double_array.specs.DoubleArray.{opened};
+ghost use Rattle.score.specs.Answers.{numbersOf};
+ghost use Rattle.score.specs.Meaning.{StartMeans, RunMeans};
+ghost use Rattle.plain.specs.Plain.{runOf, plainOutcome, PlainMeans};
+ghost use Rattle.grader.specs.Exports.{StatusIs, FoundIs, BuiltIs, StartedIs, TotalIs, RanIs};
 
 // The refusal's number and place, 0 and 0 where nothing is refused.
 #[repr(C)]
@@ -26,6 +33,17 @@ pub struct Found {
     pub p: i32,
     pub b: i32,
 }
+
+// The answer of a run or of plain scoring: the total of the points, 0 where it was refused.
+#[repr(C)]
+pub struct Total {
+    pub number: u32,
+    pub place: u32,
+    pub total: i64,
+}
+
+// A state crosses as nine numbers.
+const STATE_LENGTH: usize = 9;
 
 fn status_of(v: Verdict) -> Status
     ensures { λ r. ⌜ StatusIs v r ⌝ }
@@ -67,6 +85,37 @@ fn found_of(l: Lookup) -> Found
     }
 }
 
+// The state that nine numbers are.
+fn load(numbers: &[i32]) -> State
+    requires { ⌜ length (now numbers) ≡ 9 ⌝ }
+    ensures { λ r. ⌜ numbersOf r ≡ now (numbers .entry) ⌝ }
+{
+    State {
+        count: numbers[0],
+        words: [numbers[1], numbers[2], numbers[3], numbers[4]],
+        backoffs: [numbers[5], numbers[6], numbers[7], numbers[8]],
+    }
+}
+
+// Writes a state as nine numbers.
+fn store(state: State, numbers: &mut [i32])
+    requires { ⌜ length (now numbers) ≡ 9 ⌝ }
+    ensures { λ _. ⌜ now (numbers .exit) ≡ numbersOf state ⌝ }
+{
+    let count = state.count;
+    let words = state.words;
+    let backoffs = state.backoffs;
+    numbers[0] = count;
+    numbers[1] = words[0];
+    numbers[2] = words[1];
+    numbers[3] = words[2];
+    numbers[4] = words[3];
+    numbers[5] = backoffs[0];
+    numbers[6] = backoffs[1];
+    numbers[7] = backoffs[2];
+    numbers[8] = backoffs[3];
+}
+
 // Checks a list: 1, then row by row 3 to 8, then 9.
 #[no_mangle]
 pub extern "C" fn backoff_check(table: &[i32]) -> Status
@@ -97,4 +146,75 @@ pub extern "C" fn backoff_lookup(base: &[i32], check: &[i32], words: &[u32]) -> 
     ensures meaning { λ _. ⌜ LookupMeans (now (base .entry)) (now (check .entry)) (now (words .entry)) (lookupOutcome (now (base .entry)) (now (check .entry)) (now (words .entry))) ⌝ }
 {
     found_of(double_array::look_up(base, check, words))
+}
+
+// Leaves the state after `<s>` in a slice of nine: 16 for another length, 11, 12.
+#[no_mangle]
+pub extern "C" fn backoff_start(base: &[i32], check: &[i32], state: &mut [i32]) -> Status
+    ensures outcome { λ r. ⌜ StartedIs (startOutcome (opened (now (base .entry)) (now (check .entry))) (now (state .entry))) r (now (state .exit)) ⌝ }
+    ensures meaning { λ _. ⌜ (length (now (state .entry)) ≡ 9 → StartMeans (now (base .entry)) (now (check .entry)) (startOutcome (opened (now (base .entry)) (now (check .entry))) (now (state .entry)))) ⌝ }
+{
+    if state.len() != STATE_LENGTH {
+        return Status {
+            number: backoff::BAD_STATE,
+            place: 0,
+        };
+    }
+    let started = score::start(base, check);
+    let begun = started.state;
+    store(begun, state);
+    Status {
+        number: started.number,
+        place: started.place,
+    }
+}
+
+// Scores the words from the state, and leaves the next state in its place: 16 for another length than nine, 11, 16, 14, 15, 12.
+#[no_mangle]
+pub extern "C" fn backoff_run(
+    base: &[i32],
+    check: &[i32],
+    state: &mut [i32],
+    words: &[u32],
+    points: &mut [i32],
+    lengths: &mut [u8],
+) -> Total
+    ensures outcome { λ r. ⌜ RanIs (runOutcome (opened (now (base .entry)) (now (check .entry))) (now (state .entry)) (runOf (now (words .entry)) (now (points .entry)) (now (lengths .entry)))) r (now (state .exit)) (now (points .exit)) (now (lengths .exit)) ⌝ }
+    ensures meaning { λ _. ⌜ (length (now (state .entry)) ≡ 9 → RunMeans (now (base .entry)) (now (check .entry)) (now (state .entry)) (runOf (now (words .entry)) (now (points .entry)) (now (lengths .entry))) (runOutcome (opened (now (base .entry)) (now (check .entry))) (now (state .entry)) (runOf (now (words .entry)) (now (points .entry)) (now (lengths .entry))))) ⌝ }
+{
+    if state.len() != STATE_LENGTH {
+        return Total {
+            number: backoff::BAD_STATE,
+            place: 0,
+            total: 0,
+        };
+    }
+    let ran = score::run(base, check, load(state), words, points, lengths);
+    let end = ran.end;
+    store(end, state);
+    Total {
+        number: ran.number,
+        place: ran.place,
+        total: ran.total,
+    }
+}
+
+// Scores the words by the list alone, after `<s>` or with no context: 1, rows 3 to 8, 9, then 14, 15.
+#[no_mangle]
+pub extern "C" fn backoff_plain(
+    table: &[i32],
+    after_start: bool,
+    words: &[u32],
+    points: &mut [i32],
+    lengths: &mut [u8],
+) -> Total
+    ensures outcome { λ r. ⌜ TotalIs (plainOutcome (now (table .entry)) «after_start» (runOf (now (words .entry)) (now (points .entry)) (now (lengths .entry)))) r (now (points .exit)) (now (lengths .exit)) ⌝ }
+    ensures meaning { λ r. ⌜ PlainMeans (now (table .entry)) «after_start» (runOf (now (words .entry)) (now (points .entry)) (now (lengths .entry))) (r .number) (r .total) (now (points .exit)) (now (lengths .exit)) ⌝ }
+{
+    let scored = plain::score_plain(table, after_start, words, points, lengths);
+    Total {
+        number: scored.number,
+        place: scored.place,
+        total: scored.total,
+    }
 }

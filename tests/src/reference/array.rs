@@ -13,6 +13,13 @@ pub struct Marker {
     pub f: i32,
 }
 
+impl Marker {
+    /// "A row is live if its b is not 0 or its f is 1."
+    pub fn live(self) -> bool {
+        self.b != 0 || self.f == 1
+    }
+}
+
 /// Two lent slices whose lengths and slots 0 and 1 pass check 11.
 #[derive(Clone, Copy)]
 pub struct Array<'a> {

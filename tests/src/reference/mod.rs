@@ -3,3 +3,5 @@
 pub mod array;
 pub mod build;
 pub mod list;
+pub mod rule;
+pub mod score;

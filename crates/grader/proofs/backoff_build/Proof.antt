@@ -1,7 +1,7 @@
 -- `grader::backoff_build` meets its contract: its numbers are those of build's outcome, and a number 0 says that the array holds the list.
 -- Assumes nothing.
 use borrow.Author.Needs.{needs}
-use mathlib.Core.Path.{_≡_, sym, ap, _∙_}
+use mathlib.Core.Path.{sym, ap, _∙_}
 use Rattle.backoff.specs.Refusal.{numberOf, placeOf}
 use Rattle.build.proofs.Built.{build-number}
 use Rattle.grader.proofs.backoff_build.Statement.{statement}

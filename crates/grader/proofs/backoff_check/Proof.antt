@@ -1,7 +1,7 @@
 -- `grader::backoff_check` meets its contract: its numbers are those of the list's verdict, and a number 0 says that the list is accepted.
 -- Assumes nothing.
 use borrow.Author.Needs.{needs}
-use mathlib.Core.Path.{_≡_, sym, ap, _∙_}
+use mathlib.Core.Path.{sym, ap, _∙_}
 use Rattle.backoff.specs.Refusal.{numberOf, placeOf}
 use Rattle.list.proofs.Check.{number-accepted}
 use Rattle.list.proofs.ListModel.{accepted-model}

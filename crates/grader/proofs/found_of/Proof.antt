@@ -1,7 +1,6 @@
 -- `grader::found_of` meets its contract: each case's numbers are those of its definition. Assumes nothing.
 use borrow.Author.Needs.{needs, sfits-of}
-use mathlib.Core.Path.{_≡_, sym, ap, _∙_}
-use lib.IntN.{ℤ}
+use mathlib.Core.Path.{sym, ap, _∙_}
 use mir.Facts.{toZ-ofZ}
 use Rattle.double_array.specs.Lookup.{numberOf, placeOf, foundOf, pOf, bOf}
 use Rattle.grader.proofs.found_of.Statement.{statement}

@@ -1,0 +1,151 @@
+//! Plain scoring as the team writes it in Rust, by binary search in the list; and by a HashMap of the rows.
+
+use crate::list::{self, low, Row, LARGEST_WORD};
+use crate::score::LONGEST_RUN;
+use backoff::Total;
+use std::collections::HashMap;
+
+/// The rows of a list, to be found by their words: one number of 80 bits, the newest word in the lowest 16.
+pub trait Rows {
+    fn order(&self) -> usize;
+
+    /// p and b of a row of m words.
+    fn find(&self, m: usize, words: u128) -> Option<(i32, i32)>;
+}
+
+/// An accepted table, where the rows of m words stand from starts[m - 1] to starts[m].
+struct Table<'a> {
+    rows: &'a [Row],
+    starts: [usize; 6],
+}
+
+impl Table<'_> {
+    fn new(table: &[i32]) -> Table<'_> {
+        let (rows, _) = table.as_chunks::<8>();
+        let mut starts = [0; 6];
+        for (m, start) in starts.iter_mut().enumerate() {
+            *start = rows.partition_point(|row| row[0] as usize <= m);
+        }
+        Table { rows, starts }
+    }
+}
+
+impl Rows for Table<'_> {
+    fn order(&self) -> usize {
+        self.rows[self.rows.len() - 1][0] as usize
+    }
+
+    #[inline]
+    fn find(&self, m: usize, words: u128) -> Option<(i32, i32)> {
+        let rows = &self.rows[self.starts[m - 1]..self.starts[m]];
+        // The oldest word comes first in a row and lowest in its key.
+        let key = (0..m).fold(0, |key, i| key << 16 | (words >> (16 * i) & 0xFFFF));
+        let at = rows.binary_search_by_key(&key, |row| low(row) as u128 | (row[5] as u128) << 64).ok()?;
+        Some((rows[at][6], rows[at][7]))
+    }
+}
+
+/// The rows in Rust's own map, with its own hash.
+pub struct Map {
+    order: usize,
+    rows: HashMap<(usize, u128), (i32, i32)>,
+}
+
+impl Map {
+    pub fn new(table: &[i32]) -> Map {
+        let (rows, _) = table.as_chunks::<8>();
+        let key = |row: &Row| {
+            let m = row[0] as usize;
+            (m, row[1..=m].iter().fold(0, |key, &word| key << 16 | word as u128))
+        };
+        let rows: HashMap<_, _> = rows.iter().map(|row| (key(row), (row[6], row[7]))).collect();
+        Map { order: rows.keys().map(|key| key.0).max().unwrap_or(0), rows }
+    }
+}
+
+impl Rows for Map {
+    fn order(&self) -> usize {
+        self.order
+    }
+
+    fn find(&self, m: usize, words: u128) -> Option<(i32, i32)> {
+        self.rows.get(&(m, words)).copied()
+    }
+}
+
+/// Scores words from the plain list: 1, row by row 3 to 8, 9, 14, 15.
+pub fn plain(table: &[i32], after_start: bool, words: &[u32], points: &mut [i32], lengths: &mut [u8]) -> Total {
+    let refused = |number, place| Total { number, place, total: 0 };
+    let verdict = list::check(table);
+    if verdict.number != 0 {
+        return refused(verdict.number, verdict.place);
+    }
+    if words.len() > LONGEST_RUN {
+        return refused(14, 0);
+    }
+    if points.len() < words.len() || lengths.len() < words.len() {
+        return refused(15, 0);
+    }
+    Total { number: 0, place: 0, total: score(&Table::new(table), after_start, words, points, lengths) }
+}
+
+/// Scores each word after the words before it and gives the total.
+pub fn score(rows: &impl Rows, after_start: bool, words: &[u32], points: &mut [i32], lengths: &mut [u8]) -> i64 {
+    let most = rows.order() - 1;
+    let mut history: u128 = 2;
+    let mut count = most.min(after_start as usize);
+    let mut total = 0;
+    for i in 0..words.len() {
+        let known = (2..=LARGEST_WORD as u32).contains(&words[i]) && rows.find(1, words[i] as u128).is_some();
+        let word = if known { words[i] as u128 } else { 1 };
+        let (word_points, matched) = back_off(rows, history, count, word);
+        points[i] = word_points;
+        lengths[i] = matched as u8 + if known { 0 } else { 8 };
+        total += word_points as i64;
+        history = history << 16 | word;
+        count = most.min(count + 1);
+    }
+    total
+}
+
+/// The longest row of history and word, and the back-offs of the histories that are too long for it.
+#[inline]
+fn back_off(rows: &impl Rows, history: u128, count: usize, word: u128) -> (i32, usize) {
+    let newest = |length: usize| history & ((1 << (16 * length)) - 1);
+    let mut points = 0;
+    let mut matched = 0;
+    while matched <= count {
+        let Some((p, _)) = rows.find(matched + 1, newest(matched) << 16 | word) else { break };
+        points = p;
+        matched += 1;
+    }
+    for length in matched..=count {
+        let Some((_, b)) = rows.find(length, newest(length)) else { break };
+        points += b;
+    }
+    (points, matched)
+}
+
+#[cfg(test)]
+mod tests {
+    use tests::lists::{small, table, text};
+    use tests::random::Random;
+    use tests::reference;
+
+    /// The scorers that ours is timed against give the rule's points and matched lengths.
+    #[test]
+    fn same_points() {
+        let mut random = Random::new(1);
+        for i in 0..2_000 {
+            let rows = small(&mut random, 1 + i % 5);
+            let (table, words) = (table(&rows), text(&mut random, &rows, 20));
+            let (mut points, mut lengths) = ([0; 20], [0; 20]);
+            let (_, total) = reference::rule::plain(&table, i % 2 == 0, &words, &mut points, &mut lengths);
+            let (mut points2, mut lengths2) = ([0; 20], [0; 20]);
+            assert_eq!(super::plain(&table, i % 2 == 0, &words, &mut points2, &mut lengths2).total, total);
+            assert_eq!((points, lengths), (points2, lengths2));
+            assert_eq!(super::score(&super::Map::new(&table), i % 2 == 0, &words, &mut points2, &mut lengths2), total);
+            assert_eq!((points, lengths), (points2, lengths2));
+        }
+    }
+}

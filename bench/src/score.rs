@@ -1,0 +1,158 @@
+//! Start and run as the team writes them in Rust, over the same arrays with the same checks.
+
+use crate::array::{child, head_fits, marker};
+use crate::list::{LARGEST_B, LARGEST_WORD};
+use backoff::{Status, Total};
+
+pub const LONGEST_RUN: usize = 65_535;
+
+/// Words newest first, and the back-offs of the newest word, of the newest two, and so on; unused ones are 0.
+#[derive(Clone, Copy, Default)]
+struct State {
+    count: usize,
+    words: [u32; 4],
+    back_offs: [i32; 4],
+}
+
+impl State {
+    /// Nothing where 16 refuses.
+    fn read(cells: &[i32; 9], order: i32) -> Option<State> {
+        let count = cells[0];
+        if count < 0 || count >= order {
+            return None;
+        }
+        let mut state = State { count: count as usize, ..State::default() };
+        for i in 0..4 {
+            let (word, b) = (cells[1 + i], cells[5 + i]);
+            let fits = if i < state.count {
+                (1..=LARGEST_WORD).contains(&word) && (-LARGEST_B..=LARGEST_B).contains(&b)
+            } else {
+                word == 0 && b == 0
+            };
+            if !fits {
+                return None;
+            }
+            state.words[i] = word as u32;
+            state.back_offs[i] = b;
+        }
+        Some(state)
+    }
+
+    fn write(&self, cells: &mut [i32; 9]) {
+        cells[0] = self.count as i32;
+        for i in 0..4 {
+            cells[1 + i] = self.words[i] as i32;
+            cells[5 + i] = self.back_offs[i];
+        }
+    }
+}
+
+/// Scores a word and moves the state on; gives points and length byte, nothing where 12 refuses.
+#[inline]
+fn step(base: &[i32], check: &[i32], order: usize, state: &mut State, word: u32) -> Option<(i32, u8)> {
+    let known = if word == 1 { None } else { child(base, check, 0, word) };
+    let (mut node, word, kind) = match known {
+        Some(slot) => (slot, word, 0),
+        None => (child(base, check, 0, 1)?, 1, 8),
+    };
+    let mut next = State::default();
+    let mut matched = 0;
+    let mut p;
+    loop {
+        let packed;
+        (p, packed) = marker(base, check, node)?;
+        if matched < 4 {
+            next.back_offs[matched] = packed >> 1;
+        }
+        matched += 1;
+        if packed != 0 && matched < order {
+            next.count = matched;
+        }
+        if matched > state.count {
+            break;
+        }
+        match child(base, check, node, state.words[matched - 1]) {
+            Some(slot) => node = slot,
+            None => break,
+        }
+    }
+    let points = p + state.back_offs[matched - 1..].iter().sum::<i32>();
+    let older = state.words;
+    for i in 0..next.count {
+        next.words[i] = if i == 0 { word } else { older[i - 1] };
+    }
+    next.back_offs[next.count..].fill(0);
+    *state = next;
+    Some((points, matched as u8 + kind))
+}
+
+/// The state after `<s>`.
+pub fn start(base: &[i32], check: &[i32], cells: &mut [i32]) -> Status {
+    let refused = |number| Status { number, place: 0 };
+    let Ok(cells) = <&mut [i32; 9]>::try_from(cells) else { return refused(16) };
+    cells.fill(0);
+    if !head_fits(base, check) {
+        return refused(11);
+    }
+    let mut state = State::default();
+    if step(base, check, check[0] as usize, &mut state, 2).is_none() {
+        return refused(12);
+    }
+    state.write(cells);
+    refused(0)
+}
+
+/// Scores a run's words: 11, 16, 14, 15, 12.
+pub fn run(base: &[i32], check: &[i32], cells: &mut [i32], words: &[u32], points: &mut [i32], lengths: &mut [u8]) -> Total {
+    let refused = |number, place| Total { number, place, total: 0 };
+    let Ok(cells) = <&mut [i32; 9]>::try_from(cells) else { return refused(16, 0) };
+    if !head_fits(base, check) {
+        return refused(11, 0);
+    }
+    let Some(mut state) = State::read(cells, check[0]) else { return refused(16, 0) };
+    if words.len() > LONGEST_RUN {
+        return refused(14, 0);
+    }
+    if points.len() < words.len() || lengths.len() < words.len() {
+        return refused(15, 0);
+    }
+    let (points, lengths) = (&mut points[..words.len()], &mut lengths[..words.len()]);
+    let order = check[0] as usize;
+    let mut total = 0;
+    for i in 0..words.len() {
+        let Some((word_points, length)) = step(base, check, order, &mut state, words[i]) else {
+            points.fill(0);
+            lengths.fill(0);
+            return refused(12, i as u32 + 1);
+        };
+        points[i] = word_points;
+        lengths[i] = length;
+        total += word_points as i64;
+    }
+    state.write(cells);
+    Total { number: 0, place: 0, total }
+}
+
+#[cfg(test)]
+mod tests {
+    use tests::arrays::drawn;
+    use tests::random::Random;
+    use tests::reference;
+
+    /// The scorer that ours is timed against gives the same over any arrays.
+    #[test]
+    fn same_runs() {
+        let mut random = Random::new(1);
+        for _ in 0..20_000 {
+            let arrays = drawn(&mut random);
+            let words: Vec<u32> = (0..6).map(|_| random.below(30) as u32).collect();
+            let (mut ours, mut second) = (([1; 9], [1; 6], [1; 6]), ([1; 9], [1; 6], [1; 6]));
+            let status = super::start(&arrays.base, &arrays.check, &mut ours.0);
+            let refusal = reference::score::start(&arrays.base, &arrays.check, &mut second.0);
+            assert_eq!((status.number, status.place), refusal);
+            let total = super::run(&arrays.base, &arrays.check, &mut ours.0, &words, &mut ours.1, &mut ours.2);
+            let refused = reference::score::run(&arrays.base, &arrays.check, &mut second.0, &words, &mut second.1, &mut second.2);
+            assert_eq!((((total.number, total.place), total.total), ours), (refused, second));
+        }
+    }
+}

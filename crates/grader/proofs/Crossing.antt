@@ -1,0 +1,49 @@
+-- How start and run cross: a slice of another length than nine, and answers whose state is nine numbers. Assumes nothing.
+use mathlib.Core.Path.{_≡_, refl, ap, subst, _∙_}
+use mathlib.Core.List.{List}
+use mathlib.Core.Option.{Option}
+use Prim.Native.Nat.{ℕ}
+use lib.ListN.{length}
+use lib.IntN.{ℤ, pos}
+use borrow.Author.Tests.{eq-eqb, ne-eqb}
+use Rattle.backoff.specs.Run.{Run, Answer, refusedRun}
+use Rattle.backoff.specs.NineNumbers.{nineZeros}
+use Rattle.backoff.specs.Store.{Store, Started, runOutcome, startOutcome}
+use Rattle.score.specs.Meaning.{StartMeans, RunMeans}
+use Rattle.grader.specs.Exports.{StartedIs, RanIs}
+
+module _ (o : Option Store) (l : List ℤ) (n : length l ≡ 9 → ⊥) where
+  pub start-wrong-length : StartedIs (startOutcome o l) (record { number = 16; place = 0 }) l
+  unfolding startOutcome
+  start-wrong-length = rw (ne-eqb (length l) 9 n) (record { number = refl; place = refl; state-is = refl })
+
+  pub run-wrong-length : (r : Run) → RanIs (runOutcome o l r) (record { number = 16; place = 0; total = pos 0 }) l (r .points) (r .lengths)
+  unfolding runOutcome refusedRun
+  run-wrong-length r = rw (ne-eqb (length l) 9 n) (record { total = record { number = refl; place = refl; total = refl; points-are = refl; lengths-are = refl }; end-is = refl })
+
+-- start does not read the slice that it is lent
+pub start-any : (o : Option Store) (l : List ℤ) → length l ≡ 9 → startOutcome o nineZeros ≡ startOutcome o l
+unfolding startOutcome
+start-any o l e = rw (eq-eqb (length l) 9 e)
+
+module _ {number place : ℕ} where
+  pub start-crosses : {a : Started} {state end : List ℤ} → _≡_ {A = Started} (record { number = number; place = place; state = state }) a → end ≡ state → StartedIs a (record { number = number; place = place }) end
+  start-crosses e f = record { number = ap (λ (x : Started). x .number) e; place = ap (λ (x : Started). x .place) e; state-is = f ∙ ap (λ (x : Started). x .state) e }
+
+  pub run-crosses : {a : Answer (List ℤ)} {total bits : ℤ} {state end points : List ℤ} {lengths : List ℕ} → _≡_ {A = Answer (List ℤ)} (record { number = number; place = place; total = total; end = state; points = points; lengths = lengths }) a → bits ≡ total → end ≡ state → RanIs a (record { number = number; place = place; total = bits }) end points lengths
+  run-crosses e f g = record {
+    total = record {
+      number = ap (λ (x : Answer (List ℤ)). x .number) e;
+      place = ap (λ (x : Answer (List ℤ)). x .place) e;
+      total = f ∙ ap (λ (x : Answer (List ℤ)). x .total) e;
+      points-are = ap (λ (x : Answer (List ℤ)). x .points) e;
+      lengths-are = ap (λ (x : Answer (List ℤ)). x .lengths) e;
+    };
+    end-is = g ∙ ap (λ (x : Answer (List ℤ)). x .end) e;
+  }
+
+pub start-means : {base check : List ℤ} {a b : Started} → a ≡ b → StartMeans base check a → StartMeans base check b
+start-means {base} {check} e m = subst (λ (x : Started). StartMeans base check x) e m
+
+pub run-means : {base check l k : List ℤ} {r : Run} {a b : Answer (List ℤ)} → l ≡ k → a ≡ b → RunMeans base check l r a → RunMeans base check k r b
+run-means {base} {check} {l} {k} {r} {a} {b} e f m = subst (λ (x : Answer (List ℤ)). RunMeans base check k r x) f (subst (λ (x : List ℤ). RunMeans base check x r a) e m)

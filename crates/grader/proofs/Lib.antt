@@ -1,0 +1,5 @@
+-- The theorems over the calls' outcomes, and a law of lists.
+pub mod RunsInARow
+pub mod MarkedCases
+pub mod Items
+pub mod Crossing

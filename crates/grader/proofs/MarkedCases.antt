@@ -1,0 +1,44 @@
+-- K1 to K9, by computation. Assumes nothing.
+use mathlib.Core.Path.{refl}
+use Rattle.integer.specs.Integer.{between, upTo}
+use Rattle.backoff.specs.Words.{sameWords, isWord}
+use Rattle.backoff.specs.Model.{inProbability, inBackoff, listed, probability, backoff, continued, live, reach}
+use Rattle.backoff.specs.Rule.{addPoints, lengthByte, replaced, scoreAfter, historyLength, rule, ruleByte, grow, rulePoints, ruleBytes}
+use Rattle.backoff.specs.State.{largest, climb, backoffsOf, newest, liveLength, walk, matchedFrom, pointsFrom, nextFrom}
+use Rattle.backoff.specs.Run.{refusal, accepted, written, refusedRun, acceptedRun, front, plain}
+use Rattle.backoff.specs.NineNumbers.{all, padded, nine, countOf, stateIn, stateOk}
+use Rattle.backoff.specs.Store.{modelIn, walkedWord, endsBroken, stepFrom, step, runOver, runOutcome, startOutcome}
+use Rattle.list.specs.Table.{rowsOf, field, lengthOf, orderOf, wordsOf, words, withoutFirst, withoutLast}
+use Rattle.list.specs.Order.{lastLess, precedes}
+use Rattle.list.specs.Search.{findBelow, findIn}
+use Rattle.list.specs.Check.{tableFits, placeFits, placesFit, backoffFits, fieldFault, isAfter, shorterListed, orderFault, rowFault, reservedListed, scan, verdict}
+use Rattle.list.specs.ListModel.{continuedBelow, continuedIn, modelOf}
+use Rattle.double_array.specs.DoubleArray.{markerOf, markerAt, childAt, lookFrom, sizesOk, headOk, orderIn, storeIn, opened}
+use Rattle.double_array.specs.Lookup.{lookupOutcome}
+use Rattle.placing.specs.Trie.{children}
+use Rattle.placing.specs.Placing.{isFree, update, allFree, fits, search, firstFit, own, reach as reachSlots, give, settle, place, placeAll, unplaced, placing, slots}
+use Rattle.build.specs.ListTrie.{nodeOf, rootOf, nodesFrom, nodesOf, placedList, slotsFrom, rowSlots}
+use Rattle.build.specs.Build.{untouched, emptied, filled, buildOutcome}
+use Rattle.plain.specs.Plain.{plainOutcome}
+use Rattle.grader.specs.RunsInARow.{arrayOf}
+use Rattle.grader.specs.MarkedCases.{MarkedCases}
+
+pub marked-cases : MarkedCases
+unfolding between upTo sameWords isWord inProbability inBackoff listed probability backoff continued live reach addPoints lengthByte replaced scoreAfter historyLength rule ruleByte grow rulePoints ruleBytes largest climb backoffsOf newest liveLength walk matchedFrom pointsFrom nextFrom refusal accepted written refusedRun acceptedRun front plain all padded nine countOf stateIn stateOk modelIn walkedWord endsBroken stepFrom step runOver runOutcome startOutcome rowsOf field lengthOf orderOf wordsOf words withoutFirst withoutLast lastLess precedes findBelow findIn tableFits placeFits placesFit backoffFits fieldFault isAfter shorterListed orderFault rowFault reservedListed scan verdict continuedBelow continuedIn modelOf markerOf markerAt childAt lookFrom sizesOk headOk orderIn storeIn opened lookupOutcome children isFree update allFree fits search firstFit own reachSlots give settle place placeAll unplaced placing slots nodeOf rootOf nodesFrom nodesOf placedList slotsFrom rowSlots untouched emptied filled buildOutcome plainOutcome arrayOf
+marked-cases = record {
+  k1 = record { run = refl; plain = refl };
+  k2 = record { run = refl; plain = refl };
+  k3 = record { run = refl; plain = refl };
+  k4 = record { run = refl; plain = refl };
+  k5 = record { run = refl; plain = refl };
+  k6-listed = refl;
+  k6-unlisted = refl;
+  k7-enough = refl;
+  k7-too-few = refl;
+  k8-node = refl;
+  k8-marker = refl;
+  k8-check = refl;
+  k8-base = refl;
+  k9-zero = refl;
+  k9-one = refl;
+}

@@ -1,0 +1,59 @@
+-- `grader::backoff_run` meets its contract: it passes on what a run answers. Assumes nothing.
+use mathlib.Core.Path.{_≡_, ap, _∙_}
+use mathlib.Core.List.{List}
+use lib.IntN.{ℤ}
+use mir.Syntax.{w64}
+use mir.Val.{toZ, ofZ}
+use mir.Facts.{toZ-ofZ}
+use denote.Ref.{now}
+use Rattle.backoff.specs.Store.{runOutcome}
+use Rattle.double_array.specs.DoubleArray.{opened}
+use Rattle.plain.specs.Plain.{runOf}
+use Rattle.grader.proofs.Crossing.{run-wrong-length, run-crosses, run-means}
+use borrow.Author.Needs.{needs, sfits-of}
+use Rattle.grader.proofs.backoff_run.Statement.{statement}
+use Rattle.grader.proofs.backoff_run.Tie as tie
+
+returns : tie.Need-returns
+returns c = (run-wrong-length _ _ (c .if1 .taken) _, λ h. absurd (c .if1 .taken h))
+
+load-requires : tie.Need-load-requires
+load-requires c κs = search needs
+
+run-requires : tie.Need-run-requires
+run-requires c κs = search needs
+
+store-requires : tie.Need-store-requires
+store-requires c κs = search needs
+
+same-length : tie.Need-same-length
+same-length c = search needs
+
+same-length-2 : tie.Need-same-length-2
+same-length-2 c = search needs
+
+same-length-3 : tie.Need-same-length-3
+same-length-3 c = search needs
+
+returns-2 : tie.Need-returns-2
+returns-2 c =
+    let s = c .before .before .before .before .before .before .before .before .before .before .before .before .before .before .before .before in
+    let loaded = c .before .before .before .before .before .before .before .before .before .before .before .load .ensures in
+    let ran = c .before .before .before .before .before .before .before .before .run in
+    let run = runOf (now (s .args .words)) (now (s .args .points)) (now (s .args .lengths)) in
+    let back : toZ w64 (ofZ w64 (ran .result .total)) ≡ ran .result .total = toZ-ofZ (sfits-of (c .struct-told .given .1 .1 .0 .1)) in
+    let e = ran .ensures .0 ∙ ap (λ (l : List ℤ). runOutcome (opened (now (s .args .base)) (now (s .args .check))) l run) loaded in
+    (run-crosses e back (c .before .before .store .ensures), λ h. run-means loaded e (ran .ensures .1))
+
+pub backoff-run-spec : {M : Type 1} → statement M
+backoff-run-spec =
+    tie.close
+    (tie.spec
+    returns
+    load-requires
+    run-requires
+    store-requires
+    same-length
+    same-length-2
+    same-length-3
+    returns-2)

@@ -1,0 +1,31 @@
+-- `grader::backoff_start` meets its contract: it passes on what start answers. Assumes nothing.
+use mathlib.Core.Path.{_∙_}
+use denote.Ref.{now}
+use Rattle.double_array.specs.DoubleArray.{opened}
+use Rattle.grader.proofs.Crossing.{start-wrong-length, start-any, start-crosses, start-means}
+use borrow.Author.Needs.{needs}
+use Rattle.grader.proofs.backoff_start.Statement.{statement}
+use Rattle.grader.proofs.backoff_start.Tie as tie
+
+returns : tie.Need-returns
+returns c = (start-wrong-length _ _ (c .if1 .taken), λ h. absurd (c .if1 .taken h))
+
+start-requires : tie.Need-start-requires
+start-requires c κs = search needs
+
+store-requires : tie.Need-store-requires
+store-requires c κs = search needs
+
+same-length : tie.Need-same-length
+same-length c = search needs
+
+returns-2 : tie.Need-returns-2
+returns-2 c =
+    let s = c .before .before .before .before .before .before in
+    let started = c .before .before .before .before .start .ensures in
+    let same = start-any (opened (now (s .args .base)) (now (s .args .check))) (now (s .args .state)) (search needs) in
+    (start-crosses (started .0 ∙ same) (c .before .store .ensures), λ h. start-means (started .0 ∙ same) (started .1))
+
+pub backoff-start-spec : {M : Type 1} → statement M
+backoff-start-spec =
+    tie.close (tie.spec returns start-requires store-requires same-length returns-2)

@@ -1,0 +1,101 @@
+-- Laws of the outcome of plain scoring: each answer is the outcome's, and means what it says. Assumes nothing.
+use mathlib.Core.Path.{_≡_, refl}
+use mathlib.Core.Bool.{Bool, true, false, cond, _||_}
+use mathlib.Core.List.{List}
+use Prim.Native.Nat.{ℕ, zero, suc, _+_, _<_, _≤_}
+use native.Mathlib.Omega.{arith}
+use lib.Dec.{ltb}
+use lib.ListN.{length}
+use lib.Seq.{take-at}
+use lib.IntN.{ℤ, pos}
+use borrow.Author.Tests.{ltb-false, ne-eqb}
+use Rattle.integer.specs.Integer.{sum}
+use Rattle.backoff.specs.Limits.{runLimit}
+use Rattle.backoff.specs.Refusal.{tableLength, reservedWord, wordCount, shortSlice}
+use Rattle.backoff.specs.declared.Verdict.the-variants.{Accepted, Refused}
+use Rattle.backoff.specs.Rule.{rulePoints, ruleBytes}
+use Rattle.backoff.specs.Run.{Run, refusal, accepted, written, refusedRun, acceptedRun, front, plain}
+use Rattle.backoff.proofs.Rule.{length-rulePoints, length-ruleBytes}
+use Rattle.list.specs.Table.{rowsOf, orderOf}
+use Rattle.list.specs.Check.{tableFits, rowFault, reservedListed, refuse, scan, verdict}
+use Rattle.list.specs.ListModel.{modelOf}
+use Rattle.list.proofs.ListModel.{accepted-model}
+use Rattle.plain.specs.Plain.{plainOutcome, Answers, PlainMeans}
+
+-- ---- a refusal has a number
+
+same-number : (m n p q : ℕ) → Refused m p ≡ Refused n q → m ≡ n
+same-number m n p q e = cc
+
+scan-number : (t : List ℤ) (o i k n p : ℕ) → scan t o i k ≡ Refused n p → 0 < n
+unfolding scan
+scan-number t o i zero n p e = go (reservedListed t) e
+  where
+    go : (b : Bool) → cond b Accepted (Refused reservedWord 0) ≡ Refused n p → 0 < n
+    go true e = absurd (let z : _≡_ {A = ℕ} 0 1 = cc in omega arith)
+    go false e = omega (arith, same-number reservedWord n 0 p e)
+scan-number t o i (suc k) n p e = go (rowFault t o i) (scan-number t o (suc i) k n p) e
+  where
+    go : (f : ℕ) → (scan t o (suc i) k ≡ Refused n p → 0 < n) → refuse f i (scan t o (suc i) k) ≡ Refused n p → 0 < n
+    go zero ih e = ih e
+    go (suc f) ih e = omega (arith, same-number (suc f) n (i + 1) p e)
+
+verdict-number : (t : List ℤ) (n p : ℕ) → verdict t ≡ Refused n p → 0 < n
+unfolding verdict
+verdict-number t n p e = go (tableFits (length t)) e
+  where
+    go : (b : Bool) → cond b (scan t (orderOf t) 0 (rowsOf t)) (Refused tableLength 0) ≡ Refused n p → 0 < n
+    go true e = scan-number t (orderOf t) 0 (rowsOf t) n p e
+    go false e = omega (arith, same-number tableLength n 0 p e)
+
+-- ---- 14 and 15
+
+-- what no refusal leaves of a run
+pub record Fits (r : Run) : Type 0 where
+  pub few : length (r .words) ≤ runLimit
+  pub points-hold : length (r .words) ≤ length (r .points)
+  pub lengths-hold : length (r .words) ≤ length (r .lengths)
+
+pub fits : (r : Run) → refusal r ≡ 0 → Fits r
+unfolding refusal
+fits r = go (ltb runLimit (length (r .words))) (ltb (length (r .points)) (length (r .words))) (ltb (length (r .lengths)) (length (r .words))) refl refl refl
+  where
+    go : (a b c : Bool) → ltb runLimit (length (r .words)) ≡ a → ltb (length (r .points)) (length (r .words)) ≡ b → ltb (length (r .lengths)) (length (r .words)) ≡ c → cond a wordCount (cond (b || c) shortSlice 0) ≡ 0 → Fits r
+    go true b c d e f z = absurd (omega arith)
+    go false true c d e f z = absurd (omega arith)
+    go false false true d e f z = absurd (omega arith)
+    go false false false d e f z = record { few = ltb-false _ _ d; points-hold = ltb-false _ _ e; lengths-hold = ltb-false _ _ f }
+
+-- ---- the answers, with what they mean
+
+module _ (t : List ℤ) (b : Bool) (r : Run) where
+  answer-refused : (n p : ℕ) → (n ≡ 0 → ⊥) → plainOutcome t b r ≡ refusedRun n p tt r → Answers (plainOutcome t b r) (record { number = n; place = p; total = pos 0 }) (r .points) (r .lengths) × PlainMeans t b r n (pos 0) (r .points) (r .lengths)
+  unfolding refusedRun
+  answer-refused n p l e = (
+    rw e (record { number-is = refl; place-is = refl; total-is = refl; points-are = refl; lengths-are = refl }),
+    record { accepted = λ z. absurd (l z); refused = λ _. record { total-is = refl; points-are = refl; lengths-are = refl } },
+  )
+
+  -- 1, 3 to 8, or 9
+  pub answer-list : (n p : ℕ) → verdict t ≡ Refused n p → Answers (plainOutcome t b r) (record { number = n; place = p; total = pos 0 }) (r .points) (r .lengths) × PlainMeans t b r n (pos 0) (r .points) (r .lengths)
+  answer-list n p e = answer-refused n p (λ z. let l = verdict-number t n p e in omega arith) (unfold plainOutcome in rw e)
+
+  module _ (v : verdict t ≡ Accepted) where
+    -- 14 or 15
+    pub answer-run : (n : ℕ) → n ≡ refusal r → (n ≡ 0 → ⊥) → Answers (plainOutcome t b r) (record { number = n; place = 0; total = pos 0 }) (r .points) (r .lengths) × PlainMeans t b r n (pos 0) (r .points) (r .lengths)
+    answer-run n e l = answer-refused n 0 l (unfold plainOutcome plain accepted in rw (v, ← e, ne-eqb n 0 l))
+
+    pub answer-scored : refusal r ≡ 0 → (total : ℤ) (points : List ℤ) (lengths : List ℕ) → total ≡ sum (rulePoints (modelOf t) (front b) (r .words)) → points ≡ written (rulePoints (modelOf t) (front b) (r .words)) (r .points) → lengths ≡ written (ruleBytes (modelOf t) (front b) (r .words)) (r .lengths) → Answers (plainOutcome t b r) (record { number = 0; place = 0; total = total }) points lengths × PlainMeans t b r 0 total points lengths
+    unfolding plainOutcome plain accepted acceptedRun written
+    answer-scored e total points lengths f g h = (
+      rw (v, e) (record { number-is = refl; place-is = refl; total-is = f; points-are = g; lengths-are = h }),
+      record {
+        accepted = λ _. record {
+          model = accepted-model t v;
+          points-begin = rw g (take-at _ _ _ (length-rulePoints (modelOf t) (front b) (r .words)));
+          lengths-begin = rw h (take-at _ _ _ (length-ruleBytes (modelOf t) (front b) (r .words)));
+          total-is = f;
+        };
+        refused = λ n. absurd (n refl);
+      },
+    )

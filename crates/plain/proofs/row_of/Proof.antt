@@ -1,0 +1,60 @@
+use mathlib.Core.Path.{_≡_, sym, _∙_}
+use lib.Dec.{lit<}
+use denote.Ref.{now}
+use mir.Syntax.{w32}
+use mir.Val.{SFits}
+use mir.Facts.{toZ-ofZ}
+use borrow.Author.Needs.{needs, sfits-of}
+use Rattle.list.specs.Table.{wordsOf}
+use Rattle.list.specs.Search.{findIn}
+use Rattle.list.specs.declared.Found.the-variants.{At}
+use Rattle.list.proofs.Table.{row-in}
+use Rattle.list.proofs.Search.{found-words}
+use Rattle.list.proofs.Check.{accepted-good}
+use Rattle.plain.proofs.Rows.{row-found, row-missing}
+use Rattle.plain.proofs.row_of.Statement.{statement}
+use Rattle.plain.proofs.row_of.Tie as tie
+
+find-row-requires : tie.Need-find-row-requires
+find-row-requires c κs = (accepted-good _ (c .pre .0), c .pre .1, c .pre .2)
+
+enum-known-found : tie.Need-enum-known-found
+enum-known-found c = search needs
+
+enum-told : tie.Need-enum-told
+enum-told c = search needs
+
+returns : tie.Need-returns
+returns c = row-missing _ _ (sym (c .before .before .find-row .ensures) ∙ c .enum-told .given .1)
+
+found : (c : tie.After-known-told) → findIn (now (c .before .before .before .before .args .table)) (wordsOf (now (c .before .before .before .before .args .words))) ≡ At (c .before .found .given .0 .0)
+found c = sym (c .before .before .before .find-row .ensures) ∙ c .before .found .given .1
+
+field-requires : tie.Need-field-requires
+field-requires c κs = (row-in _ _ (found-words _ _ _ (found c) .0), lit< tt)
+
+field-requires-2 : tie.Need-field-requires-2
+field-requires-2 c κs = (row-in _ _ (found-words _ _ _ (found (c .before)) .0), lit< tt)
+
+p-fits : (c : tie.After-field) → SFits w32 (c .field .result)
+p-fits c = sfits-of (c .field .ok)
+
+b-fits : (c : tie.After-field2) → SFits w32 (c .field2 .result)
+b-fits c = sfits-of (c .field2 .ok)
+
+returns-2 : tie.Need-returns-2
+returns-2 c =
+    let f = c .before in
+    row-found _ _ _ _ _ (found (f .before)) (toZ-ofZ (p-fits f) ∙ f .field .ensures) (toZ-ofZ (b-fits c) ∙ c .field2 .ensures)
+
+pub row-of-spec : {M : Type 1} → statement M
+row-of-spec =
+    tie.close
+    (tie.spec
+    find-row-requires
+    enum-known-found
+    enum-told
+    returns
+    field-requires
+    field-requires-2
+    returns-2)

@@ -1,0 +1,3 @@
+-- What must be believed of plain scoring: its outcome and what that means. Held has what only the private contracts cite.
+pub mod Plain
+pub mod Held

@@ -1,0 +1,9 @@
+-- The laws of scoring with a carried state.
+pub mod Parts
+pub mod Carried
+pub mod Written
+pub mod Rows
+pub mod Walking
+pub mod Stepping
+pub mod Running
+pub mod Outcomes

@@ -1,0 +1,167 @@
+-- One part of a state, its four words or its four back-offs, as the loops over it have it: the part's check, the back-offs that are owed, and a part
+-- cut after its first items. Assumes nothing.
+use mathlib.Core.Path.{_≡_, refl, sym, ap, _∙_}
+use mathlib.Core.Bool.{Bool, true, false, _&&_, and-assoc}
+use mathlib.Core.List.{List, [], _∷_, map}
+use Prim.Native.Nat.{ℕ, zero, suc, _+_, _-_, _≤_, _<_, max}
+use native.Mathlib.Decide.{decLe}
+use native.Mathlib.Numerals.{add-one}
+use native.Mathlib.Omega.{arith}
+use lib.ListN.{length, take, drop, getD, set, drop-of-length-le}
+use lib.Seq.{drop-cons}
+use lib.IntN.{ℤ, pos, _+ℤ_, +ℤ-assoc, +ℤ-idl, +ℤ-idr}
+use Rattle.integer.specs.Integer.{eqZ, sum}
+use Rattle.integer.proofs.Arithmetic.{zarith}
+use Rattle.integer.proofs.Ranges.{and-left, and-right}
+use Rattle.backoff.specs.NineNumbers.{all, padded}
+use Rattle.score.specs.Inner.{partOk}
+
+pub eqZ-sym : (a b : ℤ) → eqZ a b ≡ eqZ b a
+eqZ-sym a b = go (eqZ b a) refl
+  where
+    go : (t : Bool) → eqZ b a ≡ t → eqZ a b ≡ t
+    go true e = omega zarith
+    go false e = omega zarith
+
+-- ---- the check of a part: what is left of it from the i-th item on
+
+module _ (P : ℤ → Bool) where
+  part-used : (c : ℕ) (x : ℤ) (xs : List ℤ) → partOk P (suc c) (x ∷ xs) ≡ (P x && partOk P c xs)
+  unfolding partOk all
+  part-used c x xs = and-assoc (P x) (all (map P (take c xs))) (all (map (eqZ (pos 0)) (drop c xs)))
+
+  part-unused : (x : ℤ) (xs : List ℤ) → partOk P 0 (x ∷ xs) ≡ (eqZ (pos 0) x && partOk P 0 xs)
+  unfolding partOk all
+  part-unused x xs = refl
+
+  module _ (c i : ℕ) (xs : List ℤ) where
+    -- t is the test of the i-th item, which is used or not
+    pub part-on : (t : Bool) → (i < c → P (getD xs i (pos 0)) ≡ t) → (c ≤ i → eqZ (pos 0) (getD xs i (pos 0)) ≡ t) → i < length xs → partOk P (c - i) (drop i xs) ≡ (t && partOk P (c - (i + 1)) (drop (i + 1) xs))
+    part-on t used unused k = go (decLe c i)
+      where
+        go : Dec (c ≤ i) → partOk P (c - i) (drop i xs) ≡ (t && partOk P (c - (i + 1)) (drop (i + 1) xs))
+        go (yes h) =
+            let e : c - i ≡ 0 = omega arith in
+            let f : c - (i + 1) ≡ 0 = omega arith in
+            rw (e, f, add-one, drop-cons xs i (pos 0) k, part-unused (getD xs i (pos 0)) (drop (suc i) xs), unused h)
+        go (no n) =
+            let e : c - i ≡ suc (c - (i + 1)) = omega arith in
+            rw (e, add-one, drop-cons xs i (pos 0) k, part-used (c - suc i) (getD xs i (pos 0)) (drop (suc i) xs), used (omega arith))
+
+    pub part-done : length xs ≤ i → partOk P (c - i) (drop i xs) ≡ true
+    unfolding partOk all
+    part-done h = rw (drop-of-length-le xs h) (empty-part (c - i))
+      where
+        empty-part : (k : ℕ) → (all (map P (take k [])) && all (map (eqZ (pos 0)) (drop k []))) ≡ true
+        empty-part zero = unfold all in refl
+        empty-part (suc k) = unfold all in refl
+
+-- ---- the back-offs from the j-th on: what is left to be added at the i-th
+
+module _ (j : ℕ) (bs : List ℤ) (acc : ℤ) (i : ℕ) where
+  pub owed-more : j ≤ i → i < length bs → acc +ℤ getD bs i (pos 0) +ℤ sum (drop (max j (i + 1)) bs) ≡ acc +ℤ sum (drop (max j i) bs)
+  owed-more h k =
+      let e : max j i ≡ i = omega arith in
+      let f : max j (i + 1) ≡ suc i = omega arith in
+      rw (e, f, drop-cons bs i (pos 0) k) (+ℤ-assoc acc (getD bs i (pos 0)) (sum (drop (suc i) bs)))
+
+  pub owed-not-yet : i < j → acc +ℤ sum (drop (max j (i + 1)) bs) ≡ acc +ℤ sum (drop (max j i) bs)
+  owed-not-yet h =
+      let e : max j i ≡ j = omega arith in
+      let f : max j (i + 1) ≡ j = omega arith in
+      rw (e, f)
+
+  pub owed-all : length bs ≤ i → acc +ℤ sum (drop (max j i) bs) ≡ acc
+  owed-all h = rw (drop-of-length-le bs {i = max j i} (omega arith)) (+ℤ-idr acc)
+
+-- ---- a part whose first i items are done, cut after its first k: the others are 0
+
+abbrev pub cutTo : ℕ → ℕ → List ℤ → List ℤ
+cutTo zero k xs = xs
+cutTo (suc i) k [] = []
+cutTo (suc i) zero (x ∷ xs) = pos 0 ∷ cutTo i zero xs
+cutTo (suc i) (suc k) (x ∷ xs) = x ∷ cutTo i k xs
+
+pub cut-kept : (i k : ℕ) (xs : List ℤ) → i < k → cutTo i k xs ≡ cutTo (suc i) k xs
+cut-kept zero zero xs h = absurd (omega arith)
+cut-kept zero (suc k) [] h = refl
+cut-kept zero (suc k) (x ∷ xs) h = refl
+cut-kept (suc i) zero xs h = absurd (omega arith)
+cut-kept (suc i) (suc k) [] h = refl
+cut-kept (suc i) (suc k) (x ∷ xs) h = ap (λ (l : List ℤ). x ∷ l) (cut-kept i k xs (omega arith))
+
+pub cut-set : (i k : ℕ) (xs : List ℤ) → k ≤ i → i < length xs → set (cutTo i k xs) i (pos 0) ≡ cutTo (suc i) k xs
+cut-set i k [] h l = absurd (omega arith)
+cut-set zero zero (x ∷ xs) h l = refl
+cut-set zero (suc k) (x ∷ xs) h l = absurd (omega arith)
+cut-set (suc i) zero (x ∷ xs) h l = ap (λ (l : List ℤ). pos 0 ∷ l) (cut-set i zero xs (omega arith) (omega arith))
+cut-set (suc i) (suc k) (x ∷ xs) h l = ap (λ (l : List ℤ). x ∷ l) (cut-set i k xs (omega arith) (omega arith))
+
+pub length-cut : (i k : ℕ) (xs : List ℤ) → length (cutTo i k xs) ≡ length xs
+length-cut zero k xs = refl
+length-cut (suc i) k [] = refl
+length-cut (suc i) zero (x ∷ xs) = ap suc (length-cut i zero xs)
+length-cut (suc i) (suc k) (x ∷ xs) = ap suc (length-cut i k xs)
+
+-- all of them done, it is padded
+pub cut-padded : (k : ℕ) (xs : List ℤ) → cutTo (length xs) k xs ≡ padded (length xs) (take k xs)
+unfolding padded
+cut-padded zero [] = refl
+cut-padded (suc k) [] = refl
+cut-padded zero (x ∷ xs) = ap (λ (l : List ℤ). pos 0 ∷ l) (cut-padded zero xs)
+cut-padded (suc k) (x ∷ xs) = ap (λ (l : List ℤ). x ∷ l) (cut-padded k xs)
+
+-- items past the m-th do not count
+pub padded-within : (m k : ℕ) (xs : List ℤ) → padded m (take k (take m xs)) ≡ padded m (take k xs)
+unfolding padded
+padded-within zero k xs = refl
+padded-within (suc m) zero xs = refl
+padded-within (suc m) (suc k) [] = refl
+padded-within (suc m) (suc k) (x ∷ xs) = ap (λ (l : List ℤ). x ∷ l) (padded-within m k xs)
+
+pub first-four : (xs : List ℤ) → 4 ≤ length xs → getD xs 0 (pos 0) ∷ getD xs 1 (pos 0) ∷ getD xs 2 (pos 0) ∷ getD xs 3 (pos 0) ∷ [] ≡ take 4 xs
+first-four [] h = absurd (omega arith)
+first-four (a ∷ []) h = absurd (omega arith)
+first-four (a ∷ b ∷ []) h = absurd (omega arith)
+first-four (a ∷ b ∷ c ∷ []) h = absurd (omega arith)
+first-four (a ∷ b ∷ c ∷ d ∷ xs) h = refl
+
+-- ---- a part whose items from the c-th on are 0
+
+zeros-sum : (xs : List ℤ) → all (map (eqZ (pos 0)) xs) ≡ true → sum xs ≡ pos 0
+unfolding all
+zeros-sum [] e = refl
+zeros-sum (x ∷ xs) e =
+    let z = and-left (eqZ (pos 0) x) (all (map (eqZ (pos 0)) xs)) e in
+    let f : x ≡ pos 0 = omega zarith in
+    rw (f, zeros-sum xs (and-right (eqZ (pos 0) x) (all (map (eqZ (pos 0)) xs)) e))
+
+zeros-drop : (j : ℕ) (xs : List ℤ) → all (map (eqZ (pos 0)) xs) ≡ true → all (map (eqZ (pos 0)) (drop j xs)) ≡ true
+unfolding all
+zeros-drop zero xs e = e
+zeros-drop (suc j) [] e = e
+zeros-drop (suc j) (x ∷ xs) e = zeros-drop j xs (and-right (eqZ (pos 0) x) (all (map (eqZ (pos 0)) xs)) e)
+
+-- adds up to what its first c items do
+pub sum-used : (c j : ℕ) (xs : List ℤ) → all (map (eqZ (pos 0)) (drop c xs)) ≡ true → sum (drop j (take c xs)) ≡ sum (drop j xs)
+sum-used zero j xs e = rw (zeros-sum (drop j xs) (zeros-drop j xs e)) (nothing j)
+  where
+    nothing : (j : ℕ) → sum (drop j []) ≡ pos 0
+    nothing zero = refl
+    nothing (suc j) = refl
+sum-used (suc c) j [] e = refl
+sum-used (suc c) zero (x ∷ xs) e = ap (λ (z : ℤ). x +ℤ z) (sum-used c zero xs e)
+sum-used (suc c) (suc j) (x ∷ xs) e = sum-used c j xs e
+
+-- and passes a test that its first c items and 0 pass
+pub all-used : (P : ℤ → Bool) → P (pos 0) ≡ true → (c : ℕ) (xs : List ℤ) → partOk P c xs ≡ true → all (map P xs) ≡ true
+unfolding all
+all-used P z c [] e = refl
+all-used P z zero (x ∷ xs) e =
+    let q = part-unused P x xs in
+    let f = and-left (eqZ (pos 0) x) (partOk P 0 xs) (sym q ∙ e) in
+    let g : x ≡ pos 0 = omega zarith in
+    rw (g, z) (all-used P z zero xs (and-right (eqZ (pos 0) x) (partOk P 0 xs) (sym q ∙ e)))
+all-used P z (suc c) (x ∷ xs) e =
+    let q = sym (part-used P c x xs) ∙ e in
+    rw (and-left (P x) (partOk P c xs) q) (all-used P z c xs (and-right (P x) (partOk P c xs) q))

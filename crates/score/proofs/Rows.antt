@@ -1,0 +1,133 @@
+-- A store's rows from what a look at them comes to; the rows of a double array are in range; its order. Assumes nothing.
+use mathlib.Core.Path.{_≡_, refl, sym, ap, _∙_}
+use mathlib.Core.Bool.{Bool, true, false, not, cond, _&&_, _||_, true≢false}
+use mathlib.Core.List.{List, [], _∷_}
+use Prim.Native.Nat.{ℕ, _<_}
+use native.Mathlib.Omega.{arith}
+use lib.Dec.{T}
+use lib.ListN.{length, getD}
+use lib.IntN.{ℤ, pos, natAbs, _+ℤ_}
+use lib.Signed.{leZ, ltZ, nonNeg}
+use mir.Syntax.{w32, w64}
+use mir.Val.{Fits, SFits, toZ, ofZ}
+use mir.Facts.{toZ-ofZ}
+use Rattle.integer.specs.Integer.{eqZ, between, half, odd}
+use Rattle.integer.proofs.Arithmetic.{zarith, to-nat}
+use Rattle.integer.proofs.Ranges.{between-low}
+use Rattle.backoff.specs.Limits.{orderLimit}
+use Rattle.backoff.specs.Model.{Entry, listed, probability, backoff, continued, live, inProbability, inBackoff, probabilityOf, backoffOf}
+use Rattle.backoff.specs.Store.{Look, absent, broken, here, Store, entryOf, isBroken, modelIn}
+use Rattle.double_array.specs.DoubleArray.{freeCheck, baseAt, checkAt, markerOf, markerAt, childAt, lookMarker, past, downTo, lookFrom, isArray, orderIn, storeIn, lookRow}
+use Rattle.double_array.specs.declared.Marker.{Marker}
+use Rattle.double_array.specs.declared.Marker.the-variants.{Sound, Broken}
+use Rattle.double_array.specs.declared.Child.{Child}
+use Rattle.double_array.specs.declared.Child.the-variants.{At, Nothing}
+use Rattle.double_array.proofs.DoubleArray.{getD-inside, opened-sizes, opened-head}
+use Rattle.score.specs.Meaning.{rowsIn}
+
+module _ (S : Store) (l : List ℕ) where
+  pub here-listed : {e : Entry} → S .look l ≡ here e → listed (modelIn S) l ≡ true
+  unfolding listed modelIn
+  here-listed h = rw h
+
+  pub here-probability : {e : Entry} → S .look l ≡ here e → probability (modelIn S) l ≡ e .p
+  unfolding probability modelIn
+  here-probability h = rw h
+
+  pub here-backoff : {e : Entry} → S .look l ≡ here e → backoff (modelIn S) l ≡ e .b
+  unfolding backoff modelIn
+  here-backoff h = rw h
+
+  pub here-live : {e : Entry} → S .look l ≡ here e → live (modelIn S) l ≡ (not (eqZ (e .b) (pos 0)) || e .f)
+  unfolding live backoff continued modelIn
+  here-live h = rw h
+
+  pub absent-unlisted : S .look l ≡ absent → listed (modelIn S) l ≡ false
+  unfolding listed modelIn
+  absent-unlisted h = rw h
+
+  pub broken-unlisted : S .look l ≡ broken → listed (modelIn S) l ≡ false
+  unfolding listed modelIn
+  broken-unlisted h = rw h
+
+  pub listed-sound : listed (modelIn S) l ≡ true → isBroken (S .look l) ≡ false
+  unfolding listed modelIn
+  listed-sound e = go (S .look l) refl
+    where
+      go : (k : Look) → S .look l ≡ k → isBroken (S .look l) ≡ false
+      go absent q = rw q
+      go broken q = absurd (true≢false (sym e ∙ rw q))
+      go (here x) q = rw q
+
+-- ---- a double array's rows are in range
+
+abbrev InRange : Look → Type 0
+InRange absent = Unit {0}
+InRange broken = Unit {0}
+InRange (here e) = (inProbability (e .p) ≡ true) × (inBackoff (e .b) ≡ true)
+
+marker-in-range : (check base : ℤ) → InRange (lookMarker (markerOf check base))
+unfolding markerOf
+marker-in-range check base = go (inProbability (check +ℤ pos 1)) refl (inBackoff (half base)) refl
+  where
+    go : (s : Bool) → inProbability (check +ℤ pos 1) ≡ s → (t : Bool) → inBackoff (half base) ≡ t → InRange (lookMarker (cond (s && t) (Sound (check +ℤ pos 1) (half base) (odd base)) Broken))
+    go true e true f = (e, f)
+    go true e false f = tt
+    go false e t f = tt
+
+module _ (base check : List ℤ) where
+  at-in-range : (s : ℕ) → InRange (lookMarker (markerAt base check s))
+  unfolding markerAt
+  at-in-range s = go (leZ (pos 1) (baseAt base check s) && ltZ (baseAt base check s) (pos (length check)))
+    where
+      go : (t : Bool) → InRange (lookMarker (cond t (markerOf (checkAt base check (natAbs (baseAt base check s))) (baseAt base check (natAbs (baseAt base check s)))) Broken))
+      go true = marker-in-range _ _
+      go false = tt
+
+  look-in-range : (l : List ℕ) (s : ℕ) → InRange (lookFrom base check s l)
+  unfolding lookFrom
+  look-in-range [] s = at-in-range s
+  look-in-range (w ∷ l) s = go (look-in-range l) (markerAt base check s) (childAt base check s w)
+    where
+      go : ((t : ℕ) → InRange (lookFrom base check t l)) → (m : Marker) (c : Child) → InRange (past m (downTo c (λ (t : ℕ). lookFrom base check t l)))
+      go ih (Sound p b f) (At t) = ih t
+      go ih (Sound p b f) Nothing = tt
+      go ih Broken c = tt
+
+  row-in-range : (l : List ℕ) → InRange (lookRow base check l)
+  row-in-range [] = tt
+  row-in-range (w ∷ l) = look-in-range (w ∷ l) 0
+
+  pub rows-in-probability : (l : List ℕ) → inProbability (probability (rowsIn base check) l) ≡ true
+  unfolding probability modelIn storeIn
+  rows-in-probability l = go (lookRow base check l) (row-in-range l)
+    where
+      go : (k : Look) → InRange k → inProbability (probabilityOf (entryOf k)) ≡ true
+      go absent r = unfold inProbability between in refl
+      go broken r = unfold inProbability between in refl
+      go (here e) r = r .0
+
+  pub rows-in-backoff : (l : List ℕ) → inBackoff (backoff (rowsIn base check) l) ≡ true
+  unfolding backoff modelIn storeIn
+  rows-in-backoff l = go (lookRow base check l) (row-in-range l)
+    where
+      go : (k : Look) → InRange k → inBackoff (backoffOf (entryOf k)) ≡ true
+      go absent r = unfold inBackoff between in refl
+      go broken r = unfold inBackoff between in refl
+      go (here e) r = r .1
+
+-- ---- the order, as the code reads it from CHECK[0]
+
+module _ (base check : List ℤ) (h : isArray base check ≡ true) where
+  pub order-inside : 0 < length check
+  order-inside = let z = opened-sizes base check h in omega arith
+
+  pub order-cast : SFits w32 (getD check 0 (pos 0)) → T (nonNeg (toZ w32 (ofZ w32 (getD check 0 (pos 0))))) × Fits w64 (natAbs (toZ w32 (ofZ w32 (getD check 0 (pos 0)))))
+  order-cast f =
+      let l = between-low (pos 1) (pos orderLimit) (getD check 0 freeCheck) (opened-head base check h .order) in
+      let e = getD-inside check 0 freeCheck (pos 0) order-inside in
+      to-nat tt f (omega zarith)
+
+  pub order-read : SFits w32 (getD check 0 (pos 0)) → natAbs (toZ w32 (ofZ w32 (getD check 0 (pos 0)))) ≡ orderIn check
+  unfolding orderIn
+  order-read f = ap natAbs (toZ-ofZ f ∙ getD-inside check 0 (pos 0) freeCheck order-inside)

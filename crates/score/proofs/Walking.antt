@@ -1,0 +1,152 @@
+-- The walk of a word v through the words ws over a double array, as the code's loop has it. Assumes nothing.
+use mathlib.Core.Path.{_≡_, refl, sym, ap, ap₂, _∙_}
+use mathlib.Core.Bool.{Bool, true, false, not, cond, _&&_, _||_, or-true}
+use mathlib.Core.Logic.{_⊎_, inl, inr}
+use mathlib.Core.List.{List, [], _∷_, _++_, append-nil}
+use Prim.Native.Nat.{ℕ, zero, suc, _+_, _-_, _≤_, _<_, min}
+use native.Mathlib.Nat.{min-zero}
+use native.Mathlib.Numerals.{add-one}
+use native.Mathlib.Omega.{arith}
+use borrow.Author.Count.{below-more}
+use borrow.Author.Tests.{ltb-true, ltb-false}
+use lib.Dec.{ltb}
+use lib.ListN.{length, take, getD, set}
+use lib.Seq.{take-suc, take-all, take-suc-set, append-snoc}
+use lib.IntN.{ℤ, pos}
+use Rattle.integer.specs.Integer.{eqZ}
+use Rattle.backoff.specs.Model.{Entry, Model, listed, probability, backoff, live, reach}
+use Rattle.backoff.specs.State.{largest, climb, backoffsOf, liveLength, walk}
+use Rattle.backoff.specs.Store.{Look, absent, broken, here, Store, isBroken, modelIn, endsBroken}
+use Rattle.backoff.proofs.Climb.{climb-stops, largest-here, largest-down}
+use Rattle.double_array.specs.DoubleArray.{markerAt, childAt, downTo, lookFrom, isArray, orderIn, storeIn}
+use Rattle.double_array.specs.declared.Marker.the-variants.{Sound, Broken}
+use Rattle.double_array.specs.declared.Child.the-variants.{At, Nothing}
+use Rattle.double_array.proofs.DoubleArray.{root-sound, look-here, look-down, look-broken}
+use Rattle.score.specs.declared.Walked.{Walked}
+use Rattle.score.specs.Meaning.{rowsIn}
+use Rattle.score.specs.Inner.{longestLive, meetsBroken, Read}
+use Rattle.score.proofs.Rows.{here-listed, here-probability, here-backoff, here-live, absent-unlisted, broken-unlisted, listed-sound}
+
+-- where the walk passes j words, it would go on at the next
+ends-at : (S : Store) (ws : List ℕ) (v j : ℕ) → walk (modelIn S) v ws ≡ j → endsBroken S ws v ≡ isBroken (S .look (v ∷ take (suc j) ws))
+unfolding endsBroken
+ends-at S ws v j e = rw e
+
+-- the walk stops at j where it passes j words, and there are no more or the next leads nowhere
+walk-stops : (M : Model) (v : ℕ) (ws : List ℕ) (j : ℕ) → j ≤ length ws → ((i : ℕ) → i ≤ j → listed M (v ∷ take i ws) ≡ true) → (j ≡ length ws) ⊎ (listed M (v ∷ take (suc j) ws) ≡ false) → walk M v ws ≡ j
+unfolding walk
+walk-stops M v ws j h f e = climb-stops (λ i. listed M (v ∷ take i ws)) (length ws) 0 j (omega arith) (omega arith) (λ i l u. f i u) (go e)
+  where
+    go : (j ≡ length ws) ⊎ (listed M (v ∷ take (suc j) ws) ≡ false) → (j ≡ 0 + length ws) ⊎ (listed M (v ∷ take (suc j) ws) ≡ false)
+    go (inl z) = inl (omega arith)
+    go (inr z) = inr z
+
+-- the longest live row of fewer than n words, with one row more
+kept-more : (P : ℕ → Bool) (n j : ℕ) → cond (ltb (j + 1) n && P (suc j)) (j + 1) (largest P (min (n - 1) j)) ≡ largest P (min (n - 1) (suc j))
+kept-more P n j = go (ltb (j + 1) n) refl (P (suc j)) refl
+  where
+    go : (t : Bool) → ltb (j + 1) n ≡ t → (b : Bool) → P (suc j) ≡ b → cond (t && b) (j + 1) (largest P (min (n - 1) j)) ≡ largest P (min (n - 1) (suc j))
+    go true e true f =
+        let h = ltb-true (j + 1) n e in
+        let m : min (n - 1) (suc j) ≡ suc j = omega arith in
+        rw m (add-one j ∙ sym (largest-here P j f))
+    go true e false f =
+        let h = ltb-true (j + 1) n e in
+        let m : min (n - 1) (suc j) ≡ suc j = omega arith in
+        let k : min (n - 1) j ≡ j = omega arith in
+        rw (m, k) (sym (largest-down P j f))
+    go false e b f =
+        let h = ltb-false (j + 1) n e in
+        let m : min (n - 1) (suc j) ≡ min (n - 1) j = omega arith in
+        rw m
+
+-- the walk has come to the node in slot s, past `passed` of the words, with what was read at the nodes before it
+pub record Walking (base check : List ℤ) (v : ℕ) (ws : List ℕ) (s passed kept : ℕ) (backoffs : List ℤ) : Type 0 where
+  pub reached : (m : List ℕ) → storeIn base check .look (v ∷ (take passed ws ++ m)) ≡ lookFrom base check s m
+  pub sound : (i : ℕ) → i < passed → listed (rowsIn base check) (v ∷ take i ws) ≡ true
+  pub kept-is : kept ≡ liveLength (rowsIn base check) (min (reach (rowsIn base check)) passed) (v ∷ ws)
+  pub read : take passed backoffs ≡ backoffsOf (rowsIn base check) passed (v ∷ ws)
+
+module _ (base check : List ℤ) (v : ℕ) (ws : List ℕ) where
+  -- it begins at the root's child for v
+  pub walking-begins : (t : ℕ) (backoffs : List ℤ) → isArray base check ≡ true → childAt base check 0 v ≡ At t → Walking base check v ws t 0 0 backoffs
+  walking-begins t backoffs h e = record {
+    reached = λ m. unfold storeIn in look-down base check 0 _ _ _ v m (root-sound base check h) ∙ rw e;
+    sound = λ i l. absurd (omega arith);
+    kept-is = unfold liveLength largest in rw (min-zero (reach (rowsIn base check)));
+    read = unfold backoffsOf in refl;
+  }
+
+  module _ (s passed kept : ℕ) (backoffs : List ℤ) (w : Walking base check v ws s passed kept backoffs) where
+    at-node : storeIn base check .look (v ∷ take passed ws) ≡ lookFrom base check s []
+    at-node = ap (λ (l : List ℕ). storeIn base check .look (v ∷ l)) (sym (append-nil (take passed ws))) ∙ w .reached []
+
+    past-node : (m : List ℕ) → passed < length ws → storeIn base check .look (v ∷ (take (suc passed) ws ++ m)) ≡ lookFrom base check s (getD ws passed 0 ∷ m)
+    past-node m h = ap (λ (l : List ℕ). storeIn base check .look (v ∷ l)) (rw (take-suc ws passed 0 h) (append-snoc (take passed ws) (getD ws passed 0) m)) ∙ w .reached (getD ws passed 0 ∷ m)
+
+    -- a node without a sound marker
+    pub walking-broken : passed ≤ length ws → markerAt base check s ≡ Broken → meetsBroken (storeIn base check) ws v ≡ true
+    walking-broken h e = go passed refl
+      where
+        node : storeIn base check .look (v ∷ take passed ws) ≡ broken
+        node = at-node ∙ look-broken base check s [] e
+
+        go : (j : ℕ) → passed ≡ j → meetsBroken (storeIn base check) ws v ≡ true
+        go zero q = rw (rw q at node)
+        go (suc j) q =
+            let stop : walk (rowsIn base check) v ws ≡ j = walk-stops (rowsIn base check) v ws j (omega arith) (λ i u. w .sound i (omega arith)) (inr (rw q at (broken-unlisted (storeIn base check) (v ∷ take passed ws) node))) in
+            rw (ends-at (storeIn base check) ws v j stop, rw q at node) (or-true (isBroken (storeIn base check .look (v ∷ []))))
+
+    -- a node with a sound one
+    module _ (p b : ℤ) (f : Bool) (e : markerAt base check s ≡ Sound p b f) where
+      node : storeIn base check .look (v ∷ take passed ws) ≡ here (record { p = p; b = b; f = f })
+      node = at-node ∙ look-here base check s p b f e
+
+      sound-here : (i : ℕ) → i ≤ passed → listed (rowsIn base check) (v ∷ take i ws) ≡ true
+      sound-here i h = below-more (λ (k : ℕ). listed (rowsIn base check) (v ∷ take k ws) ≡ true) passed (w .sound) (here-listed (storeIn base check) (v ∷ take passed ws) node) i (omega arith)
+
+      -- what the code notes of it
+      abbrev noted : ℕ
+      noted = longestLive kept (passed + 1) (orderIn check) b f
+
+      noted-is : noted ≡ liveLength (rowsIn base check) (min (reach (rowsIn base check)) (suc passed)) (v ∷ ws)
+      unfolding liveLength reach modelIn storeIn
+      noted-is = rw (sym (here-live (storeIn base check) (v ∷ take passed ws) node), w .kept-is) (kept-more (λ i. live (rowsIn base check) (take i (v ∷ ws))) (orderIn check) passed)
+
+      read-is : passed < length backoffs → take (suc passed) (set backoffs passed b) ≡ backoffsOf (rowsIn base check) (suc passed) (v ∷ ws)
+      unfolding backoffsOf
+      read-is h = take-suc-set backoffs passed b h ∙ ap₂ (λ (l : List ℤ) (x : ℤ). l ++ (x ∷ [])) (w .read) (sym (here-backoff (storeIn base check) (v ∷ take passed ws) node))
+
+      -- the walk goes on to the child for the next word
+      pub walking-on : (u : ℕ) → passed < length ws → passed < length backoffs → childAt base check s (getD ws passed 0) ≡ At u → Walking base check v ws u (passed + 1) noted (set backoffs passed b)
+      walking-on u h k c = record {
+        reached = λ m. rw add-one (past-node m h ∙ look-down base check s p b f (getD ws passed 0) m e ∙ rw c);
+        sound = λ i l. sound-here i (omega arith);
+        kept-is = noted-is ∙ ap (λ (k : ℕ). liveLength (rowsIn base check) (min (reach (rowsIn base check)) k) (v ∷ ws)) (sym (add-one passed));
+        read = rw add-one (read-is k);
+      }
+
+      -- it ends here where the node at which it would go on is none, or there are no more words
+      ended : passed ≤ length ws → passed < length backoffs → (passed ≡ length ws) ⊎ (listed (rowsIn base check) (v ∷ take (suc passed) ws) ≡ false) → isBroken (storeIn base check .look (v ∷ take (suc passed) ws)) ≡ false → Read (storeIn base check) ws v (record { sound = true; p = p; passed = passed; kept = noted; backoffs = set backoffs passed b })
+      ended h k o n =
+          let stop : walk (rowsIn base check) v ws ≡ passed = walk-stops (rowsIn base check) v ws passed h sound-here o in
+          record {
+            sound = rw (listed-sound (storeIn base check) (v ∷ []) (sound-here 0 (omega arith)), ends-at (storeIn base check) ws v passed stop, n);
+            first = sound-here 0 (omega arith);
+            passed = sym stop;
+            p = sym (here-probability (storeIn base check) (v ∷ take passed ws) node);
+            kept = noted-is;
+            backoffs = read-is k;
+          }
+
+      pub walking-ends : passed ≡ length ws → passed < length backoffs → Read (storeIn base check) ws v (record { sound = true; p = p; passed = passed; kept = noted; backoffs = set backoffs passed b })
+      walking-ends h k = ended (omega arith) k (inl h) (ap (λ (l : List ℕ). isBroken (storeIn base check .look (v ∷ l))) same ∙ listed-sound (storeIn base check) (v ∷ take passed ws) (sound-here passed (omega arith)))
+        where
+          same : take (suc passed) ws ≡ take passed ws
+          same = take-all (suc passed) ws (omega arith) ∙ sym (take-all passed ws (omega arith))
+
+      pub walking-stops : passed < length ws → passed < length backoffs → childAt base check s (getD ws passed 0) ≡ Nothing → Read (storeIn base check) ws v (record { sound = true; p = p; passed = passed; kept = noted; backoffs = set backoffs passed b })
+      walking-stops h k c = ended (omega arith) k (inr (absent-unlisted (storeIn base check) (v ∷ take (suc passed) ws) nothing)) (rw nothing)
+        where
+          nothing : storeIn base check .look (v ∷ take (suc passed) ws) ≡ absent
+          nothing = ap (λ (l : List ℕ). storeIn base check .look (v ∷ l)) (sym (append-nil (take (suc passed) ws))) ∙ past-node [] h ∙ look-down base check s p b f (getD ws passed 0) [] e ∙ rw c

@@ -1,0 +1,24 @@
+-- Slices that are written from the front. Assumes nothing.
+use mathlib.Core.Path.{_≡_, refl, sym, ap, _∙_}
+use mathlib.Core.List.{List, [], _∷_, _++_}
+use Prim.Native.Nat.{ℕ, zero, suc, _+_, _-_, _≤_, _<_}
+use native.Mathlib.Numerals.{add-one}
+use native.Mathlib.Omega.{arith}
+use lib.ListN.{length, drop, set, replicate}
+use lib.Seq.{drop-drop}
+
+module _ {A : Type 0} where
+  fill-suc : (n : ℕ) (v : A) (l : List A) → n < length l → set (replicate n v ++ drop n l) n v ≡ replicate (suc n) v ++ drop (suc n) l
+  fill-suc n v [] h = absurd (omega arith)
+  fill-suc zero v (x ∷ l) h = refl
+  fill-suc (suc n) v (x ∷ l) h = ap {B = List A} (λ t. v ∷ t) (fill-suc n v l (omega arith))
+
+  -- one more item is v
+  pub fill-more : (n : ℕ) (v : A) (l : List A) → n < length l → set (replicate n v ++ drop n l) n v ≡ replicate (n + 1) v ++ drop (n + 1) l
+  fill-more n v l h = rw add-one (fill-suc n v l h)
+
+  -- lists that agree from the i-th item on agree from any later one on
+  pub drop-more : (i k : ℕ) (l m : List A) → i ≤ k → drop i l ≡ drop i m → drop k l ≡ drop k m
+  drop-more i k l m h e =
+      let q : i + (k - i) ≡ k = omega arith in
+      rw (sym q) (sym (drop-drop (k - i) i l) ∙ ap (drop (k - i)) e ∙ drop-drop (k - i) i m)

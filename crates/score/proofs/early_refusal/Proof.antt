@@ -1,0 +1,99 @@
+-- `score::early_refusal` meets its contract. Assumes nothing.
+use mathlib.Core.Path.{_≡_, sym, ap, _∙_}
+use mathlib.Core.Bool.{Bool, true, false, _||_}
+use Prim.Native.Nat.{ℕ, _≤_}
+use native.Mathlib.Omega.{arith}
+use borrow.Author.Needs.{needs, sfits-of}
+use borrow.Author.Tests.{not-true, not-false, lt-ltb, le-ltb}
+use lib.ListN.{getD}
+use lib.IntN.{pos, natAbs}
+use mir.Syntax.{w32}
+use mir.Val.{SFits}
+use Rattle.backoff.specs.NineNumbers.{stateOk}
+use Rattle.double_array.specs.DoubleArray.{isArray, orderIn, storeIn}
+use Rattle.double_array.proofs.DoubleArray.{opened-order, opened-some, opened-none}
+use Rattle.score.specs.Answers.{numbersOf}
+use Rattle.score.proofs.Rows.{order-inside, order-cast, order-read}
+use Rattle.score.proofs.early_refusal.Statement.{statement}
+use Rattle.score.proofs.early_refusal.Tie as tie
+use Rattle.score.proofs.early_refusal.Reads as reads
+use Rattle.score.proofs.early_refusal.Lts as lts
+use Rattle.double_array.proofs.is_array.Reads as is-array-reads
+use Rattle.score.proofs.state_ok.Reads as state-ok-reads
+
+is-array-requires : tie.Need-is-array-requires
+is-array-requires c κs = search needs
+
+returns : tie.Need-returns
+returns c =
+    let s = c .before .before in
+    rw (opened-none (s .args .base .now) (s .args .check .now) (sym (c .before .is-array .ensures) ∙ not-true (c .before .is-array .result) (c .if1 .taken)))
+
+-- an array
+array : (c : tie.Else1) → isArray (c .before .before .args .base .now) (c .before .before .args .check .now) ≡ true
+array c = sym (c .before .is-array .ensures) ∙ not-false (c .before .is-array .result) (c .if1 .left)
+
+shared-slice-copy-out-order : tie.Need-shared-slice-copy-out-order
+shared-slice-copy-out-order c = let s = c .before .before in order-inside (s .args .base .now) (s .args .check .now) (array c)
+
+order-fits : (c : tie.After-order) → SFits w32 (getD (c .before .before .before .args .check .now) 0 (pos 0))
+order-fits c = sfits-of (c .order .given)
+
+cast-order : tie.Need-cast-order
+cast-order c = let s = c .before .before .before in order-cast (s .args .base .now) (s .args .check .now) (array (c .before)) (order-fits c)
+
+state-ok-requires : tie.Need-state-ok-requires
+state-ok-requires c κs =
+    let s = c .before .before .before in
+    rw (order-read (s .args .base .now) (s .args .check .now) (array (c .before)) (order-fits c)) (opened-order (s .args .base .now) (s .args .check .now) (array (c .before)) .0)
+
+-- check 16 of the state
+state-is : (c : tie.After-state-ok) (t : Bool) → c .state-ok .result ≡ t → stateOk (orderIn (c .before .before .before .before .args .check .now)) (numbersOf (c .before .before .before .before .args .state)) ≡ t
+state-is c t e =
+    let s = c .before .before .before .before in
+    ap (λ (n : ℕ). stateOk n (numbersOf (s .args .state))) (sym (order-read (s .args .base .now) (s .args .check .now) (array (c .before .before)) (order-fits (c .before)))) ∙ sym (c .state-ok .ensures) ∙ e
+
+returns-2 : tie.Need-returns-2
+unfolding storeIn
+returns-2 c =
+    let k = c .before in
+    let s = k .before .before .before .before in
+    rw (opened-some (s .args .base .now) (s .args .check .now) (array (k .before .before)), state-is k false (not-true (k .state-ok .result) (c .if2 .taken)))
+
+state-passes : (c : tie.Else2) → stateOk (orderIn (c .before .before .before .before .before .args .check .now)) (numbersOf (c .before .before .before .before .before .args .state)) ≡ true
+state-passes c = state-is (c .before) true (not-false (c .before .state-ok .result) (c .if2 .left))
+
+returns-3 : tie.Need-returns-3
+unfolding storeIn
+returns-3 c =
+    let e = c .before in
+    let s = e .before .before .before .before .before in
+    rw (opened-some (s .args .base .now) (s .args .check .now) (array (e .before .before .before)), state-passes e, lt-ltb _ _ (c .if3 .taken))
+
+returns-4 : tie.Need-returns-4
+unfolding storeIn
+returns-4 c =
+    let e = c .before .before in
+    let s = e .before .before .before .before .before in
+    rw (opened-some (s .args .base .now) (s .args .check .now) (array (e .before .before .before)), state-passes e, le-ltb _ _ (c .before .if3 .left), c .if4 .taken)
+
+returns-5 : tie.Need-returns-5
+unfolding storeIn
+returns-5 c =
+    let e = c .before .before in
+    let s = e .before .before .before .before .before in
+    rw (opened-some (s .args .base .now) (s .args .check .now) (array (e .before .before .before)), state-passes e, le-ltb _ _ (c .before .if3 .left), c .if4 .left)
+
+pub early-refusal-spec : {M : Type 1} → statement M
+early-refusal-spec =
+    tie.close
+    (tie.spec
+    is-array-requires
+    returns
+    shared-slice-copy-out-order
+    cast-order
+    state-ok-requires
+    returns-2
+    returns-3
+    returns-4
+    returns-5)

@@ -1,0 +1,12 @@
+-- `score::empty` meets its contract. Assumes nothing.
+use mathlib.Core.Path.{refl}
+use Rattle.score.specs.Answers.{numbersOf}
+use Rattle.score.proofs.empty.Statement.{statement}
+use Rattle.score.proofs.empty.Tie as tie
+
+returns : tie.Need-returns
+unfolding numbersOf
+returns c = refl
+
+pub empty-spec : {M : Type 1} → statement M
+empty-spec = tie.close (tie.spec returns)

@@ -1,0 +1,21 @@
+-- `score::kind_of` meets its contract. Assumes nothing.
+use mathlib.Core.Path.{_≡_, refl, sym, ap, _∙_}
+use borrow.Author.Tests.{eq-eqb, ne-eqb}
+use native.Mathlib.Omega.{arith}
+use Rattle.backoff.specs.Limits.{unknownWord}
+use Rattle.backoff.specs.Rule.{lengthByte}
+use Rattle.score.proofs.kind_of.Statement.{statement}
+use Rattle.score.proofs.kind_of.Tie as tie
+use Rattle.score.proofs.kind_of.Reads as reads
+use Rattle.score.proofs.kind_of.Lts as lts
+
+returns : tie.Need-returns
+unfolding lengthByte
+returns c = rw (eq-eqb _ unknownWord (c .if1 .taken))
+
+returns-2 : tie.Need-returns-2
+unfolding lengthByte
+returns-2 c = rw (ne-eqb _ unknownWord (c .if1 .left)) (omega arith)
+
+pub kind-of-spec : {M : Type 1} → statement M
+kind-of-spec = tie.close (tie.spec returns returns-2)

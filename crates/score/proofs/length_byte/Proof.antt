@@ -1,0 +1,30 @@
+-- `score::length_byte` meets its contract. Assumes nothing.
+use mathlib.Core.Path.{_≡_, refl, sym, ap, subst, _∙_}
+use native.Mathlib.Omega.{arith}
+use Prim.Native.Nat.{_<_}
+use Rattle.score.specs.declared.Kind.{Kind}
+use Rattle.score.specs.Answers.{byteOf}
+use borrow.Author.Needs.{needs}
+use Rattle.score.proofs.length_byte.Statement.{statement}
+use Rattle.score.proofs.length_byte.Tie as tie
+use Rattle.score.proofs.length_byte.Reads as reads
+use Rattle.score.proofs.length_byte.Lts as lts
+
+enum-known-kind : tie.Need-enum-known-kind
+enum-known-kind c = search needs
+
+enum-known-kind-2 : tie.Need-enum-known-kind-2
+enum-known-kind-2 c = search needs
+
+add-result : tie.Need-add-result
+add-result c = omega (arith, subst (λ (k : Kind). byteOf k < 256) (c .before .kind2 .given .1) (c .before .before .before .pre))
+
+returns : tie.Need-returns
+returns c = search needs
+
+returns-2 : tie.Need-returns-2
+returns-2 c = sym (ap byteOf (c .before .kind2 .given .1))
+
+pub length-byte-spec : {M : Type 1} → statement M
+length-byte-spec =
+    tie.close (tie.spec enum-known-kind enum-known-kind-2 add-result returns returns-2)

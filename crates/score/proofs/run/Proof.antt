@@ -1,0 +1,94 @@
+-- `score::run` meets its contract. Assumes nothing.
+use mathlib.Core.Path.{_≡_, sym, ap, ap₂, _∙_}
+use mathlib.Core.Bool.{true}
+use mathlib.Core.List.{List}
+use Prim.Native.Nat.{ℕ}
+use borrow.Author.Needs.{needs, sfits-of}
+use lib.ListN.{getD}
+use lib.IntN.{ℤ, pos}
+use mir.Syntax.{w32}
+use mir.Val.{SFits}
+use Rattle.backoff.specs.Run.{Run, Answer, refusedRun}
+use Rattle.backoff.specs.Store.{runOutcome}
+use Rattle.double_array.specs.DoubleArray.{isArray, opened}
+use Rattle.score.specs.Answers.{numbersOf}
+use Rattle.score.specs.Meaning.{RunMeans}
+use Rattle.score.proofs.Carried.{Four, length-numbers}
+use Rattle.score.proofs.Rows.{order-inside, order-cast, order-read}
+use Rattle.score.proofs.Outcomes.{refused-early, Passed, passed-all, scored-late, run-means}
+use Rattle.score.proofs.run.Statement.{statement}
+use Rattle.score.proofs.run.Tie as tie
+use Rattle.score.proofs.run.Reads as reads
+use Rattle.score.proofs.run.Lts as lts
+use Rattle.score.proofs.early_refusal.Reads as early-refusal-reads
+use Rattle.score.proofs.score_words.Reads as score-words-reads
+
+arrays : (s : tie.Start) → Four (s .args .state)
+arrays s = record { words = search needs; backoffs = search needs }
+
+-- the run that is asked for
+abbrev asked : tie.Start → Run
+asked s = record { words = s .args .words .now; points = s .args .points .now; lengths = s .args .lengths .now }
+
+-- an answer that is the outcome also means what it should
+answers : (s : tie.Start) (a : Answer (List ℤ)) → a ≡ runOutcome (opened (s .args .base .now) (s .args .check .now)) (numbersOf (s .args .state)) (asked s) → (a ≡ runOutcome (opened (s .args .base .now) (s .args .check .now)) (numbersOf (s .args .state)) (asked s)) × RunMeans (s .args .base .now) (s .args .check .now) (numbersOf (s .args .state)) (asked s) a
+answers s a e = (e, rw e (run-means (s .args .base .now) (s .args .check .now) (numbersOf (s .args .state)) (asked s) (length-numbers (s .args .state) (arrays s))))
+
+early-refusal-requires : tie.Need-early-refusal-requires
+early-refusal-requires c κs = search needs
+
+returns : tie.Need-returns
+unfolding refusedRun
+returns c =
+    let k = c .before in
+    let s = k .before .before .before in
+    answers s _ (sym (refused-early (numbersOf (s .args .state)) (length-numbers (s .args .state) (arrays s)) (asked s) (opened (s .args .base .now) (s .args .check .now)) (k .early-refusal .result) (k .early-refusal .ensures) (c .if1 .taken)))
+
+-- nothing refuses the run before its words
+passed : (c : tie.Else1) → Passed (c .before .before .before .before .args .base .now) (c .before .before .before .before .args .check .now) (numbersOf (c .before .before .before .before .args .state)) (asked (c .before .before .before .before))
+passed c =
+    let s = c .before .before .before .before in
+    passed-all (s .args .base .now) (s .args .check .now) (numbersOf (s .args .state)) (asked s) (sym (c .before .early-refusal .ensures) ∙ c .if1 .left)
+
+shared-slice-copy-out-order : tie.Need-shared-slice-copy-out-order
+shared-slice-copy-out-order c = let s = c .before .before .before .before in order-inside (s .args .base .now) (s .args .check .now) (passed c .array)
+
+order-fits : (c : tie.After-order) → SFits w32 (getD (c .before .before .before .before .before .args .check .now) 0 (pos 0))
+order-fits c = sfits-of (c .order .given)
+
+cast-order : tie.Need-cast-order
+cast-order c = let s = c .before .before .before .before .before in order-cast (s .args .base .now) (s .args .check .now) (passed (c .before) .array) (order-fits c)
+
+score-words-requires : tie.Need-score-words-requires
+score-words-requires c κs =
+    let o = c .before .before in
+    let p = passed (o .before) in
+    let s = o .before .before .before .before .before in
+    let e = order-read (s .args .base .now) (s .args .check .now) (p .array) (order-fits o) in
+    (p .array, (e, (rw e (p .state), (p .few, (p .points, p .lengths)))))
+
+same-length : tie.Need-same-length
+same-length c = search needs
+
+same-length-2 : tie.Need-same-length-2
+same-length-2 c = search needs
+
+returns-2 : tie.Need-returns-2
+returns-2 c =
+    let k = c .before .before .before in
+    let e = k .before .before .before .before in
+    let s = e .before .before .before .before in
+    answers s _ (k .score-words .ensures ∙ sym (scored-late (s .args .base .now) (s .args .check .now) (numbersOf (s .args .state)) (asked s) (sym (e .before .early-refusal .ensures) ∙ e .if1 .left) (length-numbers (s .args .state) (arrays s))))
+
+pub run-spec : {M : Type 1} → statement M
+run-spec =
+    tie.close
+    (tie.spec
+    early-refusal-requires
+    returns
+    shared-slice-copy-out-order
+    cast-order
+    score-words-requires
+    same-length
+    same-length-2
+    returns-2)

@@ -1,0 +1,36 @@
+-- The code's state as its nine numbers, and the code's answers as those that crate backoff defines. Assumes nothing.
+use mathlib.Core.List.{List, _∷_, _++_}
+use Prim.Native.Nat.{ℕ, _+_}
+use lib.IntN.{ℤ}
+use Rattle.backoff.specs.Run.{Answer}
+use Rattle.backoff.specs.Store.{Step, scored, stuck, Started as StartAnswer}
+use Rattle.backoff.specs.NineNumbers.{stateIn}
+use Rattle.score.specs.declared.State.{State}
+use Rattle.score.specs.declared.Kind.{Kind}
+use Rattle.score.specs.declared.Kind.the-variants.{Known, Unknown}
+use Rattle.score.specs.declared.Word.{Word}
+use Rattle.score.specs.declared.Word.the-variants.{Scored, Refused}
+use Rattle.score.specs.declared.Started.{Started}
+use Rattle.score.specs.declared.Ran.{Ran}
+
+-- "nine signed numbers of 32 bits: count, four words newest first, four back-offs"
+unfoldable pub numbersOf : State → List ℤ
+numbersOf s = s .count ∷ (s .words ++ s .backoffs)
+
+-- "its matched length, plus 8 if unknown"
+abbrev pub byteOf : Kind → ℕ
+byteOf (Known matched) = matched
+byteOf (Unknown matched) = matched + 8
+
+-- a word's answer, with the state that it leaves, as a step
+abbrev pub stepOf : Word → State → Step
+stepOf (Scored kind points) next = scored points (byteOf kind) (stateIn (numbersOf next))
+stepOf Refused next = stuck
+
+abbrev pub startedOf : Started → StartAnswer
+startedOf r = record { number = r .number; place = r .place; state = numbersOf (r .state) }
+
+-- what a run returned, with both output slices as they are after it
+abbrev pub answerOf : Ran → List ℤ → List ℕ → Answer (List ℤ)
+answerOf r points lengths =
+    record { number = r .number; place = r .place; total = r .total; end = numbersOf (r .end); points = points; lengths = lengths }

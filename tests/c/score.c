@@ -1,0 +1,43 @@
+/* Start, run and plain scoring from C. */
+#include "test.h"
+
+static int32_t base[20];
+static int32_t check[20];
+static int32_t state[9];
+static int32_t points[3];
+static uint8_t lengths[3];
+
+static const uint32_t WORDS[3] = {4, 5, 3};
+static const int32_t POINTS[3] = {-4000, -1000, -1500};
+static const uint8_t LENGTHS[3] = {2, 3, 2};
+
+static int is_k1(struct backoff_total answer) {
+    int same = memcmp(points, POINTS, sizeof points) == 0 && memcmp(lengths, LENGTHS, sizeof lengths) == 0;
+    memset(points, 0, sizeof points);
+    memset(lengths, 0, sizeof lengths);
+    return same && answer.number == 0 && answer.place == 0 && answer.total == -6500;
+}
+
+static int is_refused(struct backoff_total answer, uint32_t number) {
+    return answer.number == number && answer.place == 0 && answer.total == 0;
+}
+
+int main(void) {
+    static const int32_t after_start[9] = {1, 2, 0, 0, 0, -3000, 0, 0, 0};
+    static const int32_t empty[9] = {0};
+    uint32_t work[9];
+    expect("the sample is built", is(backoff_build(&SAMPLE[0][0], 72, base, 20, check, 20, work, 9), 0, 0));
+    expect("a state of eight numbers gives 16 to start", is(backoff_start(base, 20, check, 20, state, 8), 16, 0));
+    expect("start is accepted", is(backoff_start(base, 20, check, 20, state, 9), 0, 0));
+    expect("the state after <s>", memcmp(state, after_start, sizeof state) == 0);
+    expect("a state of eight numbers gives 16 to run",
+           is_refused(backoff_run(base, 20, check, 20, state, 8, WORDS, 3, points, 3, lengths, 3), 16));
+    expect("a points slice too short gives 15",
+           is_refused(backoff_run(base, 20, check, 20, state, 9, WORDS, 3, points, 2, lengths, 3), 15));
+    expect("K1 by a run", is_k1(backoff_run(base, 20, check, 20, state, 9, WORDS, 3, points, 3, lengths, 3)));
+    expect("K5: the state after it is empty", memcmp(state, empty, sizeof state) == 0);
+    expect("K1 by plain scoring", is_k1(backoff_plain(&SAMPLE[0][0], 72, true, WORDS, 3, points, 3, lengths, 3)));
+    expect("another total without context",
+           backoff_plain(&SAMPLE[0][0], 72, false, WORDS, 3, points, 3, lengths, 3).total == -10500);
+    return counted();
+}
