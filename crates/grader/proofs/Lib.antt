@@ -1,5 +1,7 @@
 -- The theorems over the calls' outcomes, and a law of lists.
 pub mod RunsInARow
 pub mod MarkedCases
+pub mod Returns
+pub mod Lookups
 pub mod Items
 pub mod Crossing

@@ -2,3 +2,4 @@
 pub mod Exports
 pub mod RunsInARow
 pub mod MarkedCases
+pub mod Returns

@@ -1,0 +1,125 @@
+-- Over the arrays that an accepted build leaves, unload gives the list back, row for row, with the slots that the build left in work. Assumes nothing.
+use mathlib.Core.Path.{_≡_, refl, sym, ap, _∙_}
+use mathlib.Core.List.{List, [], _∷_}
+use mathlib.Core.Option.{Option, none, some}
+use Prim.Native.Nat.{ℕ, zero, suc, _+_, _≤_, _<_}
+use native.Mathlib.Omega.{arith}
+use lib.ListN.{length, getD, drop}
+use lib.Seq.{take-at, drop-at, ext-getD}
+use lib.IntN.{ℤ, pos, natAbs}
+use Rattle.backoff.specs.Limits.{slotLimit}
+use Rattle.backoff.specs.Model.{Model}
+use Rattle.backoff.specs.Run.{written}
+use Rattle.backoff.specs.declared.Verdict.the-variants.{Accepted}
+use Rattle.list.specs.Table.{rowsOf, orderOf, words}
+use Rattle.list.specs.Check.{verdict}
+use Rattle.double_array.specs.DoubleArray.{orderIn}
+use Rattle.double_array.specs.declared.Child.the-variants.{At}
+use Rattle.placing.specs.Trie.{Node, findNode, Ready}
+use Rattle.placing.specs.Placing.{slots}
+use Rattle.placing.proofs.Trie.{root-found, parent-found}
+use Rattle.placing.proofs.NodeByNode.{placing-head}
+use Rattle.placing.proofs.Slots.{getD-slots}
+use Rattle.placing.proofs.Walk.{LaidOut, childIf, placing-laid-out}
+use Rattle.build.specs.ListTrie.{rootOf, nodesOf, placedList, slotsFrom, rowSlots}
+use Rattle.build.specs.Build.{buildOutcome}
+use Rattle.build.proofs.ListTrie.{nodeAt-root, nodes-ready, findNode-row}
+use Rattle.build.proofs.Built.{built-array, built-order, built-model, built-whole, build-accepted}
+use Rattle.unload.specs.Unload.{walkTo, reached, slotsOf, rowsIn, unloadOutcome}
+use Rattle.unload.specs.Meaning.{Holds}
+use Rattle.unload.proofs.Rows.{rows-tableOf, length-slotsOf}
+use Rattle.unload.proofs.Held.{held-table}
+use Rattle.unload.proofs.Unload.{held-unloads, held-slot}
+use Rattle.grader.specs.Returns.{ReturnsList}
+
+-- in a layout, words lead to the slot of their node
+walk-laid-out : {nodes : List Node} {slot : List ℕ → ℕ} {base check : List ℤ} → Ready nodes → LaidOut nodes slot base check → (us : List ℕ) → walkTo base check us ≡ childIf (findNode nodes us) (slot us)
+unfolding walkTo
+walk-laid-out R L [] = let r = root-found R in rw (r .1, L .root)
+walk-laid-out {nodes} {slot} {base} {check} R L (w ∷ us) = go (findNode nodes us) refl (walk-laid-out R L us)
+  where
+    orphan : findNode nodes us ≡ none → (o : Option Node) → findNode nodes (w ∷ us) ≡ o → o ≡ none
+    orphan q none e = refl
+    orphan q (some m) e = let k = parent-found R w us m e in absurd (let z : _≡_ {A = ℕ} 0 1 = cc in omega arith)
+
+    go : (o : Option Node) → findNode nodes us ≡ o → walkTo base check us ≡ childIf (findNode nodes us) (slot us)
+        → walkTo base check (w ∷ us) ≡ childIf (findNode nodes (w ∷ us)) (slot (w ∷ us))
+    go none q ih = rw (ih, q, orphan q (findNode nodes (w ∷ us)) refl)
+    go (some m) q ih = rw (ih, q) (L .child us m q w)
+
+-- ---- the slots of the rows
+
+length-slotsFrom : (t : List ℤ) (i k : ℕ) → length (slotsFrom t i k) ≡ k
+unfolding slotsFrom
+length-slotsFrom t i zero = refl
+length-slotsFrom t i (suc k) = ap suc (length-slotsFrom t (suc i) k)
+
+getD-slotsFrom : (t : List ℤ) (i k j : ℕ) → j < k → getD (slotsFrom t i k) j 0 ≡ placedList t .slot (words t (i + j))
+unfolding slotsFrom
+getD-slotsFrom t i zero j h = absurd (omega arith)
+getD-slotsFrom t i (suc k) zero h = ap (λ (n : ℕ). placedList t .slot (words t n)) (omega arith)
+getD-slotsFrom t i (suc k) (suc j) h = getD-slotsFrom t (suc i) k j (omega arith) ∙ ap (λ (n : ℕ). placedList t .slot (words t n)) (omega arith)
+
+length-rowSlots : (t : List ℤ) → length (rowSlots t) ≡ rowsOf t
+unfolding rowSlots
+length-rowSlots t = length-slotsFrom t 0 (rowsOf t)
+
+-- ---- the first N slots of the placed array
+
+module _ (t : List ℤ) (a : verdict t ≡ Accepted) (N : ℕ) (low : 2 ≤ N) (high : N ≤ slotLimit) (room : placedList t .top ≤ N) where
+  abbrev B : List ℤ
+  B = slots N (placedList t .base)
+
+  abbrev C : List ℤ
+  C = slots N (placedList t .check)
+
+  rows-read : rowsIn B ≡ rowsOf t
+  unfolding rowsIn placedList rootOf
+  rows-read =
+      ap natAbs
+      (getD-slots N (placedList t .base) 1 (pos 0) (omega arith) ∙ placing-head (orderOf t) (nodesOf t) (nodes-ready t a) .base-1
+      ∙ ap (λ (n : Node). n .load) (nodeAt-root t))
+
+  placed-holds : Holds B C t
+  placed-holds = record {
+    array = built-array t a N low high room;
+    list = a;
+    rows = sym rows-read;
+    order = sym (built-order t a N low high room);
+    find = λ l h. ap (λ (M : Model). M .find l) (built-model t a N low high room);
+    sound = λ l h. built-whole t a N low high room .sound l;
+  }
+
+  row-walk : (i : ℕ) → i < rowsOf t → walkTo B C (words t i) ≡ At (placedList t .slot (words t i))
+  unfolding placedList
+  row-walk i h = walk-laid-out (nodes-ready t a) (placing-laid-out (orderOf t) (nodes-ready t a) N room) (words t i) ∙ rw (findNode-row t a i h)
+
+  slots-back : slotsOf (reached B C (orderIn C)) ≡ rowSlots t
+  unfolding rowSlots
+  slots-back =
+      let k : length (slotsOf (reached B C (orderIn C))) ≡ rowsOf t = length-slotsOf (reached B C (orderIn C)) ∙ sym (rows-tableOf B C (reached B C (orderIn C))) ∙ ap rowsOf (held-table B C t placed-holds) in
+      ext-getD 0 (slotsOf (reached B C (orderIn C))) (slotsFrom t 0 (rowsOf t)) (k ∙ sym (length-slotsFrom t 0 (rowsOf t)))
+      (λ i h.
+      let l : i < rowsOf t = omega arith in
+      let e : At (getD (slotsOf (reached B C (orderIn C))) i 0) ≡ At (placedList t .slot (words t i)) = sym (held-slot B C t placed-holds i l) ∙ row-walk i l in
+      let f : getD (slotsFrom t 0 (rowsOf t)) i 0 ≡ placedList t .slot (words t i) = getD-slotsFrom t 0 (rowsOf t) i l ∙ ap (λ (n : ℕ). placedList t .slot (words t n)) (omega arith) in
+      cc)
+
+  placed-unloads : (table : List ℤ) (work : List ℕ) → length t ≤ length table → rowsOf t ≤ length work
+      → unloadOutcome B C table work ≡ record { answer = Accepted; table = written t table; work = written (rowSlots t) work }
+  placed-unloads table work h k = held-unloads B C t placed-holds table work h k ∙ rw slots-back
+
+pub unload-returns-the-list : (table base check : List ℤ) (work : List ℕ) (table′ : List ℤ) (work′ : List ℕ) → buildOutcome table base check work .answer ≡ Accepted
+    → length table ≤ length table′ → rowsOf table ≤ length work′ → ReturnsList table base check work table′ work′
+unfolding written
+unload-returns-the-list table base check work table′ work′ e h k =
+    let b = build-accepted table base check work e in
+    let n = length-rowSlots table in
+    let u : unloadOutcome (buildOutcome table base check work .base) (buildOutcome table base check work .check) table′ work′ ≡ record { answer = Accepted; table = written table table′; work = written (rowSlots table) work′ } = rw (b .base-slots, b .check-slots) (placed-unloads table (b .accepted) (length base) (b .sizes .low) (b .sizes .high) (b .room) table′ work′ h k) in
+    record {
+      accepted = rw u;
+      rows = rw u (take-at table _ (length table) refl);
+      past-rows = rw u (drop-at table _ (length table) refl);
+      slots = rw (u, b .work-slots) (take-at (rowSlots table) _ (rowsOf table) n ∙ sym (take-at (rowSlots table) _ (rowsOf table) n));
+      past-slots = rw u (drop-at (rowSlots table) _ (rowsOf table) n ∙ ap (λ (m : ℕ). drop m work′) n);
+    }

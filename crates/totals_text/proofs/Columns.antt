@@ -1,0 +1,166 @@
+-- Laws of specs/Columns.antt: reading a column and printing a number are inverse. Assumes nothing.
+use mathlib.Core.Path.{_≡_, refl, sym, ap, _∙_}
+use mathlib.Core.Bool.{Bool, true, false, not, cond, _&&_}
+use mathlib.Core.List.{List, [], _∷_, _++_}
+use Prim.Native.Nat.{ℕ, zero, suc, _+_, _-_, _^_, _≤_, max}
+use native.Mathlib.Nat.{pow-le-pow-right}
+use native.Mathlib.Omega.{arith}
+use lib.Dec.{eqb, eqb·suc-zero}
+use lib.IntN.{ℤ, pos, negsuc, negℤ}
+use lib.Signed.{_≤ℤ_}
+use lib.ListN.{length, replicate, length-append, length-replicate}
+use lib.Seq.{sets}
+use borrow.Author.Tests.{eqb-true, eqb-false, eq-eqb, ne-eqb, not-true}
+use Rattle.integer.proofs.Arithmetic.{zarith}
+use Rattle.integer.proofs.Ranges.{and-left, and-right}
+use Rattle.totals_text.specs.declared.Column.the-variants.{Number, NotInForm}
+use Rattle.totals_text.specs.Columns.{digits, signed, numeral, justified, column, leastNumber, greatestNumber, withoutSpaces, isNatural, valueFrom, readNatural, readNegative, readNumeral, readColumn, ColumnMeans}
+use Rattle.totals_text.proofs.Digits.{digits-lead, digits-natural, value-digits, natural-digits, digits-le, digits-bound}
+use Rattle.totals_text.proofs.Stores.{sets-append}
+
+-- ---- spaces
+
+spaces-off : (k c : ℕ) (text : List ℕ) → (c ≡ 32 → ⊥) → withoutSpaces (replicate k 32 ++ (c ∷ text)) ≡ c ∷ text
+unfolding withoutSpaces
+spaces-off zero c text n = rw (ne-eqb c 32 n)
+spaces-off (suc k) c text n = spaces-off k c text n
+
+without-le : (text : List ℕ) → length (withoutSpaces text) ≤ length text
+unfolding withoutSpaces
+without-le [] = omega arith
+without-le (c ∷ text) = go (eqb c 32) (without-le text)
+  where
+    go : (t : Bool) → length (withoutSpaces text) ≤ length text → length (cond t (withoutSpaces text) (c ∷ text)) ≤ suc (length text)
+    go true h = omega arith
+    go false h = omega arith
+
+-- the spaces put back
+spaces-back : (text : List ℕ) → text ≡ justified (length text) (withoutSpaces text)
+unfolding withoutSpaces justified
+spaces-back [] = refl
+spaces-back (c ∷ text) = go (eqb c 32) refl (spaces-back text)
+  where
+    go : (t : Bool) → eqb c 32 ≡ t → text ≡ justified (length text) (withoutSpaces text) → c ∷ text ≡ justified (suc (length text)) (cond t (withoutSpaces text) (c ∷ text))
+    go true f r =
+        let k : suc (length text) - length (withoutSpaces text) ≡ suc (length text - length (withoutSpaces text)) = omega (arith, without-le text) in
+        rw (k, eqb-true c 32 f) (ap (λ (l : List ℕ). 32 ∷ l) r)
+    go false f r =
+        let k : suc (length text) - suc (length text) ≡ 0 = omega arith in
+        rw k refl
+
+-- ---- numerals
+
+record Solid (text : List ℕ) : Type 0 where
+  first : ℕ
+  rest : List ℕ
+  is : text ≡ first ∷ rest
+  solid : first ≡ 32 → ⊥
+
+numeral-solid : (z : ℤ) → Solid (numeral z)
+unfolding numeral signed
+numeral-solid (pos n) = let l = digits-lead n in record { first = l .first; rest = l .rest; is = l .is; solid = λ e. omega (arith, l .digit) }
+numeral-solid (negsuc n) = record { first = 45; rest = digits (suc n); is = refl; solid = λ e. omega arith }
+
+read-numeral : (z : ℤ) → readNumeral (numeral z) ≡ Number z
+unfolding numeral signed readNumeral readNatural readNegative
+read-numeral (pos n) =
+    let l = digits-lead n in
+    let e : readNatural (l .first ∷ l .rest) ≡ Number (pos n) = ap readNatural (sym (l .is)) ∙ rw (digits-natural n, value-digits n) refl in
+    rw (l .is, ne-eqb (l .first) 45 (λ f. omega (arith, l .digit))) e
+read-numeral (negsuc n) = rw (digits-natural (suc n), value-digits (suc n), eqb·suc-zero n) refl
+
+-- an answer by cases is a number only where the test held
+picked : (t : Bool) (y z : ℤ) → cond t (Number y) NotInForm ≡ Number z → (t ≡ true) × (y ≡ z)
+picked true y z e = (refl, cc)
+picked false y z e = let n : _≡_ {A = ℕ} 0 1 = cc in absurd (omega arith)
+
+natural-read : (text : List ℕ) (z : ℤ) → readNatural text ≡ Number z → text ≡ numeral z
+unfolding readNatural numeral signed
+natural-read text z e =
+    let p = picked (isNatural text) (pos (valueFrom 0 text)) z e in
+    sym (natural-digits text (p .0)) ∙ ap numeral (p .1)
+
+negative-numeral : (v : ℕ) → (v ≡ 0 → ⊥) → 45 ∷ digits v ≡ numeral (negℤ (pos v))
+unfolding numeral signed
+negative-numeral zero n = absurd (n refl)
+negative-numeral (suc v) n = refl
+
+negative-read : (text : List ℕ) (z : ℤ) → readNegative text ≡ Number z → 45 ∷ text ≡ numeral z
+unfolding readNegative
+negative-read text z e =
+    let v = valueFrom 0 text in
+    let p = picked (isNatural text && not (eqb v 0)) (negℤ (pos v)) z e in
+    let some = eqb-false v 0 (not-true (eqb v 0) (and-right (isNatural text) (not (eqb v 0)) (p .0))) in
+    ap (λ (l : List ℕ). 45 ∷ l) (sym (natural-digits text (and-left (isNatural text) (not (eqb v 0)) (p .0)))) ∙ negative-numeral v some ∙ ap numeral (p .1)
+
+numeral-read : (text : List ℕ) (z : ℤ) → readNumeral text ≡ Number z → text ≡ numeral z
+unfolding readNumeral
+numeral-read [] z e = let n : _≡_ {A = ℕ} 0 1 = cc in absurd (omega arith)
+numeral-read (c ∷ text) z e = go (eqb c 45) refl
+  where
+    go : (t : Bool) → eqb c 45 ≡ t → c ∷ text ≡ numeral z
+    go true f = rw (eqb-true c 45 f) (negative-read text z (rw f at e))
+    go false f = natural-read (c ∷ text) z (rw f at e)
+
+-- ---- columns
+
+pub length-justified : (width : ℕ) (text : List ℕ) → length (justified width text) ≡ max width (length text)
+unfolding justified
+length-justified width text = rw (length-append, length-replicate) (omega arith)
+
+-- stored in two runs
+pub sets-justified : (out : List ℕ) (at width : ℕ) (text : List ℕ) → sets out at (justified width text) ≡ sets (sets out at (replicate (width - length text) 32)) (at + (width - length text)) text
+unfolding justified
+sets-justified out at width text =
+    sets-append out at (replicate (width - length text) 32) text
+    ∙ ap (λ (n : ℕ). sets (sets out at (replicate (width - length text) 32)) (at + n) text) (length-replicate (width - length text) 32)
+
+-- a number whose print is eight characters long is read back from it
+pub read-eight : (z : ℤ) → length (column 8 z) ≡ 8 → readColumn (column 8 z) ≡ Number z
+unfolding readColumn column justified
+read-eight z h =
+    let s = numeral-solid z in
+    let k = 8 - length (numeral z) in
+    rw (eq-eqb (length (column 8 z)) 8 h)
+    (ap readNumeral
+    (ap (λ (l : List ℕ). withoutSpaces (replicate k 32 ++ l)) (s .is) ∙ spaces-off k (s .first) (s .rest) (s .solid) ∙ sym (s .is))
+    ∙ read-numeral z)
+
+-- a column that is read as z is z as it is printed
+pub printed-read : (text : List ℕ) (z : ℤ) → readColumn text ≡ Number z → (text ≡ column 8 z) × (length text ≡ 8)
+unfolding readColumn column
+printed-read text z e = go (eqb (length text) 8) refl
+  where
+    go : (t : Bool) → eqb (length text) 8 ≡ t → (text ≡ column 8 z) × (length text ≡ 8)
+    go true f =
+        let n = eqb-true (length text) 8 f in
+        (spaces-back text ∙ rw (n, numeral-read (withoutSpaces text) z (rw f at e)) refl, n)
+    go false f = let b : NotInForm ≡ Number z = rw f at e in let n : _≡_ {A = ℕ} 0 1 = cc in absurd (omega arith)
+
+-- a column is read as z exactly where it is z as it is printed
+pub column-means : (text : List ℕ) → ColumnMeans text (readColumn text)
+column-means text = record { number = λ z. (printed-read text z, λ h. ap readColumn (h .0) ∙ read-eight z (ap length (sym (h .0)) ∙ h .1)) }
+
+-- ---- which numbers a column of eight holds
+
+pub column-eight : (z : ℤ) → leastNumber ≤ℤ z → z ≤ℤ greatestNumber → length (column 8 z) ≡ 8
+unfolding column numeral signed
+column-eight (pos n) l h = length-justified 8 (digits n) ∙ omega (zarith, digits-le 7 n (omega zarith))
+column-eight (negsuc n) l h = length-justified 8 (45 ∷ digits (suc n)) ∙ omega (zarith, digits-le 6 (suc n) (omega zarith))
+
+eight-column : (z : ℤ) → length (column 8 z) ≡ 8 → (leastNumber ≤ℤ z) × (z ≤ℤ greatestNumber)
+unfolding column numeral signed
+eight-column (pos n) h =
+    let p : 10 ^ length (digits n) ≤ 10 ^ 8 = pow-le-pow-right (omega arith) {j = 8} (omega (arith, length-justified 8 (digits n))) in
+    omega (zarith, digits-bound n)
+eight-column (negsuc n) h =
+    let p : 10 ^ length (digits (suc n)) ≤ 10 ^ 7 = pow-le-pow-right (omega arith) {j = 7} (omega (arith, length-justified 8 (45 ∷ digits (suc n)))) in
+    omega (zarith, digits-bound (suc n))
+
+-- every number that a column of eight holds is read back from its print
+pub read-column-printed : (z : ℤ) → leastNumber ≤ℤ z → z ≤ℤ greatestNumber → readColumn (column 8 z) ≡ Number z
+read-column-printed z l h = read-eight z (column-eight z l h)
+
+-- and no other is read
+pub column-range : (text : List ℕ) (z : ℤ) → readColumn text ≡ Number z → (leastNumber ≤ℤ z) × (z ≤ℤ greatestNumber)
+column-range text z e = let p = printed-read text z e in eight-column z (ap length (sym (p .0)) ∙ p .1)

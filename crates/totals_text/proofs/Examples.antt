@@ -1,0 +1,74 @@
+-- What the forms say, one example of each: document 01's printed lines, and columns in form and not. Assumes nothing.
+use mathlib.Core.Path.{_≡_, refl}
+use mathlib.Core.List.{List, [], _∷_, _++_}
+use Prim.Native.Nat.{ℕ}
+use lib.IntN.{pos, negsuc}
+use lib.ListN.{replicate}
+use Rattle.totals_text.specs.declared.Column.the-variants.{Number, NotInForm}
+use Rattle.totals_text.specs.Columns.{digitsWithin, digits, signed, numeral, justified, column, withoutSpaces, allDigits, isNatural, valueFrom, readNatural, readNegative, readNumeral, readColumn}
+use Rattle.totals_text.specs.Lines.{refusedWord, countColumns, sentenceLine, refusedLine}
+
+-- so many spaces, and a text
+after : ℕ → List ℕ → List ℕ
+after n text = replicate n 32 ++ text
+
+-- `       3       1       1          -33000`
+third-line : sentenceLine 3 1 1 (negsuc 32999) ≡ after 7 (51 ∷ after 7 (49 ∷ after 7 (49 ∷ after 10 (45 ∷ 51 ∷ 51 ∷ 48 ∷ 48 ∷ 48 ∷ 10 ∷ []))))
+unfolding after sentenceLine countColumns column justified numeral signed digits digitsWithin
+third-line = refl
+
+-- `refused      13       2`
+refused-second : refusedLine 13 2 ≡ 114 ∷ 101 ∷ 102 ∷ 117 ∷ 115 ∷ 101 ∷ 100 ∷ after 6 (49 ∷ 51 ∷ after 7 (50 ∷ 10 ∷ []))
+unfolding after refusedLine refusedWord column justified numeral signed digits digitsWithin
+refused-second = refl
+
+-- a number wider than its column stands in full: `1234` in a column of 2
+wide : column 2 (pos 1234) ≡ 49 ∷ 50 ∷ 51 ∷ 52 ∷ []
+unfolding column justified numeral signed digits digitsWithin
+wide = refl
+
+-- `       0`, `99999999`, `-9999999`
+zero-in-form : readColumn (after 7 (48 ∷ [])) ≡ Number (pos 0)
+unfolding after readColumn withoutSpaces readNumeral readNegative readNatural isNatural allDigits valueFrom
+zero-in-form = refl
+
+full : readColumn (replicate 8 57) ≡ Number (pos 99999999)
+unfolding readColumn withoutSpaces readNumeral readNegative readNatural isNatural allDigits valueFrom
+full = refl
+
+full-negative : readColumn (45 ∷ replicate 7 57) ≡ Number (negsuc 9999998)
+unfolding readColumn withoutSpaces readNumeral readNegative readNatural isNatural allDigits valueFrom
+full-negative = refl
+
+-- a blank column, `      -0`, `      07`, `      +1`, `     - 1`, `      1 `, a tab for the spaces before `1`, and nine characters
+blank : readColumn (replicate 8 32) ≡ NotInForm
+unfolding readColumn withoutSpaces readNumeral readNegative readNatural isNatural allDigits valueFrom
+blank = refl
+
+minus-zero : readColumn (after 6 (45 ∷ 48 ∷ [])) ≡ NotInForm
+unfolding after readColumn withoutSpaces readNumeral readNegative readNatural isNatural allDigits valueFrom
+minus-zero = refl
+
+leading-zero : readColumn (after 6 (48 ∷ 55 ∷ [])) ≡ NotInForm
+unfolding after readColumn withoutSpaces readNumeral readNegative readNatural isNatural allDigits valueFrom
+leading-zero = refl
+
+plus : readColumn (after 6 (43 ∷ 49 ∷ [])) ≡ NotInForm
+unfolding after readColumn withoutSpaces readNumeral readNegative readNatural isNatural allDigits valueFrom
+plus = refl
+
+minus-space : readColumn (after 5 (45 ∷ 32 ∷ 49 ∷ [])) ≡ NotInForm
+unfolding after readColumn withoutSpaces readNumeral readNegative readNatural isNatural allDigits valueFrom
+minus-space = refl
+
+space-behind : readColumn (after 6 (49 ∷ 32 ∷ [])) ≡ NotInForm
+unfolding after readColumn withoutSpaces readNumeral readNegative readNatural isNatural allDigits valueFrom
+space-behind = refl
+
+tab : readColumn (replicate 7 9 ++ (49 ∷ [])) ≡ NotInForm
+unfolding readColumn withoutSpaces readNumeral readNegative readNatural isNatural allDigits valueFrom
+tab = refl
+
+nine : readColumn (after 8 (49 ∷ [])) ≡ NotInForm
+unfolding after readColumn withoutSpaces readNumeral readNegative readNatural isNatural allDigits valueFrom
+nine = refl

@@ -1,0 +1,49 @@
+-- Laws of a run of stores, `sets`: runs that follow each other, and a store that stands aside. Assumes nothing.
+use mathlib.Core.Path.{_≡_, refl, sym, ap, _∙_}
+use mathlib.Core.List.{List, [], _∷_, _++_}
+use Prim.Native.Nat.{ℕ, suc, _+_, _-_, _≤_, _<_}
+use native.Mathlib.Omega.{arith}
+use native.Mathlib.Numerals.{add-one}
+use lib.ListN.{length, set, replicate}
+use lib.Seq.{sets, set-comm}
+
+module _ {A : Type 0} where
+  pub sets-append : (l : List A) (i : ℕ) (s t : List A) → sets l i (s ++ t) ≡ sets (sets l i s) (i + length s) t
+  sets-append l i [] t = let e : i + 0 ≡ i = omega arith in rw e refl
+  sets-append l i (a ∷ s) t =
+      let e : suc i + length s ≡ i + suc (length s) = omega arith in
+      sets-append (set l i a) (suc i) s t ∙ rw e refl
+
+  pub sets-three : (l : List A) (i : ℕ) (s t u : List A) → sets l i (s ++ (t ++ u)) ≡ sets (sets (sets l i s) (i + length s) t) (i + length s + length t) u
+  sets-three l i s t u = sets-append l i s (t ++ u) ∙ sets-append (sets l i s) (i + length s) t u
+
+  -- runs from the front on, and one store behind them
+  pub front-two : (l s t : List A) (a : A) → set (sets (sets l 0 s) (length s) t) (length s + length t) a ≡ sets l 0 (s ++ (t ++ (a ∷ [])))
+  front-two l s t a =
+      let e : 0 + length s ≡ length s = omega arith in
+      sym (sets-three l 0 s t (a ∷ []) ∙ rw e refl)
+
+  pub front-three : (l s t u : List A) (a : A) → set (sets (sets (sets l 0 s) (length s) t) (length s + length t) u) (length s + length t + length u) a ≡ sets l 0 (s ++ (t ++ (u ++ (a ∷ []))))
+  front-three l s t u a =
+      let e : 0 + length s ≡ length s = omega arith in
+      sym (sets-append l 0 s (t ++ (u ++ (a ∷ []))) ∙ rw e (sets-three (sets l 0 s) (length s) t u (a ∷ [])))
+
+  -- a store behind a run
+  set-behind : (l : List A) (i : ℕ) (s : List A) (a : A) → set (sets l i s) (i + length s) a ≡ sets (set l (i + length s) a) i s
+  set-behind l i [] a = refl
+  set-behind l i (b ∷ s) a =
+      let e : suc i + length s ≡ i + suc (length s) = omega arith in
+      rw (← e) (set-behind (set l i b) (suc i) s a ∙ ap (λ (k : List A). sets k (suc i) s) (set-comm l i (suc i + length s) b a (λ f. omega arith)))
+
+  -- the last of a run is stored first
+  pub sets-last : (l : List A) (i : ℕ) (s : List A) (a : A) → sets l i (s ++ (a ∷ [])) ≡ sets (set l (i + length s) a) i s
+  sets-last l i s a = sets-append l i s (a ∷ []) ∙ set-behind l i s a
+
+  -- a run of equal items that ends at w: the first of them is stored
+  pub sets-replicate : (l : List A) (i : ℕ) (u w : ℕ) (a : A) → u < w → sets l i (replicate (w - u) a) ≡ sets (set l i a) (i + 1) (replicate (w - (u + 1)) a)
+  sets-replicate l i u w a h =
+      let e : w - u ≡ suc (w - (u + 1)) = omega arith in
+      rw (e, add-one i) refl
+
+  pub sets-none : (l : List A) (i : ℕ) (u w : ℕ) (a : A) → w ≤ u → sets l i (replicate (w - u) a) ≡ l
+  sets-none l i u w a h = let e : w - u ≡ 0 = omega arith in rw e refl

@@ -1,0 +1,60 @@
+-- `totals_text::read_negative` meets its contract. Assumes nothing.
+use mathlib.Core.Path.{_≡_, refl, sym, ap, _∙_}
+use mathlib.Core.Bool.{true}
+use native.Mathlib.Omega.{arith}
+use lib.IntN.{ℤ, pos, negℤ, _-ℤ_, +ℤ-idl}
+use mir.Syntax.{w32}
+use mir.Val.{toZ}
+use mir.Facts.{toZ-ofZ, toZ-pos}
+use Rattle.integer.proofs.Arithmetic.{zarith}
+use Rattle.totals_text.specs.declared.Column.the-variants.{Number}
+use borrow.Author.Tests.{not-true, not-false, eq-eqb, ne-eqb}
+use Rattle.totals_text.specs.Columns.{isNatural, valueFrom, readNegative}
+use Rattle.totals_text.proofs.Digits.{natural-all}
+use borrow.Author.Needs.{needs}
+use Rattle.totals_text.proofs.read_negative.Statement.{statement}
+use Rattle.totals_text.proofs.read_negative.Tie as tie
+
+is-natural-requires : tie.Need-is-natural-requires
+is-natural-requires c κs = search needs
+
+returns : tie.Need-returns
+unfolding readNegative
+returns c = rw (sym (c .before .is-natural .ensures) ∙ not-true _ (c .if1 .taken)) refl
+
+value-requires : tie.Need-value-requires
+value-requires c κs = (natural-all _ (sym (c .before .is-natural .ensures) ∙ not-false _ (c .if1 .left)), c .before .before .before .pre)
+
+-- the text is a number
+natural : (c : tie.After-value) → isNatural (c .before .before .before .before .args .text .now) ≡ true
+natural c = sym (c .before .before .is-natural .ensures) ∙ not-false _ (c .before .if1 .left)
+
+returns-2 : tie.Need-returns-2
+unfolding readNegative
+returns-2 c =
+    let v = c .before in
+    rw (natural v, eq-eqb (valueFrom 0 (v .before .before .before .before .args .text .now)) 0 (sym (v .value .ensures .0) ∙ c .if2 .taken)) refl
+
+cast-t5 : tie.Need-cast-t5
+cast-t5 c = search needs
+
+sub-t6 : tie.Need-sub-t6
+sub-t6 c =
+    let e = c .before .value .ensures .1 in
+    let t : toZ w32 (c .before .value .result) ≡ pos (c .before .value .result) = toZ-pos w32 (omega arith) in
+    omega (zarith, t)
+
+returns-3 : tie.Need-returns-3
+unfolding readNegative
+returns-3 c =
+    let v = c .before in
+    let r = v .value .ensures in
+    let text = v .before .before .before .before .args .text .now in
+    let t : toZ w32 (v .value .result) ≡ pos (valueFrom 0 text) = toZ-pos w32 (omega arith) ∙ ap pos (r .0) in
+    rw (natural v, ne-eqb (valueFrom 0 text) 0 (λ e. c .if2 .left (r .0 ∙ e)))
+    (ap Number (toZ-ofZ (sub-t6 c) ∙ ap (λ (y : ℤ). pos 0 -ℤ y) t ∙ +ℤ-idl (negℤ (pos (valueFrom 0 text)))))
+
+pub read-negative-spec : {M : Type 1} → statement M
+read-negative-spec =
+    tie.close
+    (tie.spec is-natural-requires returns value-requires returns-2 cast-t5 sub-t6 returns-3)

@@ -1,0 +1,111 @@
+-- The lines of the totals program, without their LF where they are read and with it where they are printed. Assumes nothing.
+use mathlib.Core.Path.{_≡_}
+use mathlib.Core.Bool.{Bool, true, false, cond, _&&_}
+use mathlib.Core.List.{List, [], _∷_, _++_, map}
+use Prim.Native.Nat.{ℕ, zero, suc, _/_, _%_, _≤_, _<_}
+use lib.Dec.{eqb, leb}
+use lib.IntN.{ℤ, pos, negsuc}
+use lib.Signed.{leZ, _≤ℤ_}
+use lib.ListN.{length, getD, take, drop}
+use Rattle.totals_text.specs.declared.Column.{Column}
+use Rattle.totals_text.specs.declared.Column.the-variants.{Number, NotInForm}
+use Rattle.totals_text.specs.declared.TextLine.{TextLine}
+use Rattle.totals_text.specs.declared.TextLine.the-variants.{Words, NotInForm as NoWords}
+use Rattle.totals_text.specs.Columns.{column, leastNumber, greatestNumber, readColumn}
+
+-- the first columns of a line, read
+unfoldable pub columns : ℕ → List ℕ → List Column
+columns zero line = []
+columns (suc count) line = readColumn (take 8 line) ∷ columns count (drop 8 line)
+
+-- a number that is not below `least`
+unfoldable pub inForm : ℤ → Column → Bool
+inForm least (Number z) = leZ least z
+inForm least NotInForm = false
+
+unfoldable pub allInForm : ℤ → List Column → Bool
+allInForm least [] = true
+allInForm least (c ∷ cs) = inForm least c && allInForm least cs
+
+-- the number of a column, 0 where it is not in form
+unfoldable pub numberOf : Column → ℤ
+numberOf (Number z) = z
+numberOf NotInForm = pos 0
+
+-- the word of a column, 0 where it is not in form or negative
+unfoldable pub wordOf : Column → ℕ
+wordOf (Number (pos n)) = n
+wordOf (Number (negsuc n)) = 0
+wordOf NotInForm = 0
+
+-- "eight columns of eight characters"
+unfoldable pub isListLine : List ℕ → Bool
+isListLine line = eqb (length line) 64 && allInForm leastNumber (columns 8 line)
+
+unfoldable pub listRow : List ℕ → List ℤ
+listRow line = map numberOf (columns 8 line)
+
+-- "up to 64 words, each in such a column and none negative, an empty line being an empty sentence"
+unfoldable pub isTextLine : List ℕ → Bool
+isTextLine line = leb (length line) 512 && (eqb (length line % 8) 0 && allInForm (pos 0) (columns (length line / 8) line))
+
+unfoldable pub textWords : List ℕ → List ℕ
+textWords line = map wordOf (columns (length line / 8) line)
+
+unfoldable pub textAnswer : List ℕ → TextLine
+textAnswer line = cond (isTextLine line) (Words (length (textWords line))) NoWords
+
+-- the numbers side by side, each in its column
+unfoldable pub lineOf : List ℤ → List ℕ
+lineOf [] = []
+lineOf (z ∷ zs) = column 8 z ++ lineOf zs
+
+-- each is a number that a column of eight holds
+abbrev pub AllHeld : List ℤ → Type 0
+AllHeld zs = (j : ℕ) → j < length zs → (leastNumber ≤ℤ getD zs j (pos 0)) × (getD zs j (pos 0) ≤ℤ greatestNumber)
+
+-- the line is this row, in form
+pub record ListForm (line : List ℕ) (row : List ℤ) : Type 0 where
+  pub eight : length row ≡ 8
+  pub held : AllHeld row
+  pub is : line ≡ lineOf row
+
+-- a line is accepted exactly where it is in form, and its row is then the one that is left
+pub record ListLineMeans (line : List ℕ) (r : Bool) (row : List ℤ) : Type 0 where
+  pub accepted : r ≡ true → ListForm line row
+  pub every : (zs : List ℤ) → ListForm line zs → (r ≡ true) × (row ≡ zs)
+
+-- the line is these words, in form
+pub record TextForm (line ws : List ℕ) : Type 0 where
+  pub most : length ws ≤ 64
+  pub held : AllHeld (map pos ws)
+  pub is : line ≡ lineOf (map pos ws)
+
+-- a line is accepted exactly where it is in form, and its words are then the first that are left
+pub record TextLineMeans (line : List ℕ) (r : TextLine) (words : List ℕ) : Type 0 where
+  pub accepted : (n : ℕ) → r ≡ Words n → (n ≤ 64) × TextForm line (take n words)
+  pub every : (ws : List ℕ) → TextForm line ws → (r ≡ Words (length ws)) × (take (length ws) words ≡ ws)
+
+-- ---- what is printed
+
+-- `refused`
+unfoldable pub refusedWord : List ℕ
+refusedWord = 114 ∷ 101 ∷ 102 ∷ 117 ∷ 115 ∷ 101 ∷ 100 ∷ []
+
+-- "sentence number, words, unknown words (8 wide each)"
+unfoldable pub countColumns : ℕ → ℕ → ℕ → List ℕ
+countColumns number words unknown = column 8 (pos number) ++ (column 8 (pos words) ++ column 8 (pos unknown))
+
+-- "and total (16 wide)", and LF
+unfoldable pub sentenceLine : ℕ → ℕ → ℕ → ℤ → List ℕ
+sentenceLine number words unknown total = countColumns number words unknown ++ (column 16 total ++ (10 ∷ []))
+
+-- "`refused`, then number and place, 8 wide each", and LF
+unfoldable pub refusedLine : ℕ → ℕ → List ℕ
+refusedLine number place = refusedWord ++ (column 8 (pos number) ++ (column 8 (pos place) ++ (10 ∷ [])))
+
+-- ---- where it is written
+
+-- a buffer with `new` at its front, and untouched behind it
+unfoldable pub onto : {A : Type 0} → List A → List A → List A
+onto new old = new ++ drop (length new) old

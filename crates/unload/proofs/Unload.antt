@@ -1,0 +1,256 @@
+-- What the answers of unload mean: an accepted one gives the one list that the array holds, so that every lookup, start and run over the array is what
+-- this list says; refused by 12, the array holds none. Assumes nothing.
+use mathlib.Core.Path.{_≡_, refl, sym, ap, _∙_}
+use mathlib.Core.Logic.{_⊎_, inl, inr}
+use mathlib.Core.Bool.{Bool, true, false, _&&_, false≢true}
+use mathlib.Core.List.{List, [], _∷_, map, reverse, reverseAux, reverse-reverse, List·Memᴰ}
+use mathlib.Core.Option.{some}
+use Prim.Native.Nat.{ℕ, _*_, _≤_, _<_}
+use native.Mathlib.Omega.{arith}
+use borrow.Author.Tests.{eqb-true, leb-false, le-leb}
+use lib.Dec.{eqb, leb}
+use lib.ListN.{length, getD, length-reverse, List·getD-append}
+use lib.Seq.{take-at}
+use lib.IntN.{ℤ}
+use Rattle.integer.proofs.Ranges.{and-left, and-right, and-both}
+use Rattle.backoff.specs.Limits.{orderLimit}
+use Rattle.backoff.specs.Refusal.{numberOf, arrayHead, brokenNode, shortSlice}
+use Rattle.backoff.specs.Words.{areWords}
+use Rattle.backoff.specs.Run.{Run, written, run, first}
+use Rattle.backoff.specs.Runs.{answers}
+use Rattle.backoff.specs.Store.{absent, entryOf, isBroken, modelIn, runOutcome}
+use Rattle.backoff.specs.NineNumbers.{nine}
+use Rattle.backoff.specs.declared.Verdict.the-variants.{Accepted, Refused}
+use Rattle.backoff.proofs.Store.{packed}
+use Rattle.list.specs.Table.{rowsOf, orderOf, words}
+use Rattle.list.specs.Search.{findIn}
+use Rattle.list.specs.Check.{verdict}
+use Rattle.list.specs.ListModel.{entryAt, modelOf}
+use Rattle.list.specs.declared.Found.{Found}
+use Rattle.list.specs.declared.Found.the-variants.{At as Row, Nothing as NoRow}
+use Rattle.list.proofs.Search.{found-words, finds}
+use Rattle.list.proofs.Check.{accepted-good, accepted-size, number-accepted}
+use Rattle.double_array.specs.DoubleArray.{markerAt, childAt, lookFrom, lookRow, isArray, orderIn, storeIn, opened}
+use Rattle.double_array.specs.declared.Marker.the-variants.{Sound}
+use Rattle.double_array.specs.declared.Child.{Child}
+use Rattle.double_array.specs.declared.Child.the-variants.{At, Nothing}
+use Rattle.double_array.proofs.DoubleArray.{opened-order, opened-none, root-sound, look-here, look-down}
+use Rattle.unload.specs.Unload.{Reached, walkTo, reached, tableOf, allRight, slotsOf, rowsIn, isList, Unloaded, untouched, emptied, filled, unloadOutcome}
+use Rattle.unload.specs.Meaning.{lookEntry, Holds, Says, RefusedBy, no-array, too-short, no-list, rowsPart, UnloadMeans}
+use Rattle.unload.proofs.Reached.{reached-told, reached-shown, walk-words, walk-child, walk-slot}
+use Rattle.unload.proofs.Rows.{length-tableOf, rows-tableOf, length-slotsOf, row-node, node-row, all-sound}
+use Rattle.unload.proofs.Held.{entryOf-lookEntry, lookEntry-sound, held-says, held-runs-in-a-row, held-table, held-is-list}
+
+-- ---- an array whose nodes reached are a list
+
+module _ (base check : List ℤ) (array : isArray base check ≡ true) (ok : isList base check (reached base check (orderIn check)) ≡ true) where
+  abbrev n : ℕ
+  n = orderIn check
+
+  abbrev rs : List Reached
+  rs = reached base check n
+
+  abbrev t : List ℤ
+  t = tableOf base check rs
+
+  tests : (allRight base check t rs ≡ true) × (eqb (numberOf (verdict t)) 0 ≡ true) × (eqb (orderOf t) n ≡ true) × (eqb (rowsOf t) (rowsIn base) ≡ true)
+  unfolding isList
+  tests =
+      let a = allRight base check t rs in
+      let b = eqb (numberOf (verdict t)) 0 in
+      let c = eqb (orderOf t) n in
+      let d = eqb (rowsOf t) (rowsIn base) in
+      let x = and-right a (b && (c && d)) ok in
+      let y = and-right b (c && d) x in
+      (and-left a (b && (c && d)) ok, and-left b (c && d) x, and-left c d y, and-right c d y)
+
+  list : verdict t ≡ Accepted
+  list = number-accepted t (eqb-true (numberOf (verdict t)) 0 (tests .1))
+
+  order : orderOf t ≡ n
+  order = eqb-true (orderOf t) n (tests .2)
+
+  rows : rowsOf t ≡ rowsIn base
+  rows = eqb-true (rowsOf t) (rowsIn base) (tests .3)
+
+  readable : (r : Reached) → List·Memᴰ r rs → (length (r .words) ≤ orderLimit) × (areWords (r .words) ≡ true)
+  readable r m =
+      let w = reached-told base check n r m in
+      (omega (arith, w .few, opened-order base check array .1), walk-words base check (r .words) (r .slot) (w .leads))
+
+  sound-at : (us : List ℕ) (s : ℕ) → length us ≤ n → walkTo base check us ≡ At s → (p b : ℤ) × (f : Bool) × (markerAt base check s ≡ Sound p b f)
+  unfolding walkTo
+  sound-at [] s h e = let z : 0 ≡ s = cc in (_, _, _, rw z at (root-sound base check array))
+  sound-at (w ∷ us) s h e = (_, _, _, all-sound base check t rs (tests .0) (record { slot = s; words = w ∷ us }) (reached-shown base check n (record { slot = s; words = w ∷ us }) (record { some = omega arith; few = h; leads = e })))
+
+  -- ---- the walk of lookup and run comes to where the words lead
+
+  look-through : (us q : List ℕ) (s : ℕ) → length us ≤ n → walkTo base check us ≡ At s → lookFrom base check 0 (reverseAux us q) ≡ lookFrom base check s q
+  unfolding walkTo
+  look-through [] q s h e = let z : 0 ≡ s = cc in rw z
+  look-through (w ∷ us) q s h e =
+      let d = walk-slot base check w us s e in
+      let m = sound-at us (d .0) (omega arith) (d .1) in
+      look-through us (w ∷ q) (d .0) (omega arith) (d .1) ∙ look-down base check (d .0) (m .0) (m .1) (m .2) w q (m .3) ∙ rw (d .2)
+
+  look-astray : (us q : List ℕ) → length us ≤ n → walkTo base check us ≡ Nothing → lookFrom base check 0 (reverseAux us q) ≡ absent
+  unfolding walkTo
+  look-astray [] q h e = absurd (let z : _≡_ {A = ℕ} 0 1 = cc in omega arith)
+  look-astray (w ∷ us) q h e = go (walkTo base check us) refl (look-astray us (w ∷ q) (omega arith))
+    where
+      go : (c : Child) → walkTo base check us ≡ c → (walkTo base check us ≡ Nothing → lookFrom base check 0 (reverseAux us (w ∷ q)) ≡ absent) → lookFrom base check 0 (reverseAux us (w ∷ q)) ≡ absent
+      go Nothing k ih = ih k
+      go (At s) k ih =
+          let m = sound-at us s (omega arith) k in
+          let c : childAt base check s w ≡ Nothing = sym (walk-child base check us w s k) ∙ e in
+          look-through us (w ∷ q) s (omega arith) k ∙ look-down base check s (m .0) (m .1) (m .2) w q (m .3) ∙ rw c
+
+  -- ---- and the list has what is found there
+
+  unlisted : (us : List ℕ) → ((s : ℕ) → 1 ≤ length us → walkTo base check us ≡ At s → ⊥) → findIn t us ≡ NoRow
+  unlisted us none-there = go (findIn t us) refl
+    where
+      go : (f : Found) → findIn t us ≡ f → f ≡ NoRow
+      go NoRow e = refl
+      go (Row i) e =
+          let w = found-words t us i e in
+          let d = row-node base check rs readable i (omega (arith, w .0, rows-tableOf base check rs)) in
+          let k = reached-told base check n (d .0) (d .1) in
+          let same : d .0 .words ≡ us = sym (d .2 .same) ∙ w .1 in
+          absurd (none-there (d .0 .slot) (omega (arith, k .some, ap length same)) (ap (walkTo base check) (sym same) ∙ k .leads))
+
+  look-listed : (us : List ℕ) (s : ℕ) → 1 ≤ length us → length us ≤ n → walkTo base check us ≡ At s → lookFrom base check 0 (reverse us) ≡ lookEntry (entryAt t us (findIn t us))
+  look-listed us s l h e =
+      let r : Reached = record { slot = s; words = us } in
+      let m = reached-shown base check n r (record { some = l; few = h; leads = e }) in
+      let d = node-row base check rs readable r m in
+      let f : findIn t us ≡ Row (d .0) = ap (findIn t) (sym (d .2 .same)) ∙ finds t (accepted-good t list) (d .0) (omega (arith, d .1, rows-tableOf base check rs)) in
+      look-through us [] s h e
+      ∙ look-here base check s _ _ _ (all-sound base check t rs (tests .0) r m)
+      ∙ rw (f, d .2 .probability, d .2 .backoff)
+
+  look-unloaded : (l : List ℕ) → length l ≤ n → lookRow base check l ≡ lookEntry (modelOf t .find l)
+  unfolding modelOf
+  look-unloaded [] h = rw (unlisted [] (λ s l e. absurd (omega arith)))
+  look-unloaded (w ∷ l) h =
+      let us = reverse (w ∷ l) in
+      ap (lookFrom base check 0) (sym (reverse-reverse (w ∷ l))) ∙ go us (omega (arith, length-reverse (w ∷ l))) (omega (arith, length-reverse (w ∷ l))) (walkTo base check us) refl
+    where
+      go : (us : List ℕ) → 1 ≤ length us → length us ≤ n → (c : Child) → walkTo base check us ≡ c → lookFrom base check 0 (reverse us) ≡ lookEntry (entryAt t us (findIn t us))
+      go us k h (At s) e = look-listed us s k h e
+      go us k h Nothing e = look-astray us [] h e ∙ rw (unlisted us (λ s l q. let z : _≡_ {A = ℕ} 0 1 = cc in omega arith))
+
+  row-slot : (i : ℕ) → i < rowsOf t → walkTo base check (words t i) ≡ At (getD (slotsOf rs) i 0)
+  row-slot i h =
+      let d = row-node base check rs readable i (omega (arith, rows-tableOf base check rs)) in
+      rw (d .2 .same, d .2 .slot) (reached-told base check n (d .0) (d .1) .leads)
+
+  list-held : Holds base check t
+  list-held = record {
+    array = array;
+    list = list;
+    rows = rows;
+    order = order;
+    find = λ l h. (unfold modelIn storeIn in ap entryOf (look-unloaded l h) ∙ entryOf-lookEntry (modelOf t .find l));
+    sound = λ l h. (unfold storeIn in ap isBroken (look-unloaded l h) ∙ lookEntry-sound (modelOf t .find l));
+  }
+
+-- ---- the outcome of unload
+
+module _ (base check table : List ℤ) (work : List ℕ) where
+  abbrev nodes : List Reached
+  nodes = reached base check (orderIn check)
+
+  -- what 15 asks for
+  abbrev longEnough : Bool
+  longEnough = leb (8 * rowsIn base) (length table) && leb (rowsIn base) (length work)
+
+  abbrev outcome : Unloaded
+  outcome = unloadOutcome base check table work
+
+  too-short-told : longEnough ≡ false → (length table < 8 * rowsIn base) ⊎ (length work < rowsIn base)
+  too-short-told e = go (leb (8 * rowsIn base) (length table)) (leb (rowsIn base) (length work)) refl refl e
+    where
+      go : (a b : Bool) → leb (8 * rowsIn base) (length table) ≡ a → leb (rowsIn base) (length work) ≡ b → (a && b) ≡ false → (length table < 8 * rowsIn base) ⊎ (length work < rowsIn base)
+      go false b p q e = inl (leb-false (8 * rowsIn base) (length table) p)
+      go true false p q e = inr (leb-false (rowsIn base) (length work) q)
+      go true true p q e = absurd (false≢true (sym e))
+
+  -- accepted
+  module _ (array : isArray base check ≡ true) (long : longEnough ≡ true) (ok : isList base check nodes ≡ true) where
+    outcome-filled : outcome ≡ filled base check table work nodes
+    unfolding unloadOutcome
+    outcome-filled = rw (array, long, ok)
+
+    rows-left : rowsPart base outcome ≡ tableOf base check nodes
+    unfolding filled written
+    rows-left = rw outcome-filled (take-at (tableOf base check nodes) _ (8 * rowsIn base) (omega (arith, length-tableOf base check nodes, rows-tableOf base check nodes, rows base check array ok)))
+
+    slot-left : (i : ℕ) → i < rowsIn base → getD (outcome .work) i 0 ≡ getD (slotsOf nodes) i 0
+    unfolding filled written
+    slot-left i h = rw outcome-filled (List·getD-append (slotsOf nodes) _ 0 i (omega (arith, length-slotsOf nodes, rows-tableOf base check nodes, rows base check array ok)))
+
+    filled-means : UnloadMeans base check table work outcome
+    filled-means = record {
+      holds = λ e. rw rows-left (list-held base check array ok);
+      only = λ e u H. rows-left ∙ held-table base check u H;
+      slots = λ e i h. rw (rows-left, slot-left i h) (row-slot base check array ok i (omega (arith, rows base check array ok)));
+      refused = λ number place e. absurd (never number place e);
+      no-place = λ number place e. absurd (never number place e);
+    }
+      where
+        never : (number place : ℕ) → outcome .answer ≡ Refused number place → ⊥
+        never number place e = let f : Accepted ≡ Refused number place = (unfold filled in rw outcome-filled at e) in let z : _≡_ {A = ℕ} 0 1 = cc in omega arith
+
+  -- refused by a number, with what it says
+  refused-means : (k : ℕ) → outcome .answer ≡ Refused k 0 → RefusedBy base check table work k → UnloadMeans base check table work outcome
+  refused-means k q r = record {
+    holds = λ e. absurd (never e);
+    only = λ e. absurd (never e);
+    slots = λ e. absurd (never e);
+    refused = λ number place e. let z : k ≡ number = cc in rw z at r;
+    no-place = λ number place e. let z : 0 ≡ place = cc in sym z;
+  }
+    where
+      never : outcome .answer ≡ Accepted → ⊥
+      never e = let z : _≡_ {A = ℕ} 0 1 = cc in omega arith
+
+  pub unload-means : UnloadMeans base check table work outcome
+  unload-means = go (isArray base check) refl longEnough refl (isList base check nodes) refl
+    where
+      go : (a : Bool) → isArray base check ≡ a → (b : Bool) → longEnough ≡ b → (c : Bool) → isList base check nodes ≡ c → UnloadMeans base check table work outcome
+      go false e b f c g = refused-means arrayHead (unfold unloadOutcome untouched in rw e) (no-array (opened-none base check e))
+      go true e false f c g = refused-means shortSlice (unfold unloadOutcome untouched in rw (e, f)) (too-short e (too-short-told f))
+      go true e true f false g =
+          refused-means brokenNode (unfold unloadOutcome emptied in rw (e, f, g)) (no-list e (λ u H. false≢true (sym g ∙ held-is-list base check u H)))
+      go true e true f true g = filled-means e f g
+
+-- Where unload accepts an array, every lookup, start and run over it is what the unloaded list says.
+module _ (base check table : List ℤ) (work : List ℕ) (e : unloadOutcome base check table work .answer ≡ Accepted) where
+  abbrev unloaded : List ℤ
+  unloaded = rowsPart base (unloadOutcome base check table work)
+
+  pub unloaded-says : Says base check unloaded
+  unloaded-says = held-says base check unloaded (unload-means base check table work .holds e)
+
+  -- a whole list of runs too, from the state of start or the empty one
+  pub unloaded-runs-in-a-row : (b : Bool) (qs : List Run) → answers (runOutcome (opened base check)) (nine (first (modelOf unloaded) b)) qs ≡ map packed (answers (run (modelOf unloaded)) (first (modelOf unloaded) b) qs)
+  unloaded-runs-in-a-row b qs = held-runs-in-a-row base check unloaded (unload-means base check table work .holds e) b qs
+
+-- ---- over an array that holds a list
+
+module _ (base check t : List ℤ) (H : Holds base check t) where
+  -- where the slices are long enough, the list is given back, and all past the rows is untouched
+  pub held-unloads : (table : List ℤ) (work : List ℕ) → length t ≤ length table → rowsOf t ≤ length work
+      → unloadOutcome base check table work ≡ record { answer = Accepted; table = written t table; work = written (slotsOf (reached base check (orderIn check))) work }
+  unfolding filled
+  held-unloads table work h k =
+      let l = le-leb (8 * rowsIn base) (length table) (omega (arith, H .rows, accepted-size t (H .list) .2)) in
+      let m = le-leb (rowsIn base) (length work) (omega (arith, H .rows)) in
+      outcome-filled base check table work (H .array) (and-both (leb (8 * rowsIn base) (length table)) (leb (rowsIn base) (length work)) l m) (held-is-list base check t H) ∙ rw (held-table base check t H)
+
+  -- with the slots of its rows' nodes
+  pub held-slot : (i : ℕ) → i < rowsOf t → walkTo base check (words t i) ≡ At (getD (slotsOf (reached base check (orderIn check))) i 0)
+  held-slot i h =
+      let e = held-table base check t H in
+      rw e at (row-slot base check (H .array) (held-is-list base check t H) i (rw e h))

@@ -1,0 +1,68 @@
+-- What the answers of unload mean, whatever the lent arrays are. Assumes nothing.
+use mathlib.Core.Path.{_≡_}
+use mathlib.Core.Logic.{_⊎_}
+use mathlib.Core.Bool.{true, false}
+use mathlib.Core.List.{List}
+use mathlib.Core.Option.{Option, none, some}
+use Prim.Native.Nat.{ℕ, _*_, _≤_, _<_}
+use lib.ListN.{length, getD, take}
+use lib.IntN.{ℤ}
+use Rattle.backoff.specs.Refusal.{arrayHead, brokenNode, shortSlice}
+use Rattle.backoff.specs.Model.{Entry, Model}
+use Rattle.backoff.specs.Run.{Run}
+use Rattle.backoff.specs.Store.{Look, absent, here, Store, isBroken, modelIn, runOutcome, startOutcome}
+use Rattle.backoff.specs.declared.Verdict.the-variants.{Accepted, Refused}
+use Rattle.list.specs.Table.{rowsOf, orderOf, words}
+use Rattle.list.specs.Check.{verdict}
+use Rattle.list.specs.ListModel.{modelOf}
+use Rattle.double_array.specs.DoubleArray.{isArray, orderIn, storeIn, opened}
+use Rattle.double_array.specs.Lookup.{lookupIn, lookupOutcome}
+use Rattle.double_array.specs.declared.Child.the-variants.{At}
+use Rattle.unload.specs.Unload.{walkTo, rowsIn, Unloaded}
+
+-- ---- a model as a store
+
+-- what a store without broken nodes has where its model has this
+abbrev pub lookEntry : Option Entry → Look
+lookEntry none = absent
+lookEntry (some e) = here e
+
+-- the store that has what the model has
+unfoldable pub storeOf : Model → Store
+storeOf M = record { order = M .order; look = λ l. lookEntry (M .find l) }
+
+-- ---- what the answers mean
+
+-- The array holds the list t: t has the array's order n and number of rows, and of at most n words the array has what t has, on sound nodes. Of nodes
+-- of more than n words, which no lookup, start or run comes to, nothing is said.
+pub record Holds (base check t : List ℤ) : Type 0 where
+  pub array : isArray base check ≡ true
+  pub list : verdict t ≡ Accepted
+  pub rows : rowsOf t ≡ rowsIn base
+  pub order : orderOf t ≡ orderIn check
+  pub find : (l : List ℕ) → length l ≤ orderIn check → modelIn (storeIn base check) .find l ≡ modelOf t .find l
+  pub sound : (l : List ℕ) → length l ≤ orderIn check → isBroken (storeIn base check .look l) ≡ false
+
+-- Over the array, every lookup, start and run, whatever the words and the state, is what the list says.
+pub record Says (base check t : List ℤ) : Type 0 where
+  pub lookups : (ws : List ℕ) → lookupOutcome base check ws ≡ lookupIn (some (storeOf (modelOf t))) ws
+  pub starts : (l : List ℤ) → startOutcome (opened base check) l ≡ startOutcome (some (storeOf (modelOf t))) l
+  pub runs : (l : List ℤ) (r : Run) → runOutcome (opened base check) l r ≡ runOutcome (some (storeOf (modelOf t))) l r
+
+-- The three numbers by which unload refuses, each with its condition.
+pub data RefusedBy (base check table : List ℤ) (work : List ℕ) : ℕ → Type 0 where
+  no-array : opened base check ≡ none → RefusedBy base check table work arrayHead
+  too-short : isArray base check ≡ true → (length table < 8 * rowsIn base) ⊎ (length work < rowsIn base) → RefusedBy base check table work shortSlice
+  no-list : isArray base check ≡ true → ((t : List ℤ) → Holds base check t → ⊥) → RefusedBy base check table work brokenNode
+
+-- "the rows' part of table"
+abbrev pub rowsPart : List ℤ → Unloaded → List ℤ
+rowsPart base u = take (8 * rowsIn base) (u .table)
+
+pub record UnloadMeans (base check table : List ℤ) (work : List ℕ) (u : Unloaded) : Type 0 where
+  -- accepted: the rows' part of table is the one list that the array holds, and work has the slots of its nodes
+  pub holds : u .answer ≡ Accepted → Holds base check (rowsPart base u)
+  pub only : u .answer ≡ Accepted → (t : List ℤ) → Holds base check t → rowsPart base u ≡ t
+  pub slots : u .answer ≡ Accepted → (i : ℕ) → i < rowsIn base → walkTo base check (words (rowsPart base u) i) ≡ At (getD (u .work) i 0)
+  pub refused : (number place : ℕ) → u .answer ≡ Refused number place → RefusedBy base check table work number
+  pub no-place : (number place : ℕ) → u .answer ≡ Refused number place → place ≡ 0

@@ -1,0 +1,153 @@
+-- The nodes that walking from the root of any double array reaches, the rows that they are, and the outcome of unload. Words are oldest first, as in
+-- the list: the parent of `w ∷ us` is `us`. Assumes nothing.
+use mathlib.Core.Bool.{Bool, true, false, not, cond, _&&_}
+use mathlib.Core.List.{List, [], _∷_, _++_, map}
+use Prim.Native.Nat.{ℕ, zero, suc, _*_}
+use lib.Dec.{eqb, leb}
+use lib.ListN.{length, getD, replicate}
+use lib.IntN.{ℤ, pos, natAbs}
+use Rattle.backoff.specs.Limits.{wordLimit}
+use Rattle.backoff.specs.Refusal.{numberOf, arrayHead, brokenNode, shortSlice}
+use Rattle.backoff.specs.Run.{written}
+use Rattle.backoff.specs.declared.Verdict.{Verdict}
+use Rattle.backoff.specs.declared.Verdict.the-variants.{Accepted, Refused}
+use Rattle.list.specs.Table.{rowsOf, orderOf}
+use Rattle.list.specs.Check.{verdict}
+use Rattle.list.specs.ListModel.{continuedIn}
+use Rattle.double_array.specs.DoubleArray.{markerAt, childAt, isArray, orderIn}
+use Rattle.double_array.specs.declared.Marker.{Marker}
+use Rattle.double_array.specs.declared.Marker.the-variants.{Sound, Broken}
+use Rattle.double_array.specs.declared.Child.{Child}
+use Rattle.double_array.specs.declared.Child.the-variants.{At, Nothing}
+
+-- ---- the nodes
+
+-- a node and the words that lead to it
+pub record Reached : Type 0 where
+  pub slot : ℕ
+  pub words : List ℕ
+
+abbrev pub root : Reached
+root = record { slot = 0; words = [] }
+
+-- the child for word w of the node `us`, where there is one, in front of others
+abbrev pub childFirst : List ℕ → ℕ → Child → List Reached → List Reached
+childFirst us w (At t) rest = record { slot = t; words = w ∷ us } ∷ rest
+childFirst us w Nothing rest = rest
+
+abbrev pub childIn : Child → (ℕ → Child) → Child
+childIn (At s) child = child s
+childIn Nothing child = Nothing
+
+module _ (base check : List ℤ) where
+  -- where words lead from the root, the newest first: from each node to its child for the next word
+  unfoldable pub walkTo : List ℕ → Child
+  walkTo [] = At 0
+  walkTo (w ∷ us) = childIn (walkTo us) (λ (s : ℕ). childAt base check s w)
+
+  -- the children of a node for the k words from w on
+  unfoldable pub childrenFrom : Reached → ℕ → ℕ → List Reached
+  childrenFrom r w zero = []
+  childrenFrom r w (suc k) = childFirst (r .words) w (childAt base check (r .slot) w) (childrenFrom r (suc w) k)
+
+  -- its children by ascending word
+  unfoldable pub childrenOf : Reached → List Reached
+  childrenOf r = childrenFrom r 1 wordLimit
+
+  unfoldable pub childrenOfAll : List Reached → List Reached
+  childrenOfAll [] = []
+  childrenOfAll (r ∷ rs) = childrenOf r ++ childrenOfAll rs
+
+  -- the nodes of m words
+  unfoldable pub level : ℕ → List Reached
+  level zero = root ∷ []
+  level (suc m) = childrenOfAll (level m)
+
+  -- "the sequences of up to n words found by walking", by m, then by last word, then the word before it, and so on
+  unfoldable pub reached : ℕ → List Reached
+  reached zero = []
+  reached (suc m) = reached m ++ level (suc m)
+
+-- ---- the rows
+
+-- p and b of a marker, 0 where it is not sound
+abbrev pub markerP : Marker → ℤ
+markerP (Sound p b f) = p
+markerP Broken = pos 0
+
+abbrev pub markerB : Marker → ℤ
+markerB (Sound p b f) = b
+markerB Broken = pos 0
+
+-- the marker is sound, and its f is this one
+abbrev pub isRight : Marker → Bool → Bool
+isRight (Sound p b true) f = f
+isRight (Sound p b false) f = not f
+isRight Broken f = false
+
+-- "m, five words oldest first (unused ones 0), log-probability p, back-off b"
+abbrev pub row : List ℕ → ℤ → ℤ → List ℤ
+row ws p b =
+    pos (length ws) ∷ pos (getD ws 0 0) ∷ pos (getD ws 1 0) ∷ pos (getD ws 2 0) ∷ pos (getD ws 3 0) ∷ pos (getD ws 4 0) ∷ p ∷ b ∷ []
+
+module _ (base check : List ℤ) where
+  unfoldable pub rowOf : Reached → List ℤ
+  rowOf r = row (r .words) (markerP (markerAt base check (r .slot))) (markerB (markerAt base check (r .slot)))
+
+  unfoldable pub tableOf : List Reached → List ℤ
+  tableOf [] = []
+  tableOf (r ∷ rs) = rowOf r ++ tableOf rs
+
+  -- every marker is sound, and "f is 1 if some row is this row followed by one more word, else 0"
+  unfoldable pub allRight : List ℤ → List Reached → Bool
+  allRight t [] = true
+  allRight t (r ∷ rs) = isRight (markerAt base check (r .slot)) (continuedIn t (r .words)) && allRight t rs
+
+unfoldable pub slotsOf : List Reached → List ℕ
+slotsOf rs = map (λ (r : Reached). r .slot) rs
+
+-- ---- the outcome
+
+-- BASE[1] is the number of rows
+unfoldable pub rowsIn : List ℤ → ℕ
+rowsIn base = natAbs (getD base 1 (pos 0))
+
+-- what 12 leaves: every node reached has a sound marker with the right f, and their rows are "an accepted list of order n and BASE[1] rows"
+unfoldable pub isList : List ℤ → List ℤ → List Reached → Bool
+isList base check rs =
+    allRight base check (tableOf base check rs) rs
+    && (eqb (numberOf (verdict (tableOf base check rs))) 0
+    && (eqb (orderOf (tableOf base check rs)) (orderIn check) && eqb (rowsOf (tableOf base check rs)) (rowsIn base)))
+
+-- what unload answers, and what the lent slices hold when it returns
+pub record Unloaded : Type 0 where
+  pub answer : Verdict
+  pub table : List ℤ
+  pub work : List ℕ
+
+module _ (base check table : List ℤ) (work : List ℕ) where
+  -- 11 and 15: "untouched"
+  unfoldable pub untouched : ℕ → Unloaded
+  untouched number = record { answer = Refused number 0; table = table; work = work }
+
+  -- 12: "the rows' part of table and work 0"
+  unfoldable pub emptied : Unloaded
+  emptied =
+      record {
+        answer = Refused brokenNode 0;
+        table = written (replicate (8 * rowsIn base) (pos 0)) table;
+        work = written (replicate (rowsIn base) 0) work;
+      }
+
+  -- "leaves in work the slots that the rows' nodes have in the lent array, and all past the rows untouched"
+  unfoldable pub filled : List Reached → Unloaded
+  filled rs = record { answer = Accepted; table = written (tableOf base check rs) table; work = written (slotsOf rs) work }
+
+  -- 11, then 15, then 12
+  unfoldable pub unloadOutcome : Unloaded
+  unloadOutcome =
+      cond (isArray base check)
+      (cond (leb (8 * rowsIn base) (length table) && leb (rowsIn base) (length work))
+      (cond (isList base check (reached base check (orderIn check))) (filled (reached base check (orderIn check))) emptied)
+      (untouched shortSlice))
+      (untouched arrayHead)
