@@ -1,8 +1,8 @@
 -- Laws of the outcome of plain scoring: each answer is the outcome's, and means what it says. Assumes nothing.
-use mathlib.Core.Path.{_≡_, refl}
+use mathlib.Core.Path.{_≡_, refl, ap, _∙_}
 use mathlib.Core.Bool.{Bool, true, false, cond, _||_}
 use mathlib.Core.List.{List}
-use Prim.Native.Nat.{ℕ, zero, suc, _+_, _<_, _≤_}
+use Prim.Native.Nat.{ℕ, _≤_}
 use native.Mathlib.Omega.{arith}
 use lib.Dec.{ltb}
 use lib.ListN.{length}
@@ -11,42 +11,16 @@ use lib.IntN.{ℤ, pos}
 use borrow.Author.Tests.{ltb-false, ne-eqb}
 use Rattle.integer.specs.Integer.{sum}
 use Rattle.backoff.specs.Limits.{runLimit}
-use Rattle.backoff.specs.Refusal.{tableLength, reservedWord, wordCount, shortSlice}
+use Rattle.backoff.specs.Refusal.{numberOf, wordCount, shortSlice}
 use Rattle.backoff.specs.declared.Verdict.the-variants.{Accepted, Refused}
 use Rattle.backoff.specs.Rule.{rulePoints, ruleBytes}
 use Rattle.backoff.specs.Run.{Run, refusal, accepted, written, refusedRun, acceptedRun, front, plain}
 use Rattle.backoff.proofs.Rule.{length-rulePoints, length-ruleBytes}
-use Rattle.list.specs.Table.{rowsOf, orderOf}
-use Rattle.list.specs.Check.{tableFits, rowFault, reservedListed, refuse, scan, verdict}
+use Rattle.list.specs.Check.{verdict}
 use Rattle.list.specs.ListModel.{modelOf}
+use Rattle.list.proofs.Check.{number-accepted}
 use Rattle.list.proofs.ListModel.{accepted-model}
 use Rattle.plain.specs.Plain.{plainOutcome, Answers, PlainMeans}
-
--- ---- a refusal has a number
-
-same-number : (m n p q : ℕ) → Refused m p ≡ Refused n q → m ≡ n
-same-number m n p q e = cc
-
-scan-number : (t : List ℤ) (o i k n p : ℕ) → scan t o i k ≡ Refused n p → 0 < n
-unfolding scan
-scan-number t o i zero n p e = go (reservedListed t) e
-  where
-    go : (b : Bool) → cond b Accepted (Refused reservedWord 0) ≡ Refused n p → 0 < n
-    go true e = absurd (let z : _≡_ {A = ℕ} 0 1 = cc in omega arith)
-    go false e = omega (arith, same-number reservedWord n 0 p e)
-scan-number t o i (suc k) n p e = go (rowFault t o i) (scan-number t o (suc i) k n p) e
-  where
-    go : (f : ℕ) → (scan t o (suc i) k ≡ Refused n p → 0 < n) → refuse f i (scan t o (suc i) k) ≡ Refused n p → 0 < n
-    go zero ih e = ih e
-    go (suc f) ih e = omega (arith, same-number (suc f) n (i + 1) p e)
-
-verdict-number : (t : List ℤ) (n p : ℕ) → verdict t ≡ Refused n p → 0 < n
-unfolding verdict
-verdict-number t n p e = go (tableFits (length t)) e
-  where
-    go : (b : Bool) → cond b (scan t (orderOf t) 0 (rowsOf t)) (Refused tableLength 0) ≡ Refused n p → 0 < n
-    go true e = scan-number t (orderOf t) 0 (rowsOf t) n p e
-    go false e = omega (arith, same-number tableLength n 0 p e)
 
 -- ---- 14 and 15
 
@@ -78,7 +52,7 @@ module _ (t : List ℤ) (b : Bool) (r : Run) where
 
   -- 1, 3 to 8, or 9
   pub answer-list : (n p : ℕ) → verdict t ≡ Refused n p → Answers (plainOutcome t b r) (record { number = n; place = p; total = pos 0 }) (r .points) (r .lengths) × PlainMeans t b r n (pos 0) (r .points) (r .lengths)
-  answer-list n p e = answer-refused n p (λ z. let l = verdict-number t n p e in omega arith) (unfold plainOutcome in rw e)
+  answer-list n p e = answer-refused n p (λ z. let q : verdict t ≡ Accepted = number-accepted t (ap numberOf e ∙ z) in let w : _≡_ {A = ℕ} 0 1 = cc in omega arith) (unfold plainOutcome in rw e)
 
   module _ (v : verdict t ≡ Accepted) where
     -- 14 or 15

@@ -23,9 +23,9 @@ use backoff::WORD_COUNT;
 use backoff::WORD_LIMIT;
 use list::Found;
 
-const UNKNOWN_WORD: i32 = 1;
+const UNKNOWN_WORD: i32 = backoff::UNKNOWN_WORD as i32;
 
-const START_WORD: i32 = 2;
+const START_WORD: i32 = backoff::START_WORD as i32;
 
 // A sequence as the list has it: p and b are 0 if it is unlisted.
 struct Row {

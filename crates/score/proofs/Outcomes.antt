@@ -1,28 +1,28 @@
 -- The outcomes of start and run mean what specs/Meaning.antt says, over any lent arrays. Assumes nothing.
-use mathlib.Core.Path.{_≡_, refl, sym, ap, subst, _∙_}
+use mathlib.Core.Path.{_≡_, refl, ap, _∙_}
 use mathlib.Core.Logic.{_⊎_, inl, inr}
 use mathlib.Core.Bool.{Bool, true, false, cond, _||_}
 use mathlib.Core.List.{List}
 use mathlib.Core.Option.{Option, none, some}
 use Prim.Native.Nat.{ℕ, _≤_}
 use native.Mathlib.Omega.{arith}
-use lib.Dec.{eqb, ltb}
-use lib.ListN.{length, drop, replicate, length-replicate}
+use lib.Dec.{ltb}
+use lib.ListN.{length, replicate, length-replicate}
 use lib.Seq.{take-at, drop-at}
 use lib.IntN.{ℤ, pos}
 use borrow.Author.Tests.{eqb-true, eqb-false, eq-eqb, ltb-false}
 use Rattle.backoff.specs.Limits.{startWord, runLimit}
 use Rattle.backoff.specs.Refusal.{arrayHead, brokenNode, wordCount, shortSlice, badState}
-use Rattle.backoff.specs.State.{empty, stepPoints, stepByte, stepNext, start}
-use Rattle.backoff.specs.Run.{Run, Answer, refusal, accepted, written, refusedRun, acceptedRun, runPoints, runBytes, runEnd}
+use Rattle.backoff.specs.State.{empty, stepNext, start}
+use Rattle.backoff.specs.Run.{Run, refusal, accepted, written, refusedRun, acceptedRun, runPoints, runBytes, runEnd}
 use Rattle.backoff.specs.NineNumbers.{nine, nineZeros, stateIn, stateOk}
-use Rattle.backoff.specs.Store.{Store, Started, modelIn, Step, scored, stuck, step, runOver, refusedAt, brokenRun, ranAnswer, runIn, runOutcome, refusedStart, startStep, startIn, startOutcome}
+use Rattle.backoff.specs.Store.{Store, step, runOver, refusedAt, brokenRun, ranAnswer, runIn, runOutcome, refusedStart, startStep, startIn, startOutcome}
 use Rattle.backoff.proofs.Run.{length-runPoints, length-runBytes}
 use Rattle.backoff.proofs.Store.{modelRan, stuckAt, step-is, runOver-cases}
 use Rattle.double_array.specs.DoubleArray.{isArray, orderIn, storeIn, opened}
 use Rattle.double_array.proofs.DoubleArray.{opened-some, opened-none}
 use Rattle.score.specs.Inner.{sizeRefusal, earlyRefusal}
-use Rattle.score.specs.Meaning.{rowsIn, StartMeans, AllScored, RunMeans}
+use Rattle.score.specs.Meaning.{rowsIn, StartMeans, RunMeans}
 
 -- ---- the outcome of a run, by what meets it before its words are scored
 

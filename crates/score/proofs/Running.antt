@@ -3,26 +3,26 @@
 use mathlib.Core.Path.{_≡_, refl, sym, ap, ap₂, _∙_}
 use mathlib.Core.Bool.{Bool, true, false, cond}
 use mathlib.Core.List.{List, [], _∷_, _++_, append-assoc, append-nil}
-use Prim.Native.Nat.{ℕ, suc, _+_, _*_, _-_, _≤_, _<_}
+use Prim.Native.Nat.{ℕ, suc, _+_, _*_, _≤_, _<_}
 use native.Mathlib.Numerals.{add-one}
 use native.Mathlib.Omega.{arith}
 use lib.Dec.{eqb}
 use lib.ListN.{length, take, drop, getD, set, replicate, length-set, length-replicate, drop-of-length-le, take-append-drop}
-use lib.Seq.{drop-cons, drop-drop, take-suc-set, drop-set-lt, length-take-le}
+use lib.Seq.{drop-cons, take-suc-set, drop-set-lt, length-take-le}
 use lib.IntN.{ℤ, pos, natAbs, _+ℤ_, +ℤ-idr}
 use Rattle.integer.specs.Integer.{sum}
-use Rattle.integer.proofs.Arithmetic.{up, down, abs, add}
+use Rattle.integer.proofs.Arithmetic.{abs, add}
 use Rattle.integer.proofs.Sums.{sum-append}
 use Rattle.backoff.specs.Limits.{unknownWord, orderLimit, largestBackoff}
 use Rattle.backoff.specs.Refusal.{brokenNode}
-use Rattle.backoff.specs.Model.{inProbability, inBackoff, probability, backoff, reach}
+use Rattle.backoff.specs.Model.{inProbability, probability}
 use Rattle.backoff.specs.Rule.{lengthByte, replaced}
-use Rattle.backoff.specs.State.{State as Carried, pointsFrom, matchedFrom, stepPoints, stepByte, stepNext}
-use Rattle.backoff.specs.Run.{Run, Answer, written, acceptedRun}
+use Rattle.backoff.specs.State.{State as Carried, matchedFrom, stepPoints, stepByte, stepNext}
+use Rattle.backoff.specs.Run.{written, acceptedRun}
 use Rattle.backoff.specs.NineNumbers.{nine, stateIn, stateOk}
-use Rattle.backoff.specs.Store.{Store, modelIn, Step, scored, stuck, step, Ran, ran, refusedAt, before, onward, runOver, brokenRun, ranAnswer}
+use Rattle.backoff.specs.Store.{Store, modelIn, scored, stuck, step, Ran, ran, refusedAt, before, onward, runOver, brokenRun, ranAnswer}
 use Rattle.backoff.proofs.State.{walk-le}
-use Rattle.backoff.proofs.NineNumbers.{Bounded, stateOk-bounded, nine-stateIn}
+use Rattle.backoff.proofs.NineNumbers.{Bounded, nine-stateIn}
 use Rattle.backoff.proofs.Store.{stuckAt, step-is}
 use Rattle.backoff.proofs.Sizes.{points-size}
 use Rattle.score.specs.declared.State.{State}

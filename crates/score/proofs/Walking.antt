@@ -1,6 +1,6 @@
 -- The walk of a word v through the words ws over a double array, as the code's loop has it. Assumes nothing.
 use mathlib.Core.Path.{_≡_, refl, sym, ap, ap₂, _∙_}
-use mathlib.Core.Bool.{Bool, true, false, not, cond, _&&_, _||_, or-true}
+use mathlib.Core.Bool.{Bool, true, false, cond, _&&_, or-true}
 use mathlib.Core.Logic.{_⊎_, inl, inr}
 use mathlib.Core.List.{List, [], _∷_, _++_, append-nil}
 use Prim.Native.Nat.{ℕ, zero, suc, _+_, _-_, _≤_, _<_, min}
@@ -12,17 +12,15 @@ use borrow.Author.Tests.{ltb-true, ltb-false}
 use lib.Dec.{ltb}
 use lib.ListN.{length, take, getD, set}
 use lib.Seq.{take-suc, take-all, take-suc-set, append-snoc}
-use lib.IntN.{ℤ, pos}
-use Rattle.integer.specs.Integer.{eqZ}
-use Rattle.backoff.specs.Model.{Entry, Model, listed, probability, backoff, live, reach}
-use Rattle.backoff.specs.State.{largest, climb, backoffsOf, liveLength, walk}
-use Rattle.backoff.specs.Store.{Look, absent, broken, here, Store, isBroken, modelIn, endsBroken}
+use lib.IntN.{ℤ}
+use Rattle.backoff.specs.Model.{Model, listed, live, reach}
+use Rattle.backoff.specs.State.{largest, backoffsOf, liveLength, walk}
+use Rattle.backoff.specs.Store.{absent, broken, here, Store, isBroken, modelIn, endsBroken}
 use Rattle.backoff.proofs.Climb.{climb-stops, largest-here, largest-down}
-use Rattle.double_array.specs.DoubleArray.{markerAt, childAt, downTo, lookFrom, isArray, orderIn, storeIn}
+use Rattle.double_array.specs.DoubleArray.{markerAt, childAt, lookFrom, isArray, orderIn, storeIn}
 use Rattle.double_array.specs.declared.Marker.the-variants.{Sound, Broken}
 use Rattle.double_array.specs.declared.Child.the-variants.{At, Nothing}
 use Rattle.double_array.proofs.DoubleArray.{root-sound, look-here, look-down, look-broken}
-use Rattle.score.specs.declared.Walked.{Walked}
 use Rattle.score.specs.Meaning.{rowsIn}
 use Rattle.score.specs.Inner.{longestLive, meetsBroken, Read}
 use Rattle.score.proofs.Rows.{here-listed, here-probability, here-backoff, here-live, absent-unlisted, broken-unlisted, listed-sound}

@@ -1,17 +1,15 @@
 -- What the answers of start and run mean over the rows that the lent array holds. Assumes nothing.
 use mathlib.Core.Path.{_≡_}
-use mathlib.Core.Bool.{true}
 use mathlib.Core.List.{List}
-use Prim.Native.Nat.{ℕ}
 use lib.ListN.{length, take, drop}
 use lib.IntN.{ℤ, pos}
 use Rattle.integer.specs.Integer.{sum}
 use Rattle.backoff.specs.Model.{Model}
 use Rattle.backoff.specs.State.{start}
 use Rattle.backoff.specs.Run.{Run, Answer, runPoints, runBytes, runEnd}
-use Rattle.backoff.specs.NineNumbers.{nine, nineZeros, stateIn, stateOk}
+use Rattle.backoff.specs.NineNumbers.{nine, nineZeros, stateIn}
 use Rattle.backoff.specs.Store.{Started, modelIn}
-use Rattle.double_array.specs.DoubleArray.{orderIn, storeIn}
+use Rattle.double_array.specs.DoubleArray.{storeIn}
 
 -- the rows with a sound marker that are found in the array
 abbrev pub rowsIn : List ℤ → List ℤ → Model

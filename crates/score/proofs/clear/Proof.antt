@@ -1,7 +1,7 @@
 -- `score::clear` meets its contract. The loop's invariant: the first i items of both slices are 0. Assumes nothing.
-use mathlib.Core.Path.{_≡_, refl, sym, ap, subst, _∙_}
+use mathlib.Core.Path.{_≡_, refl, _∙_}
 use mathlib.Core.List.{List, _++_}
-use Prim.Native.Nat.{ℕ, _+_, _-_, _≤_, _<_}
+use Prim.Native.Nat.{ℕ, _-_, _≤_}
 use native.Mathlib.Omega.{arith}
 use borrow.Author.Needs.{needs}
 use lib.ListN.{length, drop, replicate, length-set, length-replicate}
@@ -10,8 +10,6 @@ use Rattle.backoff.specs.Run.{written}
 use Rattle.score.proofs.Written.{fill-more}
 use Rattle.score.proofs.clear.Statement.{statement}
 use Rattle.score.proofs.clear.Tie as tie
-use Rattle.score.proofs.clear.Reads as reads
-use Rattle.score.proofs.clear.Lts as lts
 
 record Cleared (points₀ : List ℤ) (lengths₀ : List ℕ) (count : ℕ) (points : List ℤ) (lengths : List ℕ) (i : ℕ) : Type 0 where
   at : i ≤ count

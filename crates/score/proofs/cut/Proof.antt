@@ -1,8 +1,8 @@
 -- `score::cut` meets its contract. The loop's invariant: the items before the i-th are cut. Assumes nothing.
-use mathlib.Core.Path.{_≡_, sym, ap, _∙_}
+use mathlib.Core.Path.{_≡_, ap, _∙_}
 use mathlib.Core.Logic.{⊎-elim}
 use mathlib.Core.List.{List, [], _∷_}
-use Prim.Native.Nat.{ℕ, _+_, _-_, _≤_, _<_}
+use Prim.Native.Nat.{ℕ, _-_, _≤_}
 use native.Mathlib.Numerals.{add-one}
 use native.Mathlib.Omega.{arith}
 use borrow.Author.Needs.{needs, sfits-of}
@@ -12,11 +12,9 @@ use mir.Syntax.{w32}
 use mir.Val.{toZ, ofZ, SFits}
 use mir.Facts.{toZ-ofZ}
 use Rattle.backoff.specs.NineNumbers.{padded}
-use Rattle.score.proofs.Parts.{cutTo, cut-kept, cut-set, length-cut, cut-padded, padded-within, first-four}
+use Rattle.score.proofs.Parts.{cutTo, cut-kept, cut-set, cut-padded, padded-within, first-four}
 use Rattle.score.proofs.cut.Statement.{statement}
 use Rattle.score.proofs.cut.Tie as tie
-use Rattle.score.proofs.cut.Reads as reads
-use Rattle.score.proofs.cut.Lts as lts
 
 abbrev Inv-loop : tie.InvT-loop
 Inv-loop kept part₀ i₀ part i = (i ≤ 4) × (part ≡ cutTo i kept part₀)

@@ -1,12 +1,11 @@
 -- `score::early_refusal` meets its contract. Assumes nothing.
 use mathlib.Core.Path.{_≡_, sym, ap, _∙_}
-use mathlib.Core.Bool.{Bool, true, false, _||_}
-use Prim.Native.Nat.{ℕ, _≤_}
-use native.Mathlib.Omega.{arith}
+use mathlib.Core.Bool.{Bool, true, false}
+use Prim.Native.Nat.{ℕ}
 use borrow.Author.Needs.{needs, sfits-of}
 use borrow.Author.Tests.{not-true, not-false, lt-ltb, le-ltb}
 use lib.ListN.{getD}
-use lib.IntN.{pos, natAbs}
+use lib.IntN.{pos}
 use mir.Syntax.{w32}
 use mir.Val.{SFits}
 use Rattle.backoff.specs.NineNumbers.{stateOk}
@@ -16,10 +15,6 @@ use Rattle.score.specs.Answers.{numbersOf}
 use Rattle.score.proofs.Rows.{order-inside, order-cast, order-read}
 use Rattle.score.proofs.early_refusal.Statement.{statement}
 use Rattle.score.proofs.early_refusal.Tie as tie
-use Rattle.score.proofs.early_refusal.Reads as reads
-use Rattle.score.proofs.early_refusal.Lts as lts
-use Rattle.double_array.proofs.is_array.Reads as is-array-reads
-use Rattle.score.proofs.state_ok.Reads as state-ok-reads
 
 is-array-requires : tie.Need-is-array-requires
 is-array-requires c κs = search needs

@@ -1,7 +1,7 @@
 -- `score::first_node` meets its contract. Assumes nothing.
-use mathlib.Core.Path.{_≡_, refl, sym, ap, subst, _∙_}
+use mathlib.Core.Path.{_≡_, sym, _∙_}
 use native.Mathlib.Omega.{arith}
-use Prim.Native.Nat.{ℕ, _≤_, _<_}
+use Prim.Native.Nat.{_≤_, _<_}
 use lib.ListN.{length}
 use Rattle.backoff.specs.Limits.{unknownWord, slotLimit}
 use Rattle.double_array.specs.DoubleArray.{childAt}
@@ -10,9 +10,6 @@ use Rattle.double_array.proofs.DoubleArray.{opened-sizes}
 use borrow.Author.Needs.{needs}
 use Rattle.score.proofs.first_node.Statement.{statement}
 use Rattle.score.proofs.first_node.Tie as tie
-use Rattle.score.proofs.first_node.Reads as reads
-use Rattle.score.proofs.first_node.Lts as lts
-use Rattle.double_array.proofs.find_child.Reads as find-child-reads
 
 sizes : (s : tie.Start) → (0 < length (s .args .base .now)) × (length (s .args .base .now) ≤ slotLimit)
 sizes s = let z = opened-sizes (s .args .base .now) (s .args .check .now) (s .pre) in (omega arith, z .high)

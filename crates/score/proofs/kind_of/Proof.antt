@@ -1,13 +1,10 @@
 -- `score::kind_of` meets its contract. Assumes nothing.
-use mathlib.Core.Path.{_≡_, refl, sym, ap, _∙_}
 use borrow.Author.Tests.{eq-eqb, ne-eqb}
 use native.Mathlib.Omega.{arith}
 use Rattle.backoff.specs.Limits.{unknownWord}
 use Rattle.backoff.specs.Rule.{lengthByte}
 use Rattle.score.proofs.kind_of.Statement.{statement}
 use Rattle.score.proofs.kind_of.Tie as tie
-use Rattle.score.proofs.kind_of.Reads as reads
-use Rattle.score.proofs.kind_of.Lts as lts
 
 returns : tie.Need-returns
 unfolding lengthByte

@@ -1,5 +1,5 @@
 -- `score::length_byte` meets its contract. Assumes nothing.
-use mathlib.Core.Path.{_≡_, refl, sym, ap, subst, _∙_}
+use mathlib.Core.Path.{sym, ap, subst}
 use native.Mathlib.Omega.{arith}
 use Prim.Native.Nat.{_<_}
 use Rattle.score.specs.declared.Kind.{Kind}
@@ -7,8 +7,6 @@ use Rattle.score.specs.Answers.{byteOf}
 use borrow.Author.Needs.{needs}
 use Rattle.score.proofs.length_byte.Statement.{statement}
 use Rattle.score.proofs.length_byte.Tie as tie
-use Rattle.score.proofs.length_byte.Reads as reads
-use Rattle.score.proofs.length_byte.Lts as lts
 
 enum-known-kind : tie.Need-enum-known-kind
 enum-known-kind c = search needs

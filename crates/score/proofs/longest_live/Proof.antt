@@ -1,10 +1,8 @@
 -- `score::longest_live` meets its contract. Assumes nothing.
-use mathlib.Core.Path.{_≡_, refl, sym, ap, subst, _∙_}
-use mathlib.Core.Logic.{⊎-elim}
+use mathlib.Core.Path.{_≡_}
 use mathlib.Core.Bool.{Bool, true, false, not, _&&_, _||_}
 use lib.Dec.{ltb, eqb}
 use mir.Val.{ofZ}
-use borrow.Author.Tests.{lt-ltb, le-ltb}
 use lib.IntN.{pos}
 use mir.Syntax.{w32}
 use mir.Facts.{sfits-lit}
@@ -12,8 +10,6 @@ use Rattle.integer.specs.Integer.{eqZ}
 use Rattle.integer.proofs.Arithmetic.{bits-test}
 use Rattle.score.proofs.longest_live.Statement.{statement}
 use Rattle.score.proofs.longest_live.Tie as tie
-use Rattle.score.proofs.longest_live.Reads as reads
-use Rattle.score.proofs.longest_live.Lts as lts
 
 -- the code's test, whose value it has
 test : (s : tie.Start) (t : Bool) → (ltb (s .args .words) (s .args .order) && (not (eqb (ofZ w32 (s .args .b)) 0) || s .args .f)) ≡ t → (ltb (s .args .words) (s .args .order) && (not (eqZ (s .args .b) (pos 0)) || s .args .f)) ≡ t

@@ -1,28 +1,24 @@
 -- `score::next_state` meets its contract. Assumes nothing.
-use mathlib.Core.Path.{_≡_, sym, ap, _∙_}
-use mathlib.Core.List.{List, [], _∷_, _++_}
-use Prim.Native.Nat.{ℕ, _≤_, _<_}
+use mathlib.Core.Path.{_≡_, ap, _∙_}
+use mathlib.Core.List.{List, [], _∷_}
+use Prim.Native.Nat.{_≤_}
 use native.Mathlib.Omega.{arith}
 use borrow.Author.Needs.{needs, sfits-of}
 use borrow.Author.Tests.{leb-true}
 use lib.Dec.{leb}
-use lib.ListN.{length, getD, take}
+use lib.ListN.{length, getD}
 use lib.Seq.{take-all}
 use lib.IntN.{ℤ, pos}
 use mir.Syntax.{w32}
 use mir.Val.{toZ, ofZ, SFits}
 use mir.Facts.{toZ-ofZ, toZ-pos}
-use Rattle.integer.proofs.Ranges.{and-left, and-right}
+use Rattle.integer.proofs.Ranges.{and-right}
 use Rattle.backoff.specs.Limits.{wordLimit}
 use Rattle.backoff.specs.Words.{isWord}
-use Rattle.backoff.specs.NineNumbers.{padded}
 use Rattle.score.specs.Answers.{numbersOf}
 use Rattle.score.proofs.Parts.{first-four}
 use Rattle.score.proofs.next_state.Statement.{statement}
 use Rattle.score.proofs.next_state.Tie as tie
-use Rattle.score.proofs.next_state.Reads as reads
-use Rattle.score.proofs.next_state.Lts as lts
-use Rattle.score.proofs.cut.Reads as cut-reads
 
 word-high : (s : tie.Start) → s .args .word ≤ wordLimit
 unfolding isWord

@@ -2,7 +2,7 @@
 use mathlib.Core.Path.{_≡_, sym, ap₂, _∙_}
 use mathlib.Core.Bool.{Bool, _&&_}
 use mathlib.Core.Logic.{⊎-elim}
-use Prim.Native.Nat.{ℕ, _+_, _-_, _≤_, _<_}
+use Prim.Native.Nat.{_+_, _-_, _≤_}
 use native.Mathlib.Nat.{sub-zero}
 use native.Mathlib.Omega.{arith}
 use borrow.Author.Needs.{needs, sfits-of}
@@ -12,14 +12,12 @@ use lib.IntN.{ℤ, pos}
 use mir.Syntax.{w32}
 use mir.Val.{toZ, ofZ, SFits}
 use mir.Facts.{toZ-ofZ, sfits-lit}
-use Rattle.integer.specs.Integer.{eqZ, between}
-use Rattle.integer.proofs.Arithmetic.{zarith, bits-test}
+use Rattle.integer.specs.Integer.{between}
+use Rattle.integer.proofs.Arithmetic.{bits-test}
 use Rattle.score.specs.Inner.{partOk}
 use Rattle.score.proofs.Parts.{eqZ-sym, part-on, part-done}
 use Rattle.score.proofs.part_ok.Statement.{statement}
 use Rattle.score.proofs.part_ok.Tie as tie
-use Rattle.score.proofs.part_ok.Reads as reads
-use Rattle.score.proofs.part_ok.Lts as lts
 
 abbrev Inv-loop : tie.InvT-loop
 Inv-loop count low high items i₀ i = (i ≤ 4) × (partOk (between (toZ w32 low) (toZ w32 high)) count items ≡ partOk (between (toZ w32 low) (toZ w32 high)) (count - i) (drop i items))

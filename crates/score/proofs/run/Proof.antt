@@ -1,8 +1,6 @@
 -- `score::run` meets its contract. Assumes nothing.
-use mathlib.Core.Path.{_≡_, sym, ap, ap₂, _∙_}
-use mathlib.Core.Bool.{true}
+use mathlib.Core.Path.{_≡_, sym, _∙_}
 use mathlib.Core.List.{List}
-use Prim.Native.Nat.{ℕ}
 use borrow.Author.Needs.{needs, sfits-of}
 use lib.ListN.{getD}
 use lib.IntN.{ℤ, pos}
@@ -10,7 +8,7 @@ use mir.Syntax.{w32}
 use mir.Val.{SFits}
 use Rattle.backoff.specs.Run.{Run, Answer, refusedRun}
 use Rattle.backoff.specs.Store.{runOutcome}
-use Rattle.double_array.specs.DoubleArray.{isArray, opened}
+use Rattle.double_array.specs.DoubleArray.{opened}
 use Rattle.score.specs.Answers.{numbersOf}
 use Rattle.score.specs.Meaning.{RunMeans}
 use Rattle.score.proofs.Carried.{Four, length-numbers}
@@ -18,10 +16,6 @@ use Rattle.score.proofs.Rows.{order-inside, order-cast, order-read}
 use Rattle.score.proofs.Outcomes.{refused-early, Passed, passed-all, scored-late, run-means}
 use Rattle.score.proofs.run.Statement.{statement}
 use Rattle.score.proofs.run.Tie as tie
-use Rattle.score.proofs.run.Reads as reads
-use Rattle.score.proofs.run.Lts as lts
-use Rattle.score.proofs.early_refusal.Reads as early-refusal-reads
-use Rattle.score.proofs.score_words.Reads as score-words-reads
 
 arrays : (s : tie.Start) → Four (s .args .state)
 arrays s = record { words = search needs; backoffs = search needs }

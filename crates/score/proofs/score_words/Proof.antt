@@ -1,38 +1,32 @@
 -- `score::score_words` meets its contract. The loop's invariant: what is left is the run of the words from the i-th on. Assumes nothing.
-use mathlib.Core.Path.{_≡_, refl, sym, ap, subst, _∙_}
+use mathlib.Core.Path.{_≡_, refl, sym, ap, _∙_}
 use mathlib.Core.List.{List}
-use Prim.Native.Nat.{ℕ, _+_, _*_, _-_, _≤_, _<_}
+use Prim.Native.Nat.{ℕ, _*_, _-_, _≤_, _<_}
 use native.Mathlib.Omega.{arith}
-use native.Mathlib.Numerals.{add-one}
 use borrow.Author.Needs.{needs, sfits-of}
-use lib.ListN.{length, getD, set, length-set}
-use lib.IntN.{ℤ, pos, natAbs, _+ℤ_}
+use lib.ListN.{length, getD, set}
+use lib.IntN.{ℤ, natAbs}
 use mir.Syntax.{w32, w64}
 use mir.Val.{toZ, ofZ, SFits}
 use mir.Facts.{toZ-ofZ}
-use Rattle.integer.proofs.Arithmetic.{zarith, abs, fit, to-wide}
+use Rattle.integer.proofs.Arithmetic.{zarith, abs, to-wide}
 use Rattle.backoff.specs.Limits.{orderLimit, largestBackoff}
-use Rattle.backoff.specs.NineNumbers.{stateIn, stateOk}
+use Rattle.backoff.specs.NineNumbers.{stateIn}
 use Rattle.backoff.specs.State.{State as Carried}
-use Rattle.backoff.specs.Store.{Store, scored, stuck, step}
+use Rattle.backoff.specs.Store.{Store, step}
 use Rattle.double_array.specs.DoubleArray.{storeIn}
 use Rattle.double_array.proofs.DoubleArray.{opened-order}
 use Rattle.backoff.proofs.NineNumbers.{stateOk-bounded}
 use Rattle.score.specs.declared.State.{State}
 use Rattle.score.specs.declared.Kind.{Kind}
 use Rattle.score.specs.declared.Word.{Word}
-use Rattle.score.specs.declared.Word.the-variants.{Scored, Refused}
+use Rattle.score.specs.declared.Word.the-variants.{Refused}
 use Rattle.score.specs.Answers.{numbersOf, byteOf, stepOf}
 use Rattle.score.proofs.Carried.{Four, length-numbers}
 use Rattle.score.proofs.Rows.{rows-in-probability}
 use Rattle.score.proofs.Running.{Running, scored-sizes, running-begins, running-on, running-refused, running-ends}
 use Rattle.score.proofs.score_words.Statement.{statement}
 use Rattle.score.proofs.score_words.Tie as tie
-use Rattle.score.proofs.score_words.Reads as reads
-use Rattle.score.proofs.score_words.Lts as lts
-use Rattle.score.proofs.clear.Reads as clear-reads
-use Rattle.score.proofs.length_byte.Reads as length-byte-reads
-use Rattle.score.proofs.step.Reads as step-reads
 
 abbrev Inv-loop : tie.InvT-loop
 Inv-loop base check order state words points₀ lengths₀ carried₀ total₀ i₀ points lengths carried total i =

@@ -1,25 +1,24 @@
 -- `score::start` meets its contract. Assumes nothing.
-use mathlib.Core.Path.{_≡_, refl, sym, ap, subst, _∙_}
-use mathlib.Core.Bool.{Bool, true, false}
+use mathlib.Core.Path.{_≡_, refl, sym, ap, _∙_}
+use mathlib.Core.Bool.{true}
 use mathlib.Core.List.{List}
-use Prim.Native.Nat.{ℕ, _≤_}
-use native.Mathlib.Omega.{arith}
+use Prim.Native.Nat.{ℕ}
 use borrow.Author.Needs.{needs, sfits-of}
 use borrow.Author.Tests.{not-true, not-false}
-use lib.ListN.{getD, length}
+use lib.ListN.{getD}
 use lib.IntN.{ℤ, pos}
 use mir.Syntax.{w32}
 use mir.Val.{SFits}
 use Rattle.backoff.specs.Limits.{startWord}
 use Rattle.backoff.specs.Refusal.{arrayHead, brokenNode}
 use Rattle.backoff.specs.State.{State as Carried, empty}
-use Rattle.backoff.specs.NineNumbers.{nine, nineZeros, stateIn, stateOk}
-use Rattle.backoff.specs.Store.{Started, step, startIn, startStep, startOutcome}
+use Rattle.backoff.specs.NineNumbers.{nine, nineZeros, stateIn}
+use Rattle.backoff.specs.Store.{Started, step, startStep, startOutcome}
 use Rattle.backoff.proofs.NineNumbers.{nine-stateIn}
 use Rattle.double_array.specs.DoubleArray.{isArray, orderIn, storeIn, opened}
-use Rattle.double_array.proofs.DoubleArray.{opened-order, opened-some, opened-none}
+use Rattle.double_array.proofs.DoubleArray.{opened-order}
 use Rattle.score.specs.declared.Word.{Word}
-use Rattle.score.specs.declared.Word.the-variants.{Scored, Refused}
+use Rattle.score.specs.declared.Word.the-variants.{Refused}
 use Rattle.score.specs.Answers.{numbersOf, stepOf}
 use Rattle.score.specs.Meaning.{StartMeans}
 use Rattle.score.proofs.Carried.{Four, length-numbers, zeros-ok, zeros-empty}
@@ -27,11 +26,6 @@ use Rattle.score.proofs.Rows.{order-inside, order-cast, order-read}
 use Rattle.score.proofs.Outcomes.{start-refused, start-steps, start-means}
 use Rattle.score.proofs.start.Statement.{statement}
 use Rattle.score.proofs.start.Tie as tie
-use Rattle.score.proofs.start.Reads as reads
-use Rattle.score.proofs.start.Lts as lts
-use Rattle.double_array.proofs.is_array.Reads as is-array-reads
-use Rattle.score.proofs.empty.Reads as empty-reads
-use Rattle.score.proofs.step.Reads as step-reads
 
 abbrev started : ℕ → List ℤ → Started
 started number l = record { number = number; place = 0; state = l }

@@ -1,27 +1,19 @@
 -- `score::state_ok` meets its contract. Assumes nothing.
-use mathlib.Core.Path.{_≡_, sym, ap, _∙_}
-use mathlib.Core.Bool.{Bool, true, false, _&&_, and-assoc}
-use Prim.Native.Nat.{ℕ, _-_, _≤_}
-use borrow.Author.Needs.{needs, sfits-of}
-use borrow.Author.Tests.{lt-ltb, le-ltb}
-use native.Mathlib.Omega.{arith}
-use native.Mathlib.Decide.{decLe}
-use lib.Dec.{ltb}
-use lib.IntN.{ℤ, pos, natAbs}
+use mathlib.Core.Path.{_≡_}
+use mathlib.Core.Bool.{true, and-assoc}
+use Prim.Native.Nat.{_-_}
+use borrow.Author.Needs.{needs}
+use lib.IntN.{pos}
 use lib.Signed.{ltZ, _≤ℤ_}
 use mir.Syntax.{w32}
 use mir.Val.{SFits}
 use mir.Facts.{toZ-ofZ}
-use Rattle.integer.specs.Integer.{between}
-use Rattle.integer.proofs.Arithmetic.{zarith, to-nat, abs}
-use Rattle.integer.proofs.Ranges.{between-below, between-yes, between-high}
+use Rattle.integer.proofs.Arithmetic.{zarith, to-nat}
+use Rattle.integer.proofs.Ranges.{between-below}
 use Rattle.backoff.specs.Model.{inBackoff}
 use Rattle.score.proofs.Carried.{Four, stateOk-parts, between-count}
 use Rattle.score.proofs.state_ok.Statement.{statement}
 use Rattle.score.proofs.state_ok.Tie as tie
-use Rattle.score.proofs.state_ok.Reads as reads
-use Rattle.score.proofs.state_ok.Lts as lts
-use Rattle.score.proofs.part_ok.Reads as part-ok-reads
 
 four : (s : tie.Start) → Four (s .args .state)
 four s = record { words = search needs; backoffs = search needs }

@@ -1,31 +1,22 @@
 -- `score::step` meets its contract. Assumes nothing.
-use mathlib.Core.Path.{_≡_, sym, ap, ap₂, _∙_}
-use mathlib.Core.Bool.{true, false}
-use Prim.Native.Nat.{ℕ, _≤_, _<_}
+use mathlib.Core.Path.{_≡_, sym, _∙_}
+use mathlib.Core.Bool.{true}
+use Prim.Native.Nat.{ℕ}
 use native.Mathlib.Omega.{arith}
 use borrow.Author.Needs.{needs}
 use borrow.Author.Tests.{not-true, not-false}
-use lib.ListN.{length}
-use lib.IntN.{ℤ}
-use Rattle.backoff.specs.Limits.{orderLimit}
 use Rattle.backoff.specs.NineNumbers.{stateIn, stateOk}
 use Rattle.backoff.specs.Store.{scored}
 use Rattle.double_array.specs.DoubleArray.{childAt, orderIn, storeIn}
 use Rattle.double_array.specs.declared.Child.the-variants.{At}
 use Rattle.double_array.proofs.DoubleArray.{opened-sizes, opened-order, child-inside}
-use Rattle.score.specs.declared.First.{First}
-use Rattle.score.specs.declared.First.the-variants.{From, Missing}
+use Rattle.score.specs.declared.First.the-variants.{From}
 use Rattle.score.specs.Answers.{numbersOf}
 use Rattle.score.specs.Inner.{firstOf, Read, WalkedOver}
 use Rattle.score.proofs.Carried.{Four, all-in-backoff}
 use Rattle.score.proofs.Stepping.{first-child, first-missing, first-broken, passed-few, kept-few, p-in-range, word-is-word, stepped}
 use Rattle.score.proofs.step.Statement.{statement}
 use Rattle.score.proofs.step.Tie as tie
-use Rattle.score.proofs.step.Reads as reads
-use Rattle.score.proofs.step.Lts as lts
-use Rattle.score.proofs.first_node.Reads as first-node-reads
-use Rattle.score.proofs.scored.Reads as scored-reads
-use Rattle.score.proofs.walk.Reads as walk-reads
 
 first-node-requires : tie.Need-first-node-requires
 first-node-requires c κs = search needs

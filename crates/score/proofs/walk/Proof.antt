@@ -1,7 +1,7 @@
 -- `score::walk` meets its contract. The loop's invariant: the walk of each word v whose node is in the given slot has come to the node in slot s.
 -- Assumes nothing.
 use mathlib.Core.Path.{_≡_, refl, sym, ap, ap₂, _∙_}
-use mathlib.Core.Bool.{Bool, true, false, not, cond, _&&_, _||_, true≢false, false≢true}
+use mathlib.Core.Bool.{Bool, true, true≢false, false≢true}
 use mathlib.Core.List.{List, map}
 use Prim.Native.Nat.{ℕ, _+_, _-_, _≤_, _<_}
 use native.Mathlib.Omega.{arith}
@@ -9,35 +9,26 @@ use borrow.Author.Needs.{needs, sfits-of}
 use lib.ListN.{length, getD, set, take, length-map, length-set, List·getD-map}
 use lib.Seq.{length-take-le, getD-take}
 use lib.IntN.{ℤ, pos, natAbs}
-use lib.Dec.{ltb}
-use lib.Signed.{_≤ℤ_}
 use mir.Syntax.{w32}
 use mir.Val.{SFits, toZ, ofZ}
 use mir.Facts.{toZ-ofZ}
-use Rattle.integer.specs.Integer.{eqZ}
 use Rattle.integer.proofs.Arithmetic.{zarith, to-nat}
 use Rattle.integer.proofs.Ranges.{between-low}
 use Rattle.backoff.specs.Limits.{orderLimit, wordLimit}
 use Rattle.backoff.specs.NineNumbers.{stateIn}
 use Rattle.backoff.specs.Store.{Store}
-use Rattle.double_array.specs.DoubleArray.{childAt, markerAt, isArray, orderIn, storeIn}
+use Rattle.double_array.specs.DoubleArray.{childAt, markerAt, orderIn}
 use Rattle.double_array.specs.declared.Child.{Child}
 use Rattle.double_array.specs.declared.Child.the-variants.{At, Nothing}
 use Rattle.double_array.specs.declared.Marker.{Marker}
 use Rattle.double_array.specs.declared.Marker.the-variants.{Sound, Broken}
 use Rattle.double_array.proofs.DoubleArray.{Sizes, opened-sizes, opened-order}
-use Rattle.score.specs.declared.Walked.{Walked}
 use Rattle.score.specs.Answers.{numbersOf}
 use Rattle.score.specs.Inner.{longestLive, Read, WalkedOver}
 use Rattle.score.proofs.Carried.{Four, count-low, count-high, held-words, word-between}
 use Rattle.score.proofs.Walking.{Walking, walking-begins, walking-broken, walking-on, walking-ends, walking-stops}
 use Rattle.score.proofs.walk.Statement.{statement}
 use Rattle.score.proofs.walk.Tie as tie
-use Rattle.score.proofs.walk.Reads as reads
-use Rattle.score.proofs.walk.Lts as lts
-use Rattle.double_array.proofs.find_child.Reads as find-child-reads
-use Rattle.double_array.proofs.read_marker.Reads as read-marker-reads
-use Rattle.score.proofs.longest_live.Reads as longest-live-reads
 
 record Loop (base check : List ℤ) (slot : ℕ) (words : List ℤ) (count s passed kept : ℕ) (backoffs : List ℤ) : Type 0 where
   inside : s < length base
