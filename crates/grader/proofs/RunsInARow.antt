@@ -101,6 +101,7 @@ module _ (S : Store) (W : Whole S) (A : AcceptedModel (modelIn S)) (started : Bo
   store-in-a-row =
       let row = in-a-row M A started rs in
       record {
+        start = ap (λ (s : Started). s .number) (startOutcome-is S W lent nine-long);
         refusals = rw returned-is (numbers-are M (first M started) rs);
         places = rw returned-is (places-are M (first M started) rs);
         each-points = λ i l. rw points-are (row .each-points i l);

@@ -45,6 +45,8 @@ module _ (array : Option Store) (M : Model) (plainly : Run → Answer (Unit {0})
   preceding i = history M (front started) (take i (joined rs))
 
   pub record RunsInARow : Type 0 where
+    -- start is accepted over this array
+    pub start : startOutcome array lent .number ≡ 0
     -- "Only 14 and 15 can refuse a run here"
     pub refusals : map (λ a. a .number) returned ≡ map refusal rs
     pub places : map (λ a. a .place) returned ≡ map (λ r. 0) rs
