@@ -53,4 +53,8 @@ struct backoff_total backoff_plain(const int32_t *table, size_t table_len, bool 
                                    size_t words_len, int32_t *points, size_t points_len, uint8_t *lengths,
                                    size_t lengths_len);
 
+/* Gives the list of a double array back; work gets the slots of the rows' nodes. */
+struct backoff_status backoff_unload(const int32_t *base, size_t base_len, const int32_t *check, size_t check_len,
+                                     int32_t *table, size_t table_len, uint32_t *work, size_t work_len);
+
 #endif

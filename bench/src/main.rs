@@ -5,6 +5,7 @@ mod list;
 mod plain;
 mod score;
 mod time;
+mod unload;
 
 use list::MOST_ROWS;
 use score::LONGEST_RUN;
@@ -33,6 +34,12 @@ fn main() {
         let text = unseen_text(&mut random, list);
         bench_run(list, &arrays, &text);
         bench_plain(list, &text);
+    }
+    for list in [
+        List::new("natural, all words", natural(&mut random, 5, 65_535, MOST_ROWS)),
+        List::new("uniform, all words", uniform(&mut random, 5, 65_535, MOST_ROWS)),
+    ] {
+        bench_unload(&list);
     }
 }
 
@@ -158,6 +165,19 @@ fn bench_plain(list: &List, text: &[u32]) {
     );
     assert!(ours == rust, "the scorers agree");
     print("plain scoring of 65,535 words", list, times);
+}
+
+/// Unloading an array of 262,144 slots.
+fn bench_unload(list: &List) {
+    let mut arrays = Arrays::new(262_144, list.rows.len());
+    assert_eq!(backoff::build(&list.table, &mut arrays.base, &mut arrays.check, &mut arrays.work).number, 0);
+    let (mut ours, mut rust) = ((list.table.clone(), arrays.work.clone()), (list.table.clone(), arrays.work.clone()));
+    let times = time::medians(
+        || backoff::unload(&arrays.base, &arrays.check, &mut ours.0, &mut ours.1),
+        || unload::unload(&arrays.base, &arrays.check, &mut rust.0, &mut rust.1),
+    );
+    assert!(ours == rust && ours.0 == list.table && ours.1 == arrays.work, "the list comes back");
+    print("unload", list, times);
 }
 
 fn print(call: &str, list: &List, (ours, rust): (Duration, Duration)) {

@@ -90,6 +90,17 @@ mod raw {
             lengths: *mut u8,
             lengths_len: usize,
         ) -> Total;
+
+        pub fn backoff_unload(
+            base: *const i32,
+            base_len: usize,
+            check: *const i32,
+            check_len: usize,
+            table: *mut i32,
+            table_len: usize,
+            work: *mut u32,
+            work_len: usize,
+        ) -> Status;
     }
 }
 
@@ -159,6 +170,22 @@ pub fn plain(table: &[i32], after_start: bool, words: &[u32], points: &mut [i32]
             points.len(),
             lengths.as_mut_ptr(),
             lengths.len(),
+        )
+    }
+}
+
+/// Gives the list of a double array back; `work` gets the slots of the rows' nodes.
+pub fn unload(base: &[i32], check: &[i32], table: &mut [i32], work: &mut [u32]) -> Status {
+    unsafe {
+        raw::backoff_unload(
+            base.as_ptr(),
+            base.len(),
+            check.as_ptr(),
+            check.len(),
+            table.as_mut_ptr(),
+            table.len(),
+            work.as_mut_ptr(),
+            work.len(),
         )
     }
 }

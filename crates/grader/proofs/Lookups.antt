@@ -25,7 +25,7 @@ use Rattle.double_array.specs.declared.Lookup.the-variants.{NotFound, Refused}
 use Rattle.build.specs.Listed.{answerAt, listedAnswer}
 use Rattle.unload.specs.Unload.{unloadOutcome}
 use Rattle.unload.specs.Meaning.{rowsPart, lookEntry, storeOf}
-use Rattle.unload.proofs.Unload.{unload-means, unloaded-says}
+use Rattle.unload.proofs.Meaning.{unload-means, unloaded-says}
 
 module _ (t : List ℤ) (a : verdict t ≡ Accepted) (ws : List ℕ) where
   -- more words than the order are not listed

@@ -29,7 +29,7 @@ use Rattle.unload.specs.Unload.{walkTo, reached, slotsOf, rowsIn, unloadOutcome
 use Rattle.unload.specs.Meaning.{Holds}
 use Rattle.unload.proofs.Rows.{rows-tableOf, length-slotsOf}
 use Rattle.unload.proofs.Held.{held-table}
-use Rattle.unload.proofs.Unload.{held-unloads, held-slot}
+use Rattle.unload.proofs.Meaning.{held-unloads, held-slot}
 use Rattle.grader.specs.Returns.{ReturnsList}
 
 -- in a layout, words lead to the slot of their node

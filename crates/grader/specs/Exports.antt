@@ -10,6 +10,7 @@ use Rattle.backoff.specs.declared.Verdict.{Verdict}
 use Rattle.double_array.specs.Lookup as lookup
 use Rattle.double_array.specs.declared.Lookup.{Lookup}
 use Rattle.build.specs.Build.{Built}
+use Rattle.unload.specs.Unload.{Unloaded}
 use Rattle.grader.specs.declared.Status.{Status}
 use Rattle.grader.specs.declared.Found.{Found}
 use Rattle.grader.specs.declared.Total.{Total}
@@ -52,3 +53,9 @@ pub record TotalIs {S : Type 0} (a : Answer S) (r : Total) (points : List ℤ) (
 pub record RanIs (a : Answer (List ℤ)) (r : Total) (state points : List ℤ) (lengths : List ℕ) : Type 0 where
   pub total : TotalIs a r points lengths
   pub end-is : state ≡ a .end
+
+-- an unload's answer, and the two slices at exit
+pub record UnloadedIs (o : Unloaded) (r : Status) (table : List ℤ) (work : List ℕ) : Type 0 where
+  pub status : StatusIs (o .answer) r
+  pub table-is : table ≡ o .table
+  pub work-is : work ≡ o .work

@@ -15,7 +15,9 @@ ghost use Rattle.double_array.specs.DoubleArray.{opened};
 ghost use Rattle.score.specs.Answers.{numbersOf};
 ghost use Rattle.score.specs.Meaning.{StartMeans, RunMeans};
 ghost use Rattle.plain.specs.Plain.{runOf, plainOutcome, PlainMeans};
-ghost use Rattle.grader.specs.Exports.{StatusIs, FoundIs, BuiltIs, StartedIs, TotalIs, RanIs};
+ghost use Rattle.unload.specs.Unload.{unloadOutcome};
+ghost use Rattle.unload.specs.Meaning.{UnloadMeans};
+ghost use Rattle.grader.specs.Exports.{StatusIs, FoundIs, BuiltIs, StartedIs, TotalIs, RanIs, UnloadedIs};
 
 // The refusal's number and place, 0 and 0 where nothing is refused.
 #[repr(C)]
@@ -217,4 +219,18 @@ pub extern "C" fn backoff_plain(
         place: scored.place,
         total: scored.total,
     }
+}
+
+// Gives the list of an array back, row for row: 11, 15, 12. `work` gets the slots of the rows' nodes.
+#[no_mangle]
+pub extern "C" fn backoff_unload(
+    base: &[i32],
+    check: &[i32],
+    table: &mut [i32],
+    work: &mut [u32],
+) -> Status
+    ensures outcome { λ r. ⌜ UnloadedIs (unloadOutcome (now (base .entry)) (now (check .entry)) (now (table .entry)) (now (work .entry))) r (now (table .exit)) (now (work .exit)) ⌝ }
+    ensures meaning { λ _. ⌜ UnloadMeans (now (base .entry)) (now (check .entry)) (now (table .entry)) (now (work .entry)) (unloadOutcome (now (base .entry)) (now (check .entry)) (now (table .entry)) (now (work .entry))) ⌝ }
+{
+    status_of(unload::unload(base, check, table, work))
 }

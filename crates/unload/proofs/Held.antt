@@ -42,8 +42,8 @@ use Rattle.double_array.specs.declared.Child.the-variants.{At, Nothing}
 use Rattle.double_array.proofs.DoubleArray.{opened-order, opened-some, look-row}
 use Rattle.unload.specs.Unload.{Reached, isRight, walkTo, reached, rowOf, tableOf, allRight, isList, rowsIn}
 use Rattle.unload.specs.Meaning.{lookEntry, storeOf, Holds, Says}
-use Rattle.unload.proofs.EachTwo.{EachTwo, none as no-two, more}
-use Rattle.unload.proofs.Reached.{IsReached, ByKey, walk-child, walk-slot, reached-unique}
+use Rattle.unload.specs.Steps.{EachTwo, none as no-two, more, IsReached}
+use Rattle.unload.proofs.Reached.{ByKey, walk-child, walk-slot, reached-unique}
 use Rattle.unload.proofs.Rows.{good-row-is-row}
 use Rattle.unload.proofs.Agree.{runOutcome-agrees, startOutcome-agrees}
 

@@ -24,7 +24,8 @@ use Rattle.double_array.specs.declared.Child.{Child}
 use Rattle.double_array.specs.declared.Child.the-variants.{At, Nothing}
 use Rattle.double_array.proofs.DoubleArray.{child-told, child-unique}
 use Rattle.unload.specs.Unload.{Reached, root, childFirst, walkTo, childrenFrom, childrenOf, childrenOfAll, level, reached}
-use Rattle.unload.proofs.EachTwo.{EachTwo, none, more, first-of-two, rest-of-two, each-append, each-weaken, each-same, apart-below}
+use Rattle.unload.specs.Steps.{EachTwo, none, more, IsReached}
+use Rattle.unload.proofs.EachTwo.{first-of-two, rest-of-two, each-append, each-weaken, each-same, apart-below}
 
 -- ---- the order
 
@@ -54,12 +55,6 @@ front-decides : (us : List ℕ) (u v : ℕ) → u < v → precedes (u ∷ us) (v
 unfolding lastLess
 front-decides us u v h =
     first-last (u ∷ us) (v ∷ us) refl (or-yes (lastLess us us) (sameWords us us && ltb u v) (λ _. and-both (sameWords us us) (ltb u v) (same-refl us) (lt-ltb u v h)))
-
--- 1 to n words lead to the node
-pub record IsReached (base check : List ℤ) (n : ℕ) (r : Reached) : Type 0 where
-  pub some : 1 ≤ length (r .words)
-  pub few : length (r .words) ≤ n
-  pub leads : walkTo base check (r .words) ≡ At (r .slot)
 
 -- ---- a node's children
 

@@ -1,6 +1,7 @@
 //! "The double array" of document 01 as it is read: any two lent slices, whoever wrote them.
 
 use super::list::{Refusal, ACCEPTED, LARGEST_B, LARGEST_WORD, LOWEST_P, MOST_ROWS};
+use std::collections::HashMap;
 
 pub const MOST_SLOTS: usize = 1_048_576;
 pub const ROOT: usize = 0;
@@ -56,6 +57,19 @@ impl<'a> Array<'a> {
         }
         let slot = d as usize + word as usize;
         (self.check.get(slot) == Some(&(node as i32))).then_some(slot)
+    }
+
+    /// All children that exist, words and slots, by the slot of their parent.
+    pub fn children(&self) -> HashMap<usize, Vec<(u32, usize)>> {
+        let mut children: HashMap<usize, Vec<(u32, usize)>> = HashMap::new();
+        for slot in 0..self.slots() {
+            let Some(parent) = usize::try_from(self.check[slot]).ok().filter(|&parent| parent < self.slots()) else { continue };
+            let Ok(word) = u32::try_from(slot as i64 - self.base[parent] as i64) else { continue };
+            if self.child(parent, word) == Some(slot) {
+                children.entry(parent).or_default().push((word, slot));
+            }
+        }
+        children
     }
 
     /// "A marker is sound if 1 ≤ d < N and the p and b read from it are in range": nothing where it is not.

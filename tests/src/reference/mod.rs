@@ -5,3 +5,4 @@ pub mod build;
 pub mod list;
 pub mod rule;
 pub mod score;
+pub mod unload;
