@@ -3,7 +3,7 @@
 use mathlib.Core.Path.{_≡_, refl, sym, ap, _∙_}
 use mathlib.Core.Logic.{_⊎_, inl, inr}
 use mathlib.Core.Bool.{Bool, true, false, _&&_, false≢true}
-use mathlib.Core.List.{List, [], _∷_, map, reverse, reverseAux, reverse-reverse, List·Memᴰ}
+use mathlib.Core.List.{List, [], _∷_, map, reverse, reverseAux, reverse-reverse}
 use mathlib.Core.Option.{some}
 use Prim.Native.Nat.{ℕ, _*_, _≤_, _<_}
 use native.Mathlib.Omega.{arith}
@@ -13,9 +13,7 @@ use lib.ListN.{length, getD, length-reverse, List·getD-append}
 use lib.Seq.{take-at}
 use lib.IntN.{ℤ}
 use Rattle.integer.proofs.Ranges.{and-left, and-right, and-both}
-use Rattle.backoff.specs.Limits.{orderLimit}
 use Rattle.backoff.specs.Refusal.{numberOf, arrayHead, brokenNode, shortSlice}
-use Rattle.backoff.specs.Words.{areWords}
 use Rattle.backoff.specs.Run.{Run, written, run, first}
 use Rattle.backoff.specs.Runs.{answers}
 use Rattle.backoff.specs.Store.{absent, entryOf, isBroken, modelIn, runOutcome}
@@ -34,11 +32,12 @@ use Rattle.double_array.specs.DoubleArray.{markerAt, childAt, lookFrom, lookRow
 use Rattle.double_array.specs.declared.Marker.the-variants.{Sound}
 use Rattle.double_array.specs.declared.Child.{Child}
 use Rattle.double_array.specs.declared.Child.the-variants.{At, Nothing}
-use Rattle.double_array.proofs.DoubleArray.{opened-order, opened-none, root-sound, look-here, look-down}
+use Rattle.double_array.proofs.DoubleArray.{opened-none, root-sound, look-here, look-down}
 use Rattle.unload.specs.Unload.{Reached, walkTo, reached, tableOf, allRight, slotsOf, rowsIn, isList, Unloaded, untouched, emptied, filled, unloadOutcome}
 use Rattle.unload.specs.Meaning.{lookEntry, Holds, Says, RefusedBy, no-array, too-short, no-list, rowsPart, UnloadMeans}
-use Rattle.unload.proofs.Reached.{reached-told, reached-shown, walk-words, walk-child, walk-slot}
+use Rattle.unload.proofs.Reached.{reached-told, reached-shown, walk-child, walk-slot}
 use Rattle.unload.proofs.Rows.{length-tableOf, rows-tableOf, length-slotsOf, row-node, node-row, all-sound}
+use Rattle.unload.proofs.Gathering.{readable}
 use Rattle.unload.proofs.Held.{entryOf-lookEntry, lookEntry-sound, held-says, held-runs-in-a-row, held-table, held-is-list}
 
 -- ---- an array whose nodes reached are a list
@@ -72,11 +71,6 @@ module _ (base check : List ℤ) (array : isArray base check ≡ true) (ok : isL
 
   rows : rowsOf t ≡ rowsIn base
   rows = eqb-true (rowsOf t) (rowsIn base) (tests .3)
-
-  readable : (r : Reached) → List·Memᴰ r rs → (length (r .words) ≤ orderLimit) × (areWords (r .words) ≡ true)
-  readable r m =
-      let w = reached-told base check n r m in
-      (omega (arith, w .few, opened-order base check array .1), walk-words base check (r .words) (r .slot) (w .leads))
 
   sound-at : (us : List ℕ) (s : ℕ) → length us ≤ n → walkTo base check us ≡ At s → (p b : ℤ) × (f : Bool) × (markerAt base check s ≡ Sound p b f)
   unfolding walkTo
@@ -114,7 +108,7 @@ module _ (base check : List ℤ) (array : isArray base check ≡ true) (ok : isL
       go NoRow e = refl
       go (Row i) e =
           let w = found-words t us i e in
-          let d = row-node base check rs readable i (omega (arith, w .0, rows-tableOf base check rs)) in
+          let d = row-node base check rs (readable base check array) i (omega (arith, w .0, rows-tableOf base check rs)) in
           let k = reached-told base check n (d .0) (d .1) in
           let same : d .0 .words ≡ us = sym (d .2 .same) ∙ w .1 in
           absurd (none-there (d .0 .slot) (omega (arith, k .some, ap length same)) (ap (walkTo base check) (sym same) ∙ k .leads))
@@ -123,7 +117,7 @@ module _ (base check : List ℤ) (array : isArray base check ≡ true) (ok : isL
   look-listed us s l h e =
       let r : Reached = record { slot = s; words = us } in
       let m = reached-shown base check n r (record { some = l; few = h; leads = e }) in
-      let d = node-row base check rs readable r m in
+      let d = node-row base check rs (readable base check array) r m in
       let f : findIn t us ≡ Row (d .0) = ap (findIn t) (sym (d .2 .same)) ∙ finds t (accepted-good t list) (d .0) (omega (arith, d .1, rows-tableOf base check rs)) in
       look-through us [] s h e
       ∙ look-here base check s _ _ _ (all-sound base check t rs (tests .0) r m)
@@ -142,7 +136,7 @@ module _ (base check : List ℤ) (array : isArray base check ≡ true) (ok : isL
 
   row-slot : (i : ℕ) → i < rowsOf t → walkTo base check (words t i) ≡ At (getD (slotsOf rs) i 0)
   row-slot i h =
-      let d = row-node base check rs readable i (omega (arith, rows-tableOf base check rs)) in
+      let d = row-node base check rs (readable base check array) i (omega (arith, rows-tableOf base check rs)) in
       rw (d .2 .same, d .2 .slot) (reached-told base check n (d .0) (d .1) .leads)
 
   list-held : Holds base check t
