@@ -1,8 +1,7 @@
 //! Build and lookup as the team writes them in Rust: the two arrays and work are all the memory there is.
 
-use crate::list::{self, low, Row, LARGEST_B, LARGEST_WORD, LOWEST_P, MOST_ROWS};
+use crate::list::{self, Row, LARGEST_B, LARGEST_WORD, LOWEST_P, MOST_ROWS};
 use backoff::{Found, Status};
-use std::array::from_fn;
 
 const FREE: i32 = i32::MIN;
 const MOST_SLOTS: usize = 1_048_576;
@@ -19,14 +18,12 @@ pub fn build(table: &[i32], base: &mut [i32], check: &mut [i32], work: &mut [u32
         return verdict;
     }
     clear(base, check);
-    let work = &mut work[..rows.len()];
-    set_continued(rows, work);
     if place(rows, base, check, work).is_none() {
         clear(base, check);
-        work.fill(0);
+        work[..rows.len()].fill(0);
         return Status { number: 10, place: 0 };
     }
-    work.iter_mut().for_each(|item| *item /= 2);
+    set_continued(rows, base);
     ACCEPTED
 }
 
@@ -39,7 +36,7 @@ fn clear(base: &mut [i32], check: &mut [i32]) {
     check.fill(FREE);
 }
 
-/// Places all nodes; nothing where a slot at or past the end is used. A work item is twice the slot of the row's node, plus its f.
+/// Places all nodes and writes everything but the f of the markers; nothing where a slot at or past the end is used.
 fn place(rows: &[Row], base: &mut [i32], check: &mut [i32], work: &mut [u32]) -> Option<()> {
     let order = rows[rows.len() - 1][0];
     let ones = rows.partition_point(|row| row[0] == 1);
@@ -53,9 +50,9 @@ fn place(rows: &[Row], base: &mut [i32], check: &mut [i32], work: &mut [u32]) ->
         let m = row[0] as usize;
         let is_child = |child: &Row| child[0] == row[0] + 1 && child[2..2 + m] == row[1..1 + m];
         let end = rows[next..].iter().position(|child| !is_child(child)).map_or(rows.len(), |count| next + count);
-        let (slot, f) = (work[i] as usize / 2, work[i] as i32 % 2);
+        let slot = work[i] as usize;
         let d = settle(&rows[next..end], slot, &mut front, base, check, &mut work[next..end])?;
-        (base[d], check[d]) = (2 * row[7] + f, row[6] - 1);
+        (base[d], check[d]) = (2 * row[7], row[6] - 1);
         next = end;
     }
     Some(())
@@ -75,7 +72,7 @@ fn settle(children: &[Row], slot: usize, front: &mut usize, base: &mut [i32], ch
     for (child, item) in children.iter().zip(work) {
         let place = d + child[1] as usize;
         check[place] = slot as i32;
-        *item += 2 * place as u32;
+        *item = place as u32;
     }
     Some(d)
 }
@@ -97,17 +94,12 @@ fn first_fit(children: &[Row], front: usize, check: &[i32]) -> usize {
     }
 }
 
-/// Makes each row's work item its f: 1 where some row is this row and one more word. It is searched among the rows of its length.
-fn set_continued(rows: &[Row], work: &mut [u32]) {
-    let starts: [usize; 6] = from_fn(|m| rows.partition_point(|row| row[0] < m as i32));
-    work.fill(0);
+/// Sets f in the marker of every row that some row continues.
+fn set_continued(rows: &[Row], base: &mut [i32]) {
     for row in rows.iter().filter(|row| row[0] > 1) {
-        let m = row[0] as usize;
-        let shorter = &rows[starts[m - 1]..starts[m]];
-        let without_last = low(row) & (u64::MAX >> (64 - 16 * (m - 1)));
-        if let Ok(place) = shorter.binary_search_by_key(&without_last, low) {
-            work[starts[m - 1] + place] = 1;
-        }
+        let without_last = &row[1..row[0] as usize];
+        let node = without_last.iter().rev().fold(0, |slot, &word| (base[slot] + word) as usize);
+        base[base[node] as usize] |= 1;
     }
 }
 

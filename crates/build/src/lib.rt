@@ -296,18 +296,17 @@ fn wipe(base: &mut [i32], check: &mut [i32], work: &mut [u32])
     zero(work);
 }
 
-// Sets f of the row that is row i without its last word, and answers where it stands: the next one is often soon after.
-fn mark_row(table: &[i32], i: usize, work: &mut [u32], near: usize) -> usize
+// Sets f of the row that is row i without its last word.
+fn mark_row(table: &[i32], i: usize, work: &mut [u32])
     requires { ⌜ (verdict (now table) ≡ Accepted) × (i < rowsOf (now table)) × Flagged (now table) i (now work) ⌝ }
     ensures { λ _. ⌜ Flagged (now (table .entry)) (i + 1) (now (work .exit)) ⌝ }
 {
     let first = 8 * i + 1;
     let last = 8 * i + list::length_of(table, i);
-    let list::Found::At(j) = list::find_near(table, &table[first..last], near) else {
-        return near;
+    let list::Found::At(j) = list::find_row(table, &table[first..last]) else {
+        return;
     };
     work[j] = 1;
-    j
 }
 
 // Sets f of all rows.
@@ -315,10 +314,9 @@ fn mark_continued(table: &[i32], work: &mut [u32])
     requires { ⌜ (verdict (now table) ≡ Accepted) × (now work ≡ replicate (rowsOf (now table)) 0) ⌝ }
     ensures { λ _. ⌜ Flagged (now (table .entry)) (rowsOf (now (table .entry))) (now (work .exit)) ⌝ }
 {
-    let mut near = 0;
     let mut i = 0;
     while i < work.len() {
-        near = mark_row(table, i, work, near);
+        mark_row(table, i, work);
         i += 1;
     }
 }

@@ -106,15 +106,22 @@ key-limit a b c d e p q r s t = omega arith
 
 -- how the code's two parts of a key decide
 module _ (a b c d : ℕ) (l : b < lowLimit) (m : d < lowLimit) where
-  pub high-less : a < c → ltb (keyOf a b) (keyOf c d) ≡ true
-  high-less h = lt-ltb (keyOf a b) (keyOf c d) (omega arith)
-
-  pub high-more : c < a → ltb (keyOf a b) (keyOf c d) ≡ false
-  high-more h = le-ltb (keyOf a b) (keyOf c d) (omega arith)
-
-  pub high-same : a ≤ c → c ≤ a → ltb (keyOf a b) (keyOf c d) ≡ ltb b d
-  high-same g h = go (ltb b d) refl
+  pub parts-less : (ltb a c || (eqb a c && ltb b d)) ≡ ltb (keyOf a b) (keyOf c d)
+  parts-less = go (ltb a c) (eqb a c) (ltb b d) refl refl refl
     where
-      go : (t : Bool) → ltb b d ≡ t → ltb (keyOf a b) (keyOf c d) ≡ t
-      go true e = lt-ltb (keyOf a b) (keyOf c d) (let k = ltb-true b d e in omega arith)
-      go false e = le-ltb (keyOf a b) (keyOf c d) (let k = ltb-false b d e in omega arith)
+      go : (s t r : Bool) → ltb a c ≡ s → eqb a c ≡ t → ltb b d ≡ r → (s || (t && r)) ≡ ltb (keyOf a b) (keyOf c d)
+      go true t r e f g = sym (lt-ltb (keyOf a b) (keyOf c d) (let u = ltb-true a c e in omega arith))
+      go false true true e f g =
+          sym (lt-ltb (keyOf a b) (keyOf c d) (let u = eqb-true a c f in let v = ltb-true b d g in omega arith))
+      go false true false e f g =
+          sym (le-ltb (keyOf a b) (keyOf c d) (let u = eqb-true a c f in let v = ltb-false b d g in omega arith))
+      go false false r e f g =
+          sym (le-ltb (keyOf a b) (keyOf c d) (let u = ltb-false a c e in let v = eqb-false a c f in omega arith))
+
+  pub parts-equal : (eqb a c && eqb b d) ≡ eqb (keyOf a b) (keyOf c d)
+  parts-equal = go (eqb a c) (eqb b d) refl refl
+    where
+      go : (s t : Bool) → eqb a c ≡ s → eqb b d ≡ t → (s && t) ≡ eqb (keyOf a b) (keyOf c d)
+      go true true e f = sym (eq-eqb (keyOf a b) (keyOf c d) (let u = eqb-true a c e in let v = eqb-true b d f in omega arith))
+      go true false e f = sym (ne-eqb (keyOf a b) (keyOf c d) (λ z. eqb-false b d f (let u = eqb-true a c e in omega arith)))
+      go false t e f = sym (ne-eqb (keyOf a b) (keyOf c d) (λ z. eqb-false a c e (omega arith)))

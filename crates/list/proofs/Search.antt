@@ -4,24 +4,25 @@ use mathlib.Core.Path.{_≡_, refl, sym, ap, ap₂, _∙_, subst}
 use mathlib.Core.Bool.{Bool, true, false, cond}
 use mathlib.Core.List.{List}
 use mathlib.Core.Logic.{⊎-elim}
-use Prim.Native.Nat.{ℕ, zero, suc, _+_, _*_, _<_, _≤_}
+use Prim.Native.Nat.{ℕ, zero, suc, _+_, _-_, _*_, _<_, _≤_}
 use native.Mathlib.Nat.{not-suc-le-zero}
 use native.Mathlib.Omega.{arith}
 use lib.Dec.{eqb}
 use lib.IntN.{ℤ}
+use lib.ListN.{length, length-map}
 use borrow.Author.Tests.{eqb-true, eqb-false}
 use Rattle.integer.proofs.Ranges.{lt-or-ge, upTo-le}
 use Rattle.backoff.specs.Limits.{wordLimit}
 use Rattle.backoff.specs.Words.{sameWords, areWords}
-use Rattle.list.specs.Table.{rowsOf, field, wordOf, words, withoutFirst}
+use Rattle.list.specs.Table.{rowsOf, field, wordOf, wordsOf, words, withoutFirst}
 use Rattle.list.specs.Search.{findBelow, findIn, isAt, Stretch}
 use Rattle.list.specs.Good.{GoodRow, Good}
-use Rattle.list.specs.Keys.{radix, key, rowKey, findKey, Bracket}
+use Rattle.list.specs.Keys.{radix, key, rowKey, findKey, Bracket, Halved}
 use Rattle.list.specs.declared.Found.{Found}
 use Rattle.list.specs.declared.Found.the-variants.{At, Nothing}
 use Rattle.backoff.proofs.Words.{same-eq}
 use Rattle.list.proofs.Keys.{same-key, key-unique}
-use Rattle.list.proofs.Table.{row-in, words-cons}
+use Rattle.list.proofs.Table.{row-in, words-length, words-cons}
 use Rattle.list.proofs.Good.{are-words, are-words-without-first, ascend-key, good-fewer}
 
 pub bracket-start : (t : List ℤ) (k : ℕ) → Bracket t k 0 (rowsOf t)
@@ -58,6 +59,21 @@ module _ (t : List ℤ) (g : Good t (rowsOf t)) where
       within = omega arith;
       below = b .below;
       above = λ j p q. let e = keys-ascend middle j p q in omega arith;
+    }
+
+  module _ (k from size half : ℕ) (l : half + half ≤ size) (h : Halved t k from size) where
+    pub halved-up : rowKey t (from + half) ≤ k → Halved t k (from + half) (size - half)
+    halved-up e = record {
+      within = let w = h .within in omega arith;
+      below = λ z. e;
+      above = λ j p q. h .above j (omega arith) q;
+    }
+
+    pub halved-down : k < rowKey t (from + half) → Halved t k from (size - half)
+    halved-down e = record {
+      within = let w = h .within in omega arith;
+      below = h .below;
+      above = λ j p q. let a = keys-ascend (from + half) j (omega arith) q in omega arith;
     }
 
 -- the search by key
@@ -98,6 +114,24 @@ module _ (t : List ℤ) (k i : ℕ) (g : Good t (rowsOf t)) (b : Bracket t k i i
       (λ p. let u = h (omega arith) in let v = keys-ascend t g i j p l in omega arith)
       (lt-or-ge j i))
 
+-- the last row that is not above k is the row searched for, or there is none
+module _ (t : List ℤ) (k i : ℕ) (g : Good t (rowsOf t)) (h : Halved t k i 1) where
+  pub halved-hit : rowKey t i ≡ k → findKey t k (rowsOf t) ≡ At i
+  halved-hit e = find-key-hit t k (rowsOf t) i g (let w = h .within in omega arith) e
+
+  pub halved-miss : (rowKey t i ≡ k → ⊥) → findKey t k (rowsOf t) ≡ Nothing
+  halved-miss n =
+      find-key-miss t k (rowsOf t)
+      (λ j l e.
+      ⊎-elim
+      (λ p.
+      let w = h .within in
+      let u = ascend-key t (rowsOf t) j i g p (omega arith) in
+      let v = h .below (omega arith) in
+      omega arith)
+      (λ p. ⊎-elim (λ q. let u = h .above j (omega arith) l in omega arith) (λ (q : j ≤ i). let z : j ≡ i = omega arith in n (ap (rowKey t) (sym z) ∙ e)) (lt-or-ge i j))
+      (lt-or-ge j i))
+
 -- the search by words is the search by key
 pub find-key-words : (t : List ℤ) (ws : List ℕ) (n : ℕ) → ((i : ℕ) → i < n → GoodRow t i) → areWords ws ≡ true → findKey t (key ws) n ≡ findBelow t ws n
 unfolding findKey findBelow rowKey
@@ -127,6 +161,20 @@ found-words t ws j e = found-below t ws (rowsOf t) j e
 pub is-at : (f : Found) → isAt f ≡ true → (j : ℕ) × (f ≡ At j)
 is-at (At j) e = (j, refl)
 is-at Nothing e = absurd (let z : _≡_ {A = ℕ} 0 1 = cc in omega arith)
+
+-- where there are no rows, or no words to search for, nothing is found
+pub finds-nothing : (t zs : List ℤ) → Good t (rowsOf t) → (0 < rowsOf t → length zs ≡ 0) → findIn t (wordsOf zs) ≡ Nothing
+unfolding wordsOf
+finds-nothing t zs g e = go (findIn t (wordsOf zs)) refl
+  where
+    go : (f : Found) → findIn t (wordsOf zs) ≡ f → f ≡ Nothing
+    go (At j) q =
+        let w = found-words t (wordsOf zs) j q in
+        let some = g .row j (w .0) .some in
+        let none = e (omega (arith, w .0)) in
+        let same : length (words t j) ≡ length zs = ap length (w .1) ∙ length-map zs _ in
+        absurd (omega (arith, words-length t j (row-in t j (w .0))))
+    go Nothing q = refl
 
 -- a row of good rows is found at its own place, and nowhere else
 module _ (t : List ℤ) (g : Good t (rowsOf t)) where

@@ -11,10 +11,10 @@ use Rattle.build.proofs.mark_continued.Statement.{statement}
 use Rattle.build.proofs.mark_continued.Tie as tie
 
 abbrev Inv-loop : tie.InvT-loop
-Inv-loop table work₀ near₀ i₀ work near i = (i ≤ rowsOf table) × Flagged table i work
+Inv-loop table work₀ i₀ work i = (i ≤ rowsOf table) × Flagged table i work
 
 abbrev μ-loop : tie.MeasureT-loop
-μ-loop table work₀ near₀ i₀ work near i = rowsOf table - i
+μ-loop table work₀ i₀ work i = rowsOf table - i
 
 loop-holds : tie.Need-loop-holds Inv-loop μ-loop
 loop-holds c = (omega arith, rw (c .before .pre .1) (flag-first _))

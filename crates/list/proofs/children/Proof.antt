@@ -33,8 +33,19 @@ key-next-requires c κs =
     let e = c .before .before .row-key .ensures in
     omega (arith, c .before .key-shifted .ensures, limit (c .before .before))
 
-lower-bound-requires-2 : tie.Need-lower-bound-requires-2
-lower-bound-requires-2 c κs = search needs
+next-bound-requires : tie.Need-next-bound-requires
+next-bound-requires c κs =
+    let f = c .before in
+    let b = f .lower-bound .ensures in
+    let e = c .key-next .ensures in (
+      f .before .before .before .pre .1,
+      record {
+        order = omega (arith, b .within);
+        within = omega arith;
+        below = λ j l. omega (arith, b .below j l);
+        above = λ j l m. absurd (omega arith);
+      },
+    )
 
 returns : tie.Need-returns
 unfolding rowsOf
@@ -45,9 +56,9 @@ returns c =
     let t = now (s .args .table) in
     let a = f .before .key-shifted .ensures ∙ ap (λ (k : ℕ). radix * k) (r .row-key .ensures) in
     let b = c .before .key-next .ensures ∙ ap (λ (k : ℕ). k + radix) a in
-    stretch t (s .args .i) (f .lower-bound .result) (c .lower-bound2 .result) (s .pre .1) (omega arith)
+    stretch t (s .args .i) (f .lower-bound .result) (c .next-bound .result) (s .pre .1) (omega arith)
     (subst (λ (k : ℕ). Bracket t k (f .lower-bound .result) (f .lower-bound .result)) a (f .lower-bound .ensures))
-    (subst (λ (k : ℕ). Bracket t k (c .lower-bound2 .result) (c .lower-bound2 .result)) b (c .lower-bound2 .ensures))
+    (subst (λ (k : ℕ). Bracket t k (c .next-bound .result) (c .next-bound .result)) b (c .next-bound .ensures))
 
 pub children-spec : {M : Type 1} → statement M
 children-spec =
@@ -57,5 +68,5 @@ children-spec =
     key-shifted-requires
     lower-bound-requires
     key-next-requires
-    lower-bound-requires-2
+    next-bound-requires
     returns)
