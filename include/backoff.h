@@ -1,4 +1,28 @@
-/* The back-off scorer. A slice is a pointer, then the number of its items. */
+/* backoff.h: back-off scoring over a double array, for C99 and C++. Link target/staticlib/libgrader.a.
+ *
+ * Lists. A point is 1/10,000 of a base-10 logarithm. A list has eight numbers to a row: m, five words oldest first
+ * (unused ones 0), log-probability p, back-off b. Words are 1 to 65,535: 1 is the unknown word, 2 is <s>, 3 is </s>.
+ * Rows are numbered from 1. The order n is the m of the last row. Rows ascend strictly by m, then by last word, then by
+ * the word before it, and so on. A row of two or more words needs the row without its first word and the row without
+ * its last word.
+ *
+ * Slices. A slice is a pointer, then the number of its items (not of its bytes). The pointer is to that many items,
+ * aligned for their type; a slice of no items is neither read nor written, and its pointer may be NULL. A slice that the
+ * call writes must not overlap any other slice of the call. A const slice is never written, and nothing outside the
+ * slices is read or written.
+ *
+ * Answers. Every call takes any numbers in slices of any lengths. Its answer has a number and a place: 0 and 0 where the
+ * call accepts, else those of the first check that fails, in the order that stands at the call. "Untouched" means that
+ * every item is as it was before the call; the call may have written the same number there, so the memory is writable.
+ *
+ * Ownership. The caller owns all memory. A call keeps no pointer, allocates nothing and has no memory of its own. The
+ * array is what base and check hold: plain numbers, which may be copied and saved. It must stay unchanged while states
+ * over it are in use. A state is nine plain numbers, which may be copied too. It belongs to the array that it came from,
+ * or a copy of it; check 16 does not notice a state of another array. Two readings with equal states over one array
+ * get the same points whatever follows, so the one with the lower total can be dropped.
+ *
+ * Threads. Calls may run at the same time if no slice that one of them writes is lent to another. So threads may share
+ * one array for lookups, starts, runs and unloading, each with its own slices to be written. */
 #ifndef BACKOFF_H
 #define BACKOFF_H
 
@@ -6,13 +30,59 @@
 #include <stddef.h>
 #include <stdint.h>
 
-/* Number and place of a refusal; both are 0 where the call was accepted. */
+#ifdef __cplusplus
+extern "C" {
+#endif
+
+/* The numbers of refusals. The place is the row for 3 to 8, the word (from 1) for 12 in a run, and 0 otherwise. */
+enum backoff_number {
+    BACKOFF_ACCEPTED = 0,
+    BACKOFF_TABLE_LENGTH = 1,    /* the table has no items, no multiple of 8 items, or more than 65,535 rows */
+    BACKOFF_ARRAY_LENGTH = 2,    /* base and check differ in length, have fewer than 2 or more than 1,048,576 slots,
+                                    or work is shorter than the rows */
+    BACKOFF_ROW_LENGTH = 3,      /* m is outside 1..5 */
+    BACKOFF_ROW_WORDS = 4,       /* a used word is outside 1..65,535, or an unused one is not 0 */
+    BACKOFF_ROW_PROBABILITY = 5, /* p is outside -990,000..0 */
+    BACKOFF_ROW_BACKOFF = 6,     /* b is outside -990,000..990,000, or not 0 where m is the order */
+    BACKOFF_ROW_ORDER = 7,       /* the row does not come after the row before it */
+    BACKOFF_SHORTER_ROW = 8,     /* the row without its first or without its last word is missing */
+    BACKOFF_RESERVED_WORD = 9,   /* word 1, 2 or 3 has no row of one word */
+    BACKOFF_NO_ROOM = 10,        /* the array of the list needs more slots than base and check have */
+    BACKOFF_ARRAY_HEAD = 11,     /* base and check have lengths as in 2, or slots 0 and 1 are not as a build writes them */
+    BACKOFF_BROKEN_NODE = 12,    /* a node on the walk has no p and b in range, or there is no word 1 where a word is
+                                    replaced by it; unload: the array holds no accepted list */
+    BACKOFF_TEXT_LINE = 13,      /* a text line is not in form; only the totals program gives this */
+    BACKOFF_WORD_COUNT = 14,     /* a lookup has no or more than 5 words; a run has more than 65,535 */
+    BACKOFF_SHORT_SLICE = 15,    /* a slice to be written is too short */
+    BACKOFF_BAD_STATE = 16       /* the state has not nine numbers, its count is outside 0..n-1, an unused number is
+                                    not 0, a word is outside 1..65,535, or a back-off is out of range */
+};
+
+/* Sizes and limits. */
+enum backoff_limit {
+    BACKOFF_ROW_ITEMS = 8,        /* the numbers of a row */
+    BACKOFF_STATE_LENGTH = 9,     /* the numbers of a state */
+    BACKOFF_ORDER_LIMIT = 5,      /* the most words of a row or a lookup */
+    BACKOFF_ROW_LIMIT = 65535,    /* the most rows of a list */
+    BACKOFF_WORD_LIMIT = 65535,   /* the largest word */
+    BACKOFF_RUN_LIMIT = 65535,    /* the most words of a run */
+    BACKOFF_SLOT_LIMIT = 1048576, /* the most slots of an array */
+    BACKOFF_LEAST_PROBABILITY = -990000,
+    BACKOFF_LEAST_BACKOFF = -990000,
+    BACKOFF_LARGEST_BACKOFF = 990000,
+    BACKOFF_UNKNOWN_WORD = 1,
+    BACKOFF_START_WORD = 2,    /* <s> */
+    BACKOFF_END_WORD = 3,      /* </s> */
+    BACKOFF_UNKNOWN_LENGTH = 8 /* added to the length byte of an unknown word */
+};
+
+/* Number and place of a refusal; both are 0 where the call accepts. */
 struct backoff_status {
     uint32_t number;
     uint32_t place;
 };
 
-/* The answer of a lookup: found is 1 or 0, p and b are 0 where it is 0. */
+/* The answer of a lookup: found is 1 or 0; p and b are those of the row, and 0 where found is 0. */
 struct backoff_found {
     uint32_t number;
     uint32_t place;
@@ -21,40 +91,77 @@ struct backoff_found {
     int32_t b;
 };
 
-/* The answer of a run: the total of its points, 0 where it was refused. */
+/* The answer of a run or of plain scoring: total is the sum of the words' points, and 0 where the call refuses. */
 struct backoff_total {
     uint32_t number;
     uint32_t place;
     int64_t total;
 };
 
-/* Checks a list: eight numbers to a row. */
+/* Checks a list.
+ * Refusals: 1; then row by row 3, 4, 5, 6, 7, 8; then 9. */
 struct backoff_status backoff_check(const int32_t *table, size_t table_len);
 
-/* Builds the double array of a list; work gets the slots of the rows' nodes. */
+/* Fills base and check with the double array of a list, and work with the slots of the nodes of its rows. base and check
+ * have the same length, the number of slots: at least 2 * rows + 2, and at least the largest word + 2. Often more are
+ * needed; 10 tells. work has at least one item for each row.
+ * Refusals: 1; 2; then row by row 3, 4, 5, 6, 7, 8; then 9; 10.
+ * Accepted: every slot of base and check is written; work[i - 1] is the slot of row i, and work is untouched past the
+ * rows.
+ * After 1 to 9: base, check and work are untouched.
+ * After 10: every slot is free (base 0, check INT32_MIN); work is 0 for each row and untouched past the rows. */
 struct backoff_status backoff_build(const int32_t *table, size_t table_len, int32_t *base, size_t base_len, int32_t *check,
                                     size_t check_len, uint32_t *work, size_t work_len);
 
-/* Looks a sequence up, oldest word first. */
+/* Looks up 1 to 5 words, oldest first: found is 1 where they are a row. No word is replaced by 1. A word outside
+ * 1..65,535, or more words than the order, are not found.
+ * Refusals: 11; 14; 12. */
 struct backoff_found backoff_lookup(const int32_t *base, size_t base_len, const int32_t *check, size_t check_len,
                                     const uint32_t *words, size_t words_len);
 
-/* Leaves the state after <s> in a slice of nine numbers. */
+/* Writes the state after <s>, with which a sentence begins. The state of no context is nine zeros and needs no call. A
+ * state has count, four words newest first, and four back-offs (of the newest word, of the newest two, ..); unused ones
+ * are 0. What stood in the slice before is not read.
+ * Refusals: 16, where state_len is not 9; 11; 12.
+ * Accepted: state is the state after <s>.
+ * After 16: state is untouched.
+ * After 11 and 12: state is nine zeros. */
 struct backoff_status backoff_start(const int32_t *base, size_t base_len, const int32_t *check, size_t check_len,
                                     int32_t *state, size_t state_len);
 
-/* Scores words from the state and leaves the next state in its place. */
-struct backoff_total backoff_run(const int32_t *base, size_t base_len, const int32_t *check, size_t check_len, int32_t *state,
-                                 size_t state_len, const uint32_t *words, size_t words_len, int32_t *points,
+/* Scores words one after another from a state, and leaves the state after them in its place. A word without a row of one
+ * word is scored as word 1, so is a word outside 1..65,535. points and lengths have at least one item for each word. A
+ * length byte is the matched length, the number of words in the row whose p was used, plus 8 if the word was scored as
+ * 1. A run of no words is accepted; its total is 0 and its state stays.
+ * Refusals: 16, where state_len is not 9; 11; 16 for the numbers of the state; 14; 15; 12, at the word that met it.
+ * Accepted: points and lengths have the answer of each word, and are untouched past the words; state is the state after
+ * the words.
+ * After 11, 14, 15 and 16: state, points and lengths are untouched.
+ * After 12: state is untouched; points and lengths are 0 for each word of the run, and untouched past the words. */
+struct backoff_total backoff_run(const int32_t *base, size_t base_len, const int32_t *check, size_t check_len,
+                                 int32_t *state, size_t state_len, const uint32_t *words, size_t words_len, int32_t *points,
                                  size_t points_len, uint8_t *lengths, size_t lengths_len);
 
-/* Scores words from the plain list, after <s> or with no context. */
+/* Scores words from the list alone, after <s> or with no context: points, length bytes and total are those of a run over
+ * the array of the list. Each call checks the list anew.
+ * Refusals: 1; then row by row 3, 4, 5, 6, 7, 8; then 9; 14; 15.
+ * Accepted: points and lengths have the answer of each word, and are untouched past the words.
+ * Refused: points and lengths are untouched. */
 struct backoff_total backoff_plain(const int32_t *table, size_t table_len, bool after_start, const uint32_t *words,
                                    size_t words_len, int32_t *points, size_t points_len, uint8_t *lengths,
                                    size_t lengths_len);
 
-/* Gives the list of a double array back; work gets the slots of the rows' nodes. */
+/* Gives the list of an array back, row for row, and the slots of the nodes of its rows. base[1] is the number of rows:
+ * table has at least eight items, and work at least one, for each.
+ * Refusals: 11; 15; 12.
+ * Accepted: table has the rows, work their slots; both are untouched past the rows.
+ * After 11 and 15: table and work are untouched.
+ * After 12: table and work are 0 for each row, and untouched past the rows. */
 struct backoff_status backoff_unload(const int32_t *base, size_t base_len, const int32_t *check, size_t check_len,
                                      int32_t *table, size_t table_len, uint32_t *work, size_t work_len);
+
+#ifdef __cplusplus
+}
+#endif
 
 #endif

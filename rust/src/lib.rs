@@ -1,6 +1,49 @@
-//! Safe calls of the proved back-off scorer, one for each function of `include/backoff.h`.
+//! Safe calls of the proved back-off scorer, one for each function of `include/backoff.h`, which has the list's form, the numbers of the
+//! refusals and the limits. Slices may have any lengths and hold any numbers: a call that does not accept them says so by a number and a place.
+//! No call allocates, panics or keeps anything; an array may be shared by threads while nobody writes it.
+//!
+//! ```
+//! // m, five words oldest first (unused ones 0), log-probability, back-off. Word 1 is the unknown word, 2 is <s>, 3 is </s>.
+//! let list = [
+//!     [1, 1, 0, 0, 0, 0, -20_000, 0],
+//!     [1, 2, 0, 0, 0, 0, -990_000, -3_000],
+//!     [1, 3, 0, 0, 0, 0, -10_000, 0],
+//!     [1, 4, 0, 0, 0, 0, -6_000, -2_000],
+//!     [2, 2, 4, 0, 0, 0, -4_000, 0],
+//! ];
+//! let table = list.as_flattened();
+//! let (mut base, mut check, mut work) = ([0; 64], [0; 64], [0; 5]);
+//! assert_eq!(backoff::build(table, &mut base, &mut check, &mut work).number, 0);
+//!
+//! let found = backoff::lookup(&base, &check, &[2, 4]);
+//! assert_eq!((found.number, found.found, found.p, found.b), (0, 1, -4_000, 0));
+//!
+//! // Two runs, the second from the state that the first left. Word 9 is not listed.
+//! let mut state = [0; 9];
+//! assert_eq!(backoff::start(&base, &check, &mut state).number, 0);
+//! let (mut points, mut lengths) = ([0; 2], [0; 2]);
+//! let first = backoff::run(&base, &check, &mut state, &[4, 9], &mut points, &mut lengths);
+//! assert_eq!((first.number, first.total), (0, -26_000));
+//! assert_eq!((points, lengths), ([-4_000, -22_000], [2, 1 + 8]));
+//! let last = backoff::run(&base, &check, &mut state, &[3], &mut points, &mut lengths);
+//! assert_eq!((last.number, last.total), (0, -10_000));
+//!
+//! // The same total from the list alone.
+//! let (mut points, mut lengths) = ([0; 3], [0; 3]);
+//! let plain = backoff::plain(table, true, &[4, 9, 3], &mut points, &mut lengths);
+//! assert_eq!((plain.number, plain.total), (0, first.total + last.total));
+//!
+//! // The list comes back row for row.
+//! let (mut rows, mut slots) = ([0; 40], [0; 5]);
+//! assert_eq!(backoff::unload(&base, &check, &mut rows, &mut slots).number, 0);
+//! assert_eq!((&rows[..], slots), (table, work));
+//!
+//! // Row 5 with a p above 0.
+//! rows[8 * 4 + 6] = 1;
+//! assert_eq!(backoff::check(&rows), backoff::Status { number: 5, place: 5 });
+//! ```
 
-/// Number and place of a refusal; both are 0 where the call was accepted.
+/// Number and place of a refusal; both are 0 where the call accepts.
 #[repr(C)]
 #[derive(Clone, Copy, Debug, PartialEq, Eq)]
 pub struct Status {
@@ -8,7 +51,7 @@ pub struct Status {
     pub place: u32,
 }
 
-/// The answer of a lookup: `found` is 1 or 0, p and b are 0 where it is 0.
+/// The answer of a lookup: `found` is 1 or 0; p and b are those of the row, and 0 where `found` is 0.
 #[repr(C)]
 #[derive(Clone, Copy, Debug, PartialEq, Eq)]
 pub struct Found {
@@ -19,7 +62,7 @@ pub struct Found {
     pub b: i32,
 }
 
-/// The answer of a run: the total of its points, 0 where it was refused.
+/// The answer of a run or of plain scoring: `total` is the sum of the words' points, and 0 where the call refuses.
 #[repr(C)]
 #[derive(Clone, Copy, Debug, PartialEq, Eq)]
 pub struct Total {
@@ -107,11 +150,16 @@ mod raw {
 // SAFETY of every call below: each pointer and its length are those of a slice that is lent for the call.
 
 /// Checks a list: eight numbers to a row.
+///
+/// Refusals: 1; then row by row 3 to 8; then 9.
 pub fn check(table: &[i32]) -> Status {
     unsafe { raw::backoff_check(table.as_ptr(), table.len()) }
 }
 
-/// Builds the double array of a list; `work` gets the slots of the rows' nodes.
+/// Fills `base` and `check`, which have one length, with the double array of a list, and `work` with the slots of the rows' nodes.
+///
+/// Refusals: 1; 2; then row by row 3 to 8; then 9; 10. After 1 to 9 the slices are untouched. After 10, too few slots, every slot is free (`base` 0,
+/// `check` [`i32::MIN`]) and `work` is 0 for each row. `work` is always untouched past the rows.
 pub fn build(table: &[i32], base: &mut [i32], check: &mut [i32], work: &mut [u32]) -> Status {
     unsafe {
         raw::backoff_build(
@@ -127,17 +175,25 @@ pub fn build(table: &[i32], base: &mut [i32], check: &mut [i32], work: &mut [u32
     }
 }
 
-/// Looks a sequence up, oldest word first.
+/// Looks up 1 to 5 words, oldest first. No word is replaced by 1; more words than the order are not found.
+///
+/// Refusals: 11; 14; 12.
 pub fn lookup(base: &[i32], check: &[i32], words: &[u32]) -> Found {
     unsafe { raw::backoff_lookup(base.as_ptr(), base.len(), check.as_ptr(), check.len(), words.as_ptr(), words.len()) }
 }
 
-/// Leaves the state after `<s>` in a slice of nine numbers.
+/// Writes the state after `<s>` to a slice of nine numbers. The state of no context is nine zeros and needs no call.
+///
+/// Refusals: 16 for another length, and `state` is untouched; 11; 12. After 11 and 12 it is nine zeros.
 pub fn start(base: &[i32], check: &[i32], state: &mut [i32]) -> Status {
     unsafe { raw::backoff_start(base.as_ptr(), base.len(), check.as_ptr(), check.len(), state.as_mut_ptr(), state.len()) }
 }
 
-/// Scores words from the state and leaves the next state in its place.
+/// Scores words from a state and leaves the state after them in its place; `points` and `lengths` have at least one item for each word. A
+/// length byte is the number of words in the row whose p was used, plus 8 if the word was scored as the unknown word.
+///
+/// Refusals: 16 for a length other than nine; 11; 16 for the numbers of the state; 14; 15; 12, whose place is the word, from 1. A refused run leaves
+/// `state` as it was. After 12 `points` and `lengths` are 0 for each word; after the others they are untouched. They are always untouched past the words.
 pub fn run(base: &[i32], check: &[i32], state: &mut [i32], words: &[u32], points: &mut [i32], lengths: &mut [u8]) -> Total {
     unsafe {
         raw::backoff_run(
@@ -157,7 +213,9 @@ pub fn run(base: &[i32], check: &[i32], state: &mut [i32], words: &[u32], points
     }
 }
 
-/// Scores words from the plain list, after `<s>` or with no context.
+/// Scores words from the list alone, after `<s>` or with no context: points, length bytes and total are those of a run over the list's array.
+///
+/// Refusals: 1; then row by row 3 to 8; then 9; 14; 15. They leave `points` and `lengths` untouched.
 pub fn plain(table: &[i32], after_start: bool, words: &[u32], points: &mut [i32], lengths: &mut [u8]) -> Total {
     unsafe {
         raw::backoff_plain(
@@ -174,7 +232,10 @@ pub fn plain(table: &[i32], after_start: bool, words: &[u32], points: &mut [i32]
     }
 }
 
-/// Gives the list of a double array back; `work` gets the slots of the rows' nodes.
+/// Gives the list of an array back, row for row, and in `work` the slots of the rows' nodes; `base[1]` is the number of rows.
+///
+/// Refusals: 11; 15, where `table` has fewer than eight items or `work` fewer than one for each row; 12, where the array holds no accepted list. After
+/// 11 and 15 the slices are untouched, after 12 they are 0 for each row. They are always untouched past the rows.
 pub fn unload(base: &[i32], check: &[i32], table: &mut [i32], work: &mut [u32]) -> Status {
     unsafe {
         raw::backoff_unload(

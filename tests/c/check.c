@@ -1,14 +1,6 @@
 /* The list check from C, through the shipped header. */
 #include "test.h"
 
-/* The sample with one number of a row (from 1) changed. */
-static struct backoff_status check_changed(size_t row, size_t column, int32_t number) {
-    int32_t table[9][8];
-    memcpy(table, SAMPLE, sizeof table);
-    table[row - 1][column] = number;
-    return backoff_check(&table[0][0], 72);
-}
-
 int main(void) {
     expect("the sample is accepted", is(backoff_check(&SAMPLE[0][0], 72), 0, 0));
     expect("no row gives 1", is(backoff_check(&SAMPLE[0][0], 0), 1, 0));

@@ -18,6 +18,14 @@ static const int32_t SAMPLE[9][8] = {
     {3, 2, 4, 5, 0, 0, -1000, 0},
 };
 
+/* The verdict on the sample with one number of a row (from 1) changed. */
+static inline struct backoff_status check_changed(size_t row, size_t column, int32_t number) {
+    int32_t table[9][8];
+    memcpy(table, SAMPLE, sizeof table);
+    table[row - 1][column] = number;
+    return backoff_check(&table[0][0], 72);
+}
+
 static int passed;
 static int failed;
 

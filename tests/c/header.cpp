@@ -1,0 +1,13 @@
+// The header from C++: the answers are C++ types with C linkage, and the numbers are constants of the language.
+#include "backoff.h"
+
+static_assert(BACKOFF_BAD_STATE == 16 && BACKOFF_LEAST_BACKOFF == -BACKOFF_LARGEST_BACKOFF, "numbers of the header");
+
+int main() {
+    const int32_t table[BACKOFF_ROW_ITEMS] = {1, 1, 0, 0, 0, 0, -20000, 0};
+    const backoff_status missing = backoff_check(table, BACKOFF_ROW_ITEMS);
+    int32_t state[BACKOFF_STATE_LENGTH];
+    const backoff_status none = backoff_start(nullptr, 0, nullptr, 0, state, BACKOFF_STATE_LENGTH);
+    const bool holds = missing.number == BACKOFF_RESERVED_WORD && none.number == BACKOFF_ARRAY_HEAD && state[0] == 0;
+    return holds ? 0 : 1;
+}

@@ -1,0 +1,336 @@
+/* Each call is made in every placement. Its answer and what it leaves must be the same in all of them, and must be what
+ * document 01 says wherever that can be told without building or walking. */
+#include "fuzz.h"
+#include <stdio.h>
+
+/* In one call of LOCKED the slices that are not to be written lie in pages that cannot be written. */
+enum { NUMBERS = 17, SMALL_LIST = 8 * 300, LOCKED = 10 };
+
+#define LIST_NUMBERS (1u << 1 | 0x3Fu << 3 | 1u << 9)
+
+struct form {
+    const char *name;
+    size_t slices;
+    bool written[MOST_SLICES];
+    uint32_t numbers; /* bit k: the call may refuse by k, and does so in some case */
+};
+
+static const struct form FORMS[CALLS] = {
+    {"backoff_check", 1, {false}, LIST_NUMBERS},
+    {"backoff_build", 4, {false, true, true, true}, LIST_NUMBERS | 1u << 2 | 1u << 10},
+    {"backoff_lookup", 3, {false}, 1u << 11 | 1u << 12 | 1u << 14},
+    {"backoff_start", 3, {false, false, true}, 1u << 11 | 1u << 12 | 1u << 16},
+    {"backoff_run", 6, {false, false, true, false, true, true}, 1u << 11 | 1u << 12 | 1u << 14 | 1u << 15 | 1u << 16},
+    {"backoff_plain", 4, {false, false, true, true}, LIST_NUMBERS | 1u << 14 | 1u << 15},
+    {"backoff_unload", 4, {false, false, true, true}, 1u << 11 | 1u << 12 | 1u << 15},
+};
+
+/* How often each call gave each number. */
+static uint64_t met[CALLS][NUMBERS];
+
+static struct answer of_status(struct backoff_status status) {
+    struct answer answer = {status.number, status.place, 0, 0, 0, 0};
+    return answer;
+}
+
+static struct answer of_found(struct backoff_found found) {
+    struct answer answer = {found.number, found.place, found.found, found.p, found.b, 0};
+    return answer;
+}
+
+static struct answer of_total(struct backoff_total total) {
+    struct answer answer = {total.number, total.place, 0, 0, 0, total.total};
+    return answer;
+}
+
+static struct answer perform(enum call call, bool after_start, void *const *p, const struct slice *s) {
+    switch (call) {
+    case CHECK:
+        return of_status(backoff_check(p[0], s[0].count));
+    case BUILD:
+        return of_status(backoff_build(p[0], s[0].count, p[1], s[1].count, p[2], s[2].count, p[3], s[3].count));
+    case LOOKUP:
+        return of_found(backoff_lookup(p[0], s[0].count, p[1], s[1].count, p[2], s[2].count));
+    case START:
+        return of_status(backoff_start(p[0], s[0].count, p[1], s[1].count, p[2], s[2].count));
+    case RUN:
+        return of_total(backoff_run(p[0], s[0].count, p[1], s[1].count, p[2], s[2].count, p[3], s[3].count, p[4], s[4].count,
+                                    p[5], s[5].count));
+    case PLAIN:
+        return of_total(backoff_plain(p[0], s[0].count, after_start, p[1], s[1].count, p[2], s[2].count, p[3], s[3].count));
+    default:
+        return of_status(backoff_unload(p[0], s[0].count, p[1], s[1].count, p[2], s[2].count, p[3], s[3].count));
+    }
+}
+
+/* The call with its slices in one placement; the slices get what it left. */
+static struct answer ask_at(enum placement placement, enum call call, bool after_start, const struct slice *slices) {
+    const struct form *form = &FORMS[call];
+    void *lent[MOST_SLICES];
+    bool locked = placement == AT_END && below(LOCKED) == 0;
+    for (size_t i = 0; i < form->slices; i++)
+        lent[i] = lend(i, placement, slices[i]);
+    for (size_t i = 0; locked && i < form->slices; i++)
+        if (!form->written[i])
+            allow_writing(i, lent[i], false);
+    struct answer answer = perform(call, after_start, lent, slices);
+    for (size_t i = 0; locked && i < form->slices; i++)
+        allow_writing(i, lent[i], true);
+    for (size_t i = 0; i < form->slices; i++)
+        take_back(placement, slices[i], form->written[i], lent[i]);
+    return answer;
+}
+
+/* ---- what must hold of a slice */
+
+static bool is_all(struct slice slice, size_t end, int32_t number) {
+    for (size_t i = 0; i < end; i++)
+        if (slice.width == 1 ? bytes_of(slice)[i] != (uint8_t)number : ints(slice)[i] != number)
+            return false;
+    return true;
+}
+
+static bool is_kept_from(struct slice before, struct slice after, size_t start) {
+    size_t skipped = start * before.width;
+    return memcmp(bytes_of(before) + skipped, bytes_of(after) + skipped, before.count * before.width - skipped) == 0;
+}
+
+/* ---- what must hold of each call */
+
+static void see_verdict(struct slice table, struct answer answer) {
+    if (table.count > SMALL_LIST && table.count <= BACKOFF_ROW_LIMIT * 8)
+        return;
+    struct answer verdict = verdict_on(table);
+    require(answer.number == verdict.number && answer.place == verdict.place, "number and place of the list");
+}
+
+static bool sizes_fit(struct slice base, struct slice check) {
+    return base.count == check.count && base.count >= 2 && base.count <= BACKOFF_SLOT_LIMIT;
+}
+
+/* The head, two slots for each row and for the root, and the slot of each row. */
+static void see_array(struct slice table, const struct slice *after) {
+    const int32_t *base = ints(after[1]);
+    const int32_t *check = ints(after[2]);
+    size_t rows = rows_in(table), taken = 0;
+    require(is_head(after[1], after[2]), "the head of a built array");
+    require(base[1] == (int32_t)rows && check[0] == row_of(table, rows - 1)[0], "rows and order in the head");
+    for (size_t i = 0; i < after[1].count; i++) {
+        taken += check[i] != INT32_MIN;
+        require(check[i] != INT32_MIN || base[i] == 0, "a free slot");
+    }
+    require(taken == 2 * rows + 2, "the number of slots taken");
+    for (size_t i = 0; i < rows; i++) {
+        const int32_t *row = row_of(table, i);
+        size_t slot = words_of(after[3])[i];
+        require(slot < after[1].count && check[slot] >= 0, "the slot of a row");
+        size_t marker = (size_t)base[slot];
+        require(marker < after[1].count && check[marker] == row[6] - 1, "p in the marker of a row");
+        require((base[marker] & ~1) == 2 * row[7], "b in the marker of a row");
+    }
+}
+
+static void see_build(const struct slice *before, const struct slice *after, struct answer answer) {
+    size_t rows = rows_in(before[0]);
+    bool length_fits = rows >= 1 && before[0].count % 8 == 0 && rows <= BACKOFF_ROW_LIMIT;
+    bool fits = sizes_fit(before[1], before[2]) && before[3].count >= rows;
+    require((answer.number == 1) == !length_fits, "1 exactly where the table's length does not fit");
+    require((answer.number == 2) == (length_fits && !fits), "2 exactly where the lengths do not fit");
+    if (answer.number >= 3 && answer.number <= 9)
+        see_verdict(before[0], answer);
+    if (answer.number >= 1 && answer.number <= 9) {
+        require(same(before[1], after[1]) && same(before[2], after[2]) && same(before[3], after[3]),
+                "untouched after 1 to 9");
+        return;
+    }
+    require(is_kept_from(before[3], after[3], rows), "work past the rows");
+    if (answer.number == 10) {
+        require(is_all(after[1], after[1].count, 0) && is_all(after[2], after[2].count, INT32_MIN),
+                "all slots free after 10");
+        require(is_all(after[3], rows, 0), "work items of the rows 0 after 10");
+    } else {
+        see_array(before[0], after);
+    }
+}
+
+static void see_lookup(const struct slice *s, struct answer answer) {
+    bool head = is_head(s[0], s[1]);
+    bool counts = s[2].count >= 1 && s[2].count <= BACKOFF_ORDER_LIMIT;
+    require(answer.place == 0 && answer.found <= 1, "place and flag of a lookup");
+    require((answer.number == 11) == !head, "11 exactly where the head is wrong");
+    require((answer.number == 14) == (head && !counts), "14 exactly where the count is wrong");
+    require(answer.found == 1 || (answer.p == 0 && answer.b == 0), "zeros where nothing is found");
+    require(answer.number == 0 || answer.found == 0, "nothing found where refused");
+    require(answer.p <= 0 && answer.p >= BACKOFF_LEAST_PROBABILITY, "p in range");
+    require(answer.b <= BACKOFF_LARGEST_BACKOFF && answer.b >= BACKOFF_LEAST_BACKOFF, "b in range");
+    if (head && counts && s[2].count > (size_t)ints(s[1])[0])
+        require(answer.number == 0 && answer.found == 0, "more than n words are not found");
+}
+
+static void see_start(const struct slice *before, const struct slice *after, struct answer answer) {
+    bool nine = before[2].count == BACKOFF_STATE_LENGTH;
+    bool head = is_head(before[0], before[1]);
+    require(answer.place == 0, "place of a start");
+    require((answer.number == 16) == !nine, "16 exactly where the state is not nine numbers");
+    require((answer.number == 11) == (nine && !head), "11 exactly where the head is wrong");
+    if (answer.number == 16)
+        require(same(before[2], after[2]), "state untouched after 16");
+    else if (answer.number != 0)
+        require(is_all(after[2], BACKOFF_STATE_LENGTH, 0), "nine zeros after 11 and 12");
+    else
+        require(is_state(after[2], ints(before[1])[0]) && ints(after[2])[0] <= 1, "the state after <s>");
+}
+
+/* What stands for scored words: a total that is the sum, points that five numbers in range can give, a matched length of 1
+ * to n. */
+static void see_scored(struct slice points, struct slice lengths, size_t words, int32_t order, int64_t total) {
+    int64_t sum = 0;
+    for (size_t i = 0; i < words; i++) {
+        uint8_t matched = bytes_of(lengths)[i] & 7;
+        sum += ints(points)[i];
+        require(ints(points)[i] >= 5 * BACKOFF_LEAST_BACKOFF && ints(points)[i] <= 4 * BACKOFF_LARGEST_BACKOFF,
+                "points in range");
+        require(matched >= 1 && matched <= order && bytes_of(lengths)[i] < 16, "a length byte");
+    }
+    require(sum == total, "the total is the sum of the points");
+}
+
+/* What points and lengths are after a refused or accepted call. */
+static void see_outputs(const struct slice *before, const struct slice *after, size_t words, int32_t order,
+                        struct answer answer) {
+    require(answer.number == 0 || answer.total == 0, "total 0 where refused");
+    if (answer.number != 0 && answer.number != 12) {
+        require(same(before[0], after[0]) && same(before[1], after[1]), "points and lengths untouched");
+        return;
+    }
+    require(is_kept_from(before[0], after[0], words) && is_kept_from(before[1], after[1], words),
+            "points and lengths past the words");
+    if (answer.number == 12)
+        require(is_all(after[0], words, 0) && is_all(after[1], words, 0), "points and lengths 0 after 12");
+    else
+        see_scored(after[0], after[1], words, order, answer.total);
+}
+
+static void see_run(const struct slice *before, const struct slice *after, struct answer answer) {
+    size_t words = before[3].count;
+    bool head = is_head(before[0], before[1]);
+    bool nine = before[2].count == BACKOFF_STATE_LENGTH;
+    int32_t order = head ? ints(before[1])[0] : 0;
+    bool state = nine && (!head || is_state(before[2], order));
+    bool fits = before[4].count >= words && before[5].count >= words;
+    require((answer.number == 16) == !state, "16 exactly where the state is wrong");
+    require((answer.number == 11) == (nine && !head), "11 exactly where the head is wrong");
+    require((answer.number == 14) == (head && state && words > BACKOFF_RUN_LIMIT),
+            "14 exactly where there are too many words");
+    require((answer.number == 15) == (head && state && words <= BACKOFF_RUN_LIMIT && !fits),
+            "15 exactly where a slice is too short");
+    require(answer.number == 12 ? answer.place >= 1 && answer.place <= words : answer.place == 0, "place of a run");
+    if (answer.number != 0 || words == 0)
+        require(same(before[2], after[2]), "the state given, of a refused and of an empty run");
+    else
+        require(is_state(after[2], order), "the next state");
+    see_outputs(before + 4, after + 4, words, order, answer);
+}
+
+static void see_plain(const struct slice *before, const struct slice *after, struct answer answer) {
+    size_t words = before[1].count;
+    bool listed = answer.number == 0 || answer.number == 14 || answer.number == 15;
+    bool fits = before[2].count >= words && before[3].count >= words;
+    struct answer verdict = {listed ? 0 : answer.number, answer.place, 0, 0, 0, 0};
+    see_verdict(before[0], verdict);
+    require((answer.number == 14) == (listed && words > BACKOFF_RUN_LIMIT), "14 exactly where there are too many words");
+    require((answer.number == 15) == (listed && words <= BACKOFF_RUN_LIMIT && !fits),
+            "15 exactly where a slice is too short");
+    int32_t order = answer.number == 0 ? row_of(before[0], rows_in(before[0]) - 1)[0] : 0;
+    see_outputs(before + 2, after + 2, words, order, answer);
+}
+
+static void see_unload(const struct slice *before, const struct slice *after, struct answer answer) {
+    bool head = is_head(before[0], before[1]);
+    size_t rows = head ? (size_t)ints(before[0])[1] : 0;
+    bool fits = before[2].count >= 8 * rows && before[3].count >= rows;
+    require(answer.place == 0, "place of an unload");
+    require((answer.number == 11) == !head, "11 exactly where the head is wrong");
+    require((answer.number == 15) == (head && !fits), "15 exactly where a slice is too short");
+    if (answer.number == 11 || answer.number == 15) {
+        require(same(before[2], after[2]) && same(before[3], after[3]), "untouched after 11 and 15");
+        return;
+    }
+    require(is_kept_from(before[2], after[2], 8 * rows) && is_kept_from(before[3], after[3], rows),
+            "table and work past the rows");
+    if (answer.number == 12)
+        require(is_all(after[2], 8 * rows, 0) && is_all(after[3], rows, 0), "rows and slots 0 after 12");
+}
+
+static void see(enum call call, const struct slice *before, const struct slice *after, struct answer answer) {
+    require(answer.number == 0 || (answer.number < NUMBERS && (FORMS[call].numbers >> answer.number & 1)),
+            "one of the call's numbers");
+    require(answer.number != 0 || answer.place == 0, "place 0 where accepted");
+    switch (call) {
+    case CHECK:
+        see_verdict(before[0], answer);
+        break;
+    case BUILD:
+        see_build(before, after, answer);
+        break;
+    case LOOKUP:
+        see_lookup(before, answer);
+        break;
+    case START:
+        see_start(before, after, answer);
+        break;
+    case RUN:
+        see_run(before, after, answer);
+        break;
+    case PLAIN:
+        see_plain(before, after, answer);
+        break;
+    default:
+        see_unload(before, after, answer);
+    }
+}
+
+static bool same_answer(struct answer a, struct answer b) {
+    return a.number == b.number && a.place == b.place && a.found == b.found && a.p == b.p && a.b == b.b &&
+           a.total == b.total;
+}
+
+/* The call that is made, or was made last. */
+const char *call_name = "";
+
+struct answer ask(enum call call, bool after_start, struct slice *slices) {
+    const struct form *form = &FORMS[call];
+    struct slice before[MOST_SLICES];
+    struct answer answer = {0, 0, 0, 0, 0, 0};
+    call_name = form->name;
+    memcpy(before, slices, form->slices * sizeof *slices);
+    for (int placement = AT_END; placement < PLACEMENTS; placement++) {
+        struct slice left[MOST_SLICES];
+        for (size_t i = 0; i < form->slices; i++)
+            left[i] = form->written[i] ? copy_of(before[i]) : before[i];
+        struct answer given = ask_at((enum placement)placement, call, after_start, left);
+        require(placement == AT_END || same_answer(given, answer), "the same answer in every placement");
+        for (size_t i = 0; i < form->slices; i++)
+            require(placement == AT_END || same(left[i], slices[i]), "the same slices in every placement");
+        answer = given;
+        memcpy(slices, left, form->slices * sizeof *slices);
+    }
+    see(call, before, slices, answer);
+    met[call][answer.number]++;
+    return answer;
+}
+
+/* Prints how often the call gave each of its numbers; true where it gave all of them, 0 too. */
+bool report_calls(enum call call) {
+    bool all = true;
+    printf("%s gave", FORMS[call].name);
+    for (uint32_t number = 0; number < NUMBERS; number++) {
+        if (number != 0 && !(FORMS[call].numbers >> number & 1))
+            continue;
+        printf(" %u: %llu%s", (unsigned)number, (unsigned long long)met[call][number],
+               met[call][number] == 0 ? " (failed)" : "");
+        all = all && met[call][number] != 0;
+    }
+    printf("\n");
+    return all;
+}

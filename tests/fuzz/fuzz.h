@@ -1,0 +1,84 @@
+/* What the parts of the fuzzer share. */
+#ifndef FUZZ_H
+#define FUZZ_H
+
+#include "backoff.h"
+#include <string.h>
+
+/* A slice of the fuzzer's own: a heap block of exactly its items, which lives until the case ends. */
+struct slice {
+    void *items;
+    size_t count;
+    size_t width;
+};
+
+static inline int32_t *ints(struct slice slice) { return (int32_t *)slice.items; }
+
+static inline uint32_t *words_of(struct slice slice) { return (uint32_t *)slice.items; }
+
+static inline uint8_t *bytes_of(struct slice slice) { return (uint8_t *)slice.items; }
+
+/* The calls, the most slices that one of them takes, and their answers put into one form. */
+enum call { CHECK, BUILD, LOOKUP, START, RUN, PLAIN, UNLOAD, CALLS };
+
+enum { MOST_SLICES = 6 };
+
+struct answer {
+    uint32_t number;
+    uint32_t place;
+    uint32_t found;
+    int32_t p;
+    int32_t b;
+    int64_t total;
+};
+
+/* The case that is run (main.c). */
+void require(bool holds, const char *text);
+
+/* Memory to lend (lend.c). */
+enum placement { AT_END, AT_START, ON_HEAP, PLACEMENTS };
+
+void open_arenas(void);
+void *lend(size_t arena, enum placement placement, struct slice slice);
+void allow_writing(size_t arena, void *lent, bool allowed);
+void take_back(enum placement placement, struct slice slice, bool written, void *lent);
+
+/* Blocks and random slices (draw.c). */
+struct slice block(size_t count, size_t width);
+struct slice copy_of(struct slice slice);
+struct slice part_of(struct slice slice, size_t from, size_t to);
+bool same(struct slice a, struct slice b);
+void release_blocks(void);
+
+void seed_case(uint64_t seed, uint64_t number);
+size_t below(size_t end);
+bool chance(size_t percent);
+int32_t extreme(void);
+struct slice rubbish(size_t count, size_t width);
+struct slice accepted_list(void);
+struct slice longest_list(size_t rows);
+void damage_list(struct slice *table);
+struct slice text(struct slice table, size_t count);
+void damage_arrays(struct slice base, struct slice check);
+void draw_arrays(struct slice *base, struct slice *check);
+struct slice own_state(int32_t order);
+
+/* What document 01 says of a list, an array's head and a state, in its own words (rules.c). */
+size_t rows_in(struct slice table);
+const int32_t *row_of(struct slice table, size_t row);
+bool find_row(struct slice table, const uint32_t *words, size_t count, int32_t *p, int32_t *b);
+int compare_rows(const void *a, const void *b);
+struct answer verdict_on(struct slice table);
+bool is_head(struct slice base, struct slice check);
+bool is_state(struct slice state, int32_t order);
+
+/* A call in every placement, with all that must hold of any call (calls.c). Slices that it writes hold afterwards what it
+ * left. */
+extern const char *call_name;
+struct answer ask(enum call call, bool after_start, struct slice *slices);
+bool report_calls(enum call call);
+
+/* The relations between calls (cases.c). */
+void run_case(uint64_t number);
+
+#endif
