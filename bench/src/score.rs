@@ -6,22 +6,30 @@ use backoff::{Status, Total};
 
 pub const LONGEST_RUN: usize = 65_535;
 
+/// A carried state, however it is held.
+pub trait State: Default {
+    /// Nothing where 16 refuses.
+    fn read(cells: &[i32; 9], order: i32) -> Option<Self>;
+    fn write(&self, cells: &mut [i32; 9]);
+    /// Scores a word and moves the state on; gives points and length byte, nothing where 12 refuses.
+    fn step(&mut self, base: &[i32], check: &[i32], order: usize, word: u32) -> Option<(i32, u8)>;
+}
+
 /// Words newest first, and the back-offs of the newest word, of the newest two, and so on; unused ones are 0.
 #[derive(Clone, Copy, Default)]
-struct State {
+pub struct Items {
     count: usize,
     words: [u32; 4],
     back_offs: [i32; 4],
 }
 
-impl State {
-    /// Nothing where 16 refuses.
-    fn read(cells: &[i32; 9], order: i32) -> Option<State> {
+impl State for Items {
+    fn read(cells: &[i32; 9], order: i32) -> Option<Items> {
         let count = cells[0];
         if count < 0 || count >= order {
             return None;
         }
-        let mut state = State { count: count as usize, ..State::default() };
+        let mut state = Items { count: count as usize, ..Items::default() };
         for i in 0..4 {
             let (word, b) = (cells[1 + i], cells[5 + i]);
             let fits = if i < state.count {
@@ -45,57 +53,56 @@ impl State {
             cells[5 + i] = self.back_offs[i];
         }
     }
-}
 
-/// Scores a word and moves the state on; gives points and length byte, nothing where 12 refuses.
-#[inline]
-fn step(base: &[i32], check: &[i32], order: usize, state: &mut State, word: u32) -> Option<(i32, u8)> {
-    let known = if word == 1 { None } else { child(base, check, 0, word) };
-    let (mut node, word, kind) = match known {
-        Some(slot) => (slot, word, 0),
-        None => (child(base, check, 0, 1)?, 1, 8),
-    };
-    let mut next = State::default();
-    let mut matched = 0;
-    let mut p;
-    loop {
-        let packed;
-        (p, packed) = marker(base, check, node)?;
-        if matched < 4 {
-            next.back_offs[matched] = packed >> 1;
+    #[inline]
+    fn step(&mut self, base: &[i32], check: &[i32], order: usize, word: u32) -> Option<(i32, u8)> {
+        let known = if word == 1 { None } else { child(base, check, 0, word) };
+        let (mut node, word, kind) = match known {
+            Some(slot) => (slot, word, 0),
+            None => (child(base, check, 0, 1)?, 1, 8),
+        };
+        let mut next = Items::default();
+        let mut matched = 0;
+        let mut p;
+        loop {
+            let packed;
+            (p, packed) = marker(base, check, node)?;
+            if matched < 4 {
+                next.back_offs[matched] = packed >> 1;
+            }
+            matched += 1;
+            if packed != 0 && matched < order {
+                next.count = matched;
+            }
+            if matched > self.count {
+                break;
+            }
+            match child(base, check, node, self.words[matched - 1]) {
+                Some(slot) => node = slot,
+                None => break,
+            }
         }
-        matched += 1;
-        if packed != 0 && matched < order {
-            next.count = matched;
+        let points = p + self.back_offs[matched - 1..].iter().sum::<i32>();
+        let older = self.words;
+        for i in 0..next.count {
+            next.words[i] = if i == 0 { word } else { older[i - 1] };
         }
-        if matched > state.count {
-            break;
-        }
-        match child(base, check, node, state.words[matched - 1]) {
-            Some(slot) => node = slot,
-            None => break,
-        }
+        next.back_offs[next.count..].fill(0);
+        *self = next;
+        Some((points, matched as u8 + kind))
     }
-    let points = p + state.back_offs[matched - 1..].iter().sum::<i32>();
-    let older = state.words;
-    for i in 0..next.count {
-        next.words[i] = if i == 0 { word } else { older[i - 1] };
-    }
-    next.back_offs[next.count..].fill(0);
-    *state = next;
-    Some((points, matched as u8 + kind))
 }
 
 /// The state after `<s>`.
-pub fn start(base: &[i32], check: &[i32], cells: &mut [i32]) -> Status {
+pub fn start<S: State>(base: &[i32], check: &[i32], cells: &mut [i32]) -> Status {
     let refused = |number| Status { number, place: 0 };
     let Ok(cells) = <&mut [i32; 9]>::try_from(cells) else { return refused(16) };
     cells.fill(0);
     if !head_fits(base, check) {
         return refused(11);
     }
-    let mut state = State::default();
-    if step(base, check, check[0] as usize, &mut state, 2).is_none() {
+    let mut state = S::default();
+    if state.step(base, check, check[0] as usize, 2).is_none() {
         return refused(12);
     }
     state.write(cells);
@@ -103,13 +110,13 @@ pub fn start(base: &[i32], check: &[i32], cells: &mut [i32]) -> Status {
 }
 
 /// Scores a run's words: 11, 16, 14, 15, 12.
-pub fn run(base: &[i32], check: &[i32], cells: &mut [i32], words: &[u32], points: &mut [i32], lengths: &mut [u8]) -> Total {
+pub fn run<S: State>(base: &[i32], check: &[i32], cells: &mut [i32], words: &[u32], points: &mut [i32], lengths: &mut [u8]) -> Total {
     let refused = |number, place| Total { number, place, total: 0 };
     let Ok(cells) = <&mut [i32; 9]>::try_from(cells) else { return refused(16, 0) };
     if !head_fits(base, check) {
         return refused(11, 0);
     }
-    let Some(mut state) = State::read(cells, check[0]) else { return refused(16, 0) };
+    let Some(mut state) = S::read(cells, check[0]) else { return refused(16, 0) };
     if words.len() > LONGEST_RUN {
         return refused(14, 0);
     }
@@ -120,7 +127,7 @@ pub fn run(base: &[i32], check: &[i32], cells: &mut [i32], words: &[u32], points
     let order = check[0] as usize;
     let mut total = 0;
     for i in 0..words.len() {
-        let Some((word_points, length)) = step(base, check, order, &mut state, words[i]) else {
+        let Some((word_points, length)) = state.step(base, check, order, words[i]) else {
             points.fill(0);
             lengths.fill(0);
             return refused(12, i as u32 + 1);
@@ -135,22 +142,29 @@ pub fn run(base: &[i32], check: &[i32], cells: &mut [i32], words: &[u32], points
 
 #[cfg(test)]
 mod tests {
+    use super::{Items, State};
+    use crate::packed::Packed;
     use tests::arrays::drawn;
     use tests::random::Random;
     use tests::reference;
 
-    /// The scorer that ours is timed against gives the same over any arrays.
+    /// The scorers that ours is timed against give the same over any arrays.
     #[test]
     fn same_runs() {
+        check::<Items>();
+        check::<Packed>();
+    }
+
+    fn check<S: State>() {
         let mut random = Random::new(1);
         for _ in 0..20_000 {
             let arrays = drawn(&mut random);
             let words: Vec<u32> = (0..6).map(|_| random.below(30) as u32).collect();
             let (mut ours, mut second) = (([1; 9], [1; 6], [1; 6]), ([1; 9], [1; 6], [1; 6]));
-            let status = super::start(&arrays.base, &arrays.check, &mut ours.0);
+            let status = super::start::<S>(&arrays.base, &arrays.check, &mut ours.0);
             let refusal = reference::score::start(&arrays.base, &arrays.check, &mut second.0);
             assert_eq!((status.number, status.place), refusal);
-            let total = super::run(&arrays.base, &arrays.check, &mut ours.0, &words, &mut ours.1, &mut ours.2);
+            let total = super::run::<S>(&arrays.base, &arrays.check, &mut ours.0, &words, &mut ours.1, &mut ours.2);
             let refused = reference::score::run(&arrays.base, &arrays.check, &mut second.0, &words, &mut second.1, &mut second.2);
             assert_eq!((((total.number, total.place), total.total), ours), (refused, second));
         }

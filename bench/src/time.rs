@@ -1,27 +1,43 @@
-//! Ratios of times within one run.
+//! Times to be compared within one run.
 
-use std::hint::black_box;
-use std::time::{Duration, Instant};
+use std::time::Duration;
 
-/// The medians of two functions' times, taken in turns so that both meet the same moods of the machine: for a second, at least five.
-pub fn medians<A, B>(mut ours: impl FnMut() -> A, mut rust: impl FnMut() -> B) -> (Duration, Duration) {
-    let begin = Instant::now();
-    let mut times = (Vec::new(), Vec::new());
-    while times.0.len() < 5 || begin.elapsed() < Duration::from_secs(1) {
-        times.0.push(time(&mut ours));
-        times.1.push(time(&mut rust));
-    }
-    (median(times.0), median(times.1))
+/// Medians over the rounds: the seconds of a call, and of the other one, and how many times as long the first took in a round.
+pub struct Compared {
+    pub ours: f64,
+    pub rust: f64,
+    pub ratio: f64,
 }
 
-fn time<A>(call: &mut impl FnMut() -> A) -> Duration {
+/// Times two calls in turns, for a second of processor time and at least five rounds. A short call is repeated until it takes a
+/// millisecond. Before each time comes a call that is not timed, so that none finds the cache as the other left it. The ratio is taken
+/// round by round, since the two calls of a round meet the same mood of the machine.
+pub fn compare(ours: &mut dyn FnMut(), rust: &mut dyn FnMut()) -> Compared {
+    let repetitions = |call: &mut dyn FnMut()| 1 + (1e-3 / time(call, 1)) as usize;
+    let (ours_repeated, rust_repeated) = (repetitions(ours), repetitions(rust));
+    let mut rounds = Vec::new();
     let begin = processor_time();
-    black_box(call());
-    processor_time() - begin
+    while rounds.len() < 5 || processor_time() - begin < Duration::from_secs(1) {
+        ours();
+        let first = time(ours, ours_repeated);
+        rust();
+        rounds.push((first, time(rust, rust_repeated)));
+    }
+    let median_of = |part: fn(&(f64, f64)) -> f64| median(rounds.iter().map(part).collect());
+    Compared { ours: median_of(|round| round.0), rust: median_of(|round| round.1), ratio: median_of(|round| round.0 / round.1) }
 }
 
-fn median(mut times: Vec<Duration>) -> Duration {
-    times.sort();
+/// The seconds of one call, by the time of several.
+fn time(call: &mut dyn FnMut(), repetitions: usize) -> f64 {
+    let begin = processor_time();
+    for _ in 0..repetitions {
+        call();
+    }
+    (processor_time() - begin).as_secs_f64() / repetitions as f64
+}
+
+fn median(mut times: Vec<f64>) -> f64 {
+    times.sort_by(f64::total_cmp);
     times[times.len() / 2]
 }
 

@@ -296,14 +296,14 @@ fn wipe(base: &mut [i32], check: &mut [i32], work: &mut [u32])
     zero(work);
 }
 
-// Sets f of the row that is row i without its last word.
-fn mark_row(table: &[i32], i: usize, work: &mut [u32])
+// Sets f of the row that is row i without its last word, which is likely among the shorter rows.
+fn mark_row(table: &[i32], i: usize, work: &mut [u32], shorter: list::Span)
     requires { ⌜ (verdict (now table) ≡ Accepted) × (i < rowsOf (now table)) × Flagged (now table) i (now work) ⌝ }
     ensures { λ _. ⌜ Flagged (now (table .entry)) (i + 1) (now (work .exit)) ⌝ }
 {
     let first = 8 * i + 1;
     let last = 8 * i + list::length_of(table, i);
-    let list::Found::At(j) = list::find_row(table, &table[first..last]) else {
+    let list::Found::At(j) = list::find_among(table, &table[first..last], shorter) else {
         return;
     };
     work[j] = 1;
@@ -314,9 +314,11 @@ fn mark_continued(table: &[i32], work: &mut [u32])
     requires { ⌜ (verdict (now table) ≡ Accepted) × (now work ≡ replicate (rowsOf (now table)) 0) ⌝ }
     ensures { λ _. ⌜ Flagged (now (table .entry)) (rowsOf (now (table .entry))) (now (work .exit)) ⌝ }
 {
+    let mut shorter = list::Span { from: 0, to: 0 };
     let mut i = 0;
     while i < work.len() {
-        mark_row(table, i, work);
+        shorter = list::shorter_rows(table, i, shorter);
+        mark_row(table, i, work, shorter);
         i += 1;
     }
 }

@@ -17,7 +17,7 @@ use Rattle.backoff.specs.Words.{sameWords, areWords}
 use Rattle.list.specs.Table.{rowsOf, field, wordOf, wordsOf, words, withoutFirst}
 use Rattle.list.specs.Search.{findBelow, findIn, isAt, Stretch}
 use Rattle.list.specs.Good.{GoodRow, Good}
-use Rattle.list.specs.Keys.{radix, key, rowKey, findKey, Bracket, Halved}
+use Rattle.list.specs.Keys.{radix, key, rowKey, findKey, Bracket, Window}
 use Rattle.list.specs.declared.Found.{Found}
 use Rattle.list.specs.declared.Found.the-variants.{At, Nothing}
 use Rattle.backoff.proofs.Words.{same-eq}
@@ -61,20 +61,34 @@ module _ (t : List ℤ) (g : Good t (rowsOf t)) where
       above = λ j p q. let e = keys-ascend middle j p q in omega arith;
     }
 
-  module _ (k from size half : ℕ) (l : half + half ≤ size) (h : Halved t k from size) where
-    pub halved-up : rowKey t (from + half) ≤ k → Halved t k (from + half) (size - half)
-    halved-up e = record {
+  -- half of a window
+  module _ (k from size half : ℕ) (l : half + half ≤ size) (n : 0 < size) (h : Window t k from (from + size)) where
+    pub window-up : rowKey t (from + half) ≤ k → Window t k (from + half) (from + half + (size - half))
+    window-up e = record {
       within = let w = h .within in omega arith;
-      below = λ z. e;
+      below = λ j p. let w = h .within in let a = ascend-key t (rowsOf t) j (from + half) g p (omega arith) in omega arith;
       above = λ j p q. h .above j (omega arith) q;
     }
 
-    pub halved-down : k < rowKey t (from + half) → Halved t k from (size - half)
-    halved-down e = record {
+    pub window-down : k < rowKey t (from + half) → Window t k from (from + (size - half))
+    window-down e = record {
       within = let w = h .within in omega arith;
       below = h .below;
       above = λ j p q. let a = keys-ascend (from + half) j (omega arith) q in omega arith;
     }
+
+  pub window-end : (k to : ℕ) → to < rowsOf t → k < rowKey t to → Window t k 0 to
+  window-end k to l e = record {
+    within = omega arith;
+    below = λ j p. absurd (not-suc-le-zero p);
+    above = λ j p q. let a = keys-ascend to j p q in omega arith;
+  }
+
+pub window-all : (t : List ℤ) (k : ℕ) → Window t k 0 (rowsOf t)
+window-all t k = record { within = omega arith; below = λ j p. absurd (not-suc-le-zero p); above = λ j p q. absurd (omega arith) }
+
+pub window-both : (t : List ℤ) (k from to : ℕ) → Bracket t k from (rowsOf t) → Window t k 0 to → Window t k from to
+window-both t k from to b w = record { within = w .within; below = b .below; above = w .above }
 
 -- the search by key
 find-key-hit : (t : List ℤ) (k n i : ℕ) → Good t n → i < n → rowKey t i ≡ k → findKey t k n ≡ At i
@@ -114,23 +128,24 @@ module _ (t : List ℤ) (k i : ℕ) (g : Good t (rowsOf t)) (b : Bracket t k i i
       (λ p. let u = h (omega arith) in let v = keys-ascend t g i j p l in omega arith)
       (lt-or-ge j i))
 
--- the last row that is not above k is the row searched for, or there is none
-module _ (t : List ℤ) (k i : ℕ) (g : Good t (rowsOf t)) (h : Halved t k i 1) where
-  pub halved-hit : rowKey t i ≡ k → findKey t k (rowsOf t) ≡ At i
-  halved-hit e = find-key-hit t k (rowsOf t) i g (let w = h .within in omega arith) e
+-- the row at hand is the only one that may have the key
+module _ (t : List ℤ) (k i : ℕ) (g : Good t (rowsOf t)) (h : Window t k i (i + 1)) where
+  pub window-hit : rowKey t i ≡ k → findKey t k (rowsOf t) ≡ At i
+  window-hit e = find-key-hit t k (rowsOf t) i g (let w = h .within in omega arith) e
 
-  pub halved-miss : (rowKey t i ≡ k → ⊥) → findKey t k (rowsOf t) ≡ Nothing
-  halved-miss n =
+  pub window-miss : (rowKey t i ≡ k → ⊥) → findKey t k (rowsOf t) ≡ Nothing
+  window-miss n =
       find-key-miss t k (rowsOf t)
       (λ j l e.
       ⊎-elim
-      (λ p.
-      let w = h .within in
-      let u = ascend-key t (rowsOf t) j i g p (omega arith) in
-      let v = h .below (omega arith) in
-      omega arith)
+      (λ p. let u = h .below j p in omega arith)
       (λ p. ⊎-elim (λ q. let u = h .above j (omega arith) l in omega arith) (λ (q : j ≤ i). let z : j ≡ i = omega arith in n (ap (rowKey t) (sym z) ∙ e)) (lt-or-ge i j))
       (lt-or-ge j i))
+
+pub window-empty : (t : List ℤ) (k from to : ℕ) → Window t k from to → to ≤ from → findKey t k (rowsOf t) ≡ Nothing
+window-empty t k from to h o =
+    find-key-miss t k (rowsOf t)
+    (λ j l e. ⊎-elim (λ p. let u = h .below j p in omega arith) (λ (p : from ≤ j). let u = h .above j (omega arith) l in omega arith) (lt-or-ge j from))
 
 -- the search by words is the search by key
 pub find-key-words : (t : List ℤ) (ws : List ℕ) (n : ℕ) → ((i : ℕ) → i < n → GoodRow t i) → areWords ws ≡ true → findKey t (key ws) n ≡ findBelow t ws n
@@ -162,8 +177,8 @@ pub is-at : (f : Found) → isAt f ≡ true → (j : ℕ) × (f ≡ At j)
 is-at (At j) e = (j, refl)
 is-at Nothing e = absurd (let z : _≡_ {A = ℕ} 0 1 = cc in omega arith)
 
--- where there are no rows, or no words to search for, nothing is found
-pub finds-nothing : (t zs : List ℤ) → Good t (rowsOf t) → (0 < rowsOf t → length zs ≡ 0) → findIn t (wordsOf zs) ≡ Nothing
+-- no row has no words
+pub finds-nothing : (t zs : List ℤ) → Good t (rowsOf t) → length zs ≡ 0 → findIn t (wordsOf zs) ≡ Nothing
 unfolding wordsOf
 finds-nothing t zs g e = go (findIn t (wordsOf zs)) refl
   where
@@ -171,7 +186,6 @@ finds-nothing t zs g e = go (findIn t (wordsOf zs)) refl
     go (At j) q =
         let w = found-words t (wordsOf zs) j q in
         let some = g .row j (w .0) .some in
-        let none = e (omega (arith, w .0)) in
         let same : length (words t j) ≡ length zs = ap length (w .1) ∙ length-map zs _ in
         absurd (omega (arith, words-length t j (row-in t j (w .0))))
     go Nothing q = refl

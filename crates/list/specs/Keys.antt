@@ -40,8 +40,8 @@ pub record Bracket (t : List ℤ) (k from to : ℕ) : Type 0 where
   pub below : (j : ℕ) → j < from → rowKey t j < k
   pub above : (j : ℕ) → to ≤ j → j < rowsOf t → k ≤ rowKey t j
 
--- the same where the rows are halved: row `from` is not above k, unless it is the first, and the rows behind the next `size` are above k
-pub record Halved (t : List ℤ) (k from size : ℕ) : Type 0 where
-  pub within : from + size ≤ rowsOf t
-  pub below : 0 < from → rowKey t from ≤ k
-  pub above : (j : ℕ) → from + size ≤ j → j < rowsOf t → k < rowKey t j
+-- where k is, or nowhere: rows below `from` have keys below k, rows from `to` on have keys above k
+pub record Window (t : List ℤ) (k from to : ℕ) : Type 0 where
+  pub within : to ≤ rowsOf t
+  pub below : (j : ℕ) → j < from → rowKey t j < k
+  pub above : (j : ℕ) → to ≤ j → j < rowsOf t → k < rowKey t j

@@ -5,7 +5,7 @@ ghost use mathlib.Core.Path.{_≡_};
 ghost use mathlib.Core.Bool.{true};
 ghost use mathlib.Core.List.{_∷_, _++_, map};
 ghost use Prim.Native.Nat.{ℕ, _≤_, _<_};
-ghost use lib.ListN.{length, take, drop, replicate};
+ghost use lib.ListN.{length, take, drop, set, replicate};
 ghost use lib.IntN.{pos, _+ℤ_};
 ghost use Rattle.integer.specs.Integer.{between, sum};
 ghost use Rattle.backoff.specs.Limits.{unknownWord, runLimit};
@@ -317,6 +317,25 @@ fn length_byte(kind: Kind) -> u8
     }
 }
 
+// A scored word's points, at its place in the run's slice.
+fn write_points(points: &mut [i32], i: usize, scored: i32)
+    requires { ⌜ i < length (now points) ⌝ }
+    ensures { λ _. ⌜ now (points .exit) ≡ set (now (points .entry)) i scored ⌝ }
+{
+    points[i] = scored;
+}
+
+// A scored word's points and length byte, at its place in the run's slices.
+fn write_word(points: &mut [i32], lengths: &mut [u8], i: usize, kind: Kind, scored: i32)
+    requires { ⌜ (i < length (now points)) × (i < length (now lengths)) ⌝ }
+    requires { ⌜ byteOf kind < 256 ⌝ }
+    ensures points { λ _. ⌜ now (points .exit) ≡ set (now (points .entry)) i scored ⌝ }
+    ensures lengths { λ _. ⌜ now (lengths .exit) ≡ set (now (lengths .entry)) i (byteOf kind) ⌝ }
+{
+    write_points(points, i, scored);
+    lengths[i] = length_byte(kind);
+}
+
 // The run's points and lengths after refusal 12.
 fn clear(points: &mut [i32], lengths: &mut [u8], count: usize)
     requires { ⌜ (count ≤ length (now points)) × (count ≤ length (now lengths)) ⌝ }
@@ -367,8 +386,7 @@ fn score_words(
                 end: state,
             };
         };
-        points[i] = scored;
-        lengths[i] = length_byte(kind);
+        write_word(points, lengths, i, kind, scored);
         total += scored as i64;
         let next = stepped.next;
         carried = next;
@@ -409,7 +427,7 @@ fn early_refusal(
     0
 }
 
-// The paper's start: the state after `<s>`.
+// The paper's start, the state after `<s>`: a run of this one word from the empty state leaves it.
 pub fn start(base: &[i32], check: &[i32]) -> Started
     ensures outcome { λ r. ⌜ startedOf r ≡ startOutcome (opened (now (base .entry)) (now (check .entry))) nineZeros ⌝ }
     ensures meaning { λ r. ⌜ StartMeans (now (base .entry)) (now (check .entry)) (startedOf r) ⌝ }
@@ -423,20 +441,15 @@ pub fn start(base: &[i32], check: &[i32]) -> Started
         };
     }
     let order = check[0] as usize;
-    let stepped = step(base, check, order, none, backoff::START_WORD);
-    let word = stepped.word;
-    let Word::Scored { kind: _, points: _ } = word else {
-        return Started {
-            number: backoff::BROKEN_NODE,
-            place: 0,
-            state: none,
-        };
-    };
-    let next = stepped.next;
+    let words = [backoff::START_WORD];
+    let mut points = [0i32];
+    let mut lengths = [0u8];
+    let ran = score_words(base, check, order, none, &words, &mut points, &mut lengths);
+    let end = ran.end;
     Started {
-        number: 0,
+        number: ran.number,
         place: 0,
-        state: next,
+        state: end,
     }
 }
 

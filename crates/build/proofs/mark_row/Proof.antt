@@ -53,20 +53,20 @@ words-are : (c : tie.After-length-of) → wordsOf (take (8 * row c + c .length-o
 unfolding withoutLast
 words-are c = let e : 8 * row c + c .length-of .result - (8 * row c + 1) ≡ lengthOf (table c) (row c) - 1 = omega (arith, c .length-of .ensures .0) in rw e
 
-mul-find-row : tie.Need-mul-find-row
-mul-find-row c = omega (arith, bounds c)
+mul-find-among : tie.Need-mul-find-among
+mul-find-among c = omega (arith, bounds c)
 
-sub-find-row : tie.Need-sub-find-row
-sub-find-row c = omega (arith, bounds c)
+sub-find-among : tie.Need-sub-find-among
+sub-find-among c = omega (arith, bounds c)
 
-part-find-row-start : tie.Need-part-find-row-start
-part-find-row-start c = omega (arith, bounds c)
+part-find-among-start : tie.Need-part-find-among-start
+part-find-among-start c = omega (arith, bounds c)
 
-part-find-row-end : tie.Need-part-find-row-end
-part-find-row-end c = omega (arith, bounds c)
+part-find-among-end : tie.Need-part-find-among-end
+part-find-among-end c = omega (arith, bounds c)
 
-find-row-requires : tie.Need-find-row-requires
-find-row-requires c κs =
+find-among-requires : tie.Need-find-among-requires
+find-among-requires c κs =
     let k = c .before in
     let s = start k in
     let g = accepted-good (table k) (s .pre .0) in (
@@ -75,8 +75,8 @@ find-row-requires c κs =
       rw (words-are k) (are-words-without-last (table k) (row k) (g .row (row k) (s .pre .1)) (row-in (table k) (row k) (s .pre .1))),
     )
 
-found : (c : tie.After-find-row) → c .find-row .result ≡ findIn (table (c .before .before)) (withoutLast (table (c .before .before)) (row (c .before .before)))
-found c = rw (words-are (c .before .before)) at (c .find-row .ensures)
+found : (c : tie.After-find-among) → c .find-among .result ≡ findIn (table (c .before .before)) (withoutLast (table (c .before .before)) (row (c .before .before)))
+found c = rw (words-are (c .before .before)) at (c .find-among .ensures)
 
 enum-known-j : tie.Need-enum-known-j
 enum-known-j c = search needs
@@ -121,11 +121,11 @@ mark-row-spec =
     mul-last
     length-of-requires
     add-last
-    mul-find-row
-    sub-find-row
-    part-find-row-start
-    part-find-row-end
-    find-row-requires
+    mul-find-among
+    sub-find-among
+    part-find-among-start
+    part-find-among-end
+    find-among-requires
     enum-known-j
     enum-told
     returns

@@ -30,10 +30,10 @@ record Scanned (t : List ℤ) (rows n i : ℕ) : Type 0 where
   rest : verdict t ≡ scan t n i (rows - i)
 
 abbrev Inv-loop : tie.InvT-loop
-Inv-loop table rows n near₀ i₀ near i = Scanned table rows n i
+Inv-loop table rows n near₀ shorter₀ i₀ near shorter i = Scanned table rows n i
 
 abbrev μ-loop : tie.MeasureT-loop
-μ-loop table rows n near₀ i₀ near i = rows - i
+μ-loop table rows n near₀ shorter₀ i₀ near shorter i = rows - i
 
 -- the outcome says what it means
 answer : (t : List ℤ) (v : Verdict) → verdict t ≡ v → (v ≡ verdict t) × (v ≡ Accepted → AcceptedModel (modelOf t))
@@ -68,11 +68,11 @@ loop-holds c =
 row-fault-requires : tie.Need-row-fault-requires Inv-loop μ-loop
 row-fault-requires c κs = (omega arith, c .before .loop .inv .good)
 
-add-t11 : tie.Need-add-t11 Inv-loop μ-loop
-add-t11 c = omega arith
+add-t12 : tie.Need-add-t12 Inv-loop μ-loop
+add-t12 c = omega arith
 
-cast-t12 : tie.Need-cast-t12 Inv-loop μ-loop
-cast-t12 c = omega arith
+cast-t13 : tie.Need-cast-t13 Inv-loop μ-loop
+cast-t13 c = omega arith
 
 returns-2 : tie.Need-returns-2 Inv-loop μ-loop
 returns-2 c =
@@ -89,9 +89,9 @@ loop-less c = omega arith
 
 loop-again : tie.Need-loop-again Inv-loop μ-loop
 loop-again c =
-    let r = c .before .before in
+    let r = c .before .before .before in
     let l = r .before .before .loop in
-    let e = sym (r .row-fault .ensures) ∙ c .if2 .left in
+    let e = sym (r .row-fault .ensures) ∙ c .before .if2 .left in
     let p = passed-row _ _ _ e in
     record {
       within = omega arith;
@@ -127,8 +127,8 @@ check-list-spec =
     length-of-requires
     loop-holds
     row-fault-requires
-    add-t11
-    cast-t12
+    add-t12
+    cast-t13
     returns-2
     add-i
     loop-less

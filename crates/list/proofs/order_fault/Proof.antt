@@ -31,6 +31,9 @@ returns-2 c =
     let l = c .if2 .taken in
     sym (fault-none _ _ (after d) (rw m at l))
 
+shorter-rows-requires : tie.Need-shorter-rows-requires
+shorter-rows-requires c κs = search needs
+
 shorter-listed-requires : tie.Need-shorter-listed-requires
 shorter-listed-requires c κs = search needs
 
@@ -40,9 +43,9 @@ enum-known-found c = search needs
 enum-told : tie.Need-enum-told
 enum-told c = search needs
 
-searched : (c : tie.After-shorter-listed) → cond (not (isAt (c .shorter-listed .result))) shorterRow 0 ≡ orderFault (now (c .before .before .before .before .before .args .table)) (c .before .before .before .before .before .args .i)
+searched : (c : tie.After-shorter-listed) → cond (not (isAt (c .shorter-listed .result))) shorterRow 0 ≡ orderFault (now (c .before .before .before .before .before .before .args .table)) (c .before .before .before .before .before .before .args .i)
 searched c =
-    let d = c .before .before .before in
+    let d = c .before .before .before .before in
     ap (λ (b : Bool). cond (not b) shorterRow 0) (c .shorter-listed .ensures) ∙ sym (fault-shorter _ _ (after d) (omega arith))
 
 returns-3 : tie.Need-returns-3
@@ -59,6 +62,7 @@ order-fault-spec =
     returns
     length-of-requires
     returns-2
+    shorter-rows-requires
     shorter-listed-requires
     enum-known-found
     enum-told

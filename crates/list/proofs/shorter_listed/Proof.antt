@@ -63,23 +63,23 @@ add-last c = search needs
 add-past : tie.Need-add-past
 add-past c = search needs
 
-slice-aggregate-find-row : tie.Need-slice-aggregate-find-row
-slice-aggregate-find-row c = sym (length-take-le _ _ (omega arith))
+slice-aggregate-find-among : tie.Need-slice-aggregate-find-among
+slice-aggregate-find-among c = sym (length-take-le _ _ (omega arith))
 
-mul-find-row : tie.Need-mul-find-row
-mul-find-row c = search needs
+mul-find-among : tie.Need-mul-find-among
+mul-find-among c = search needs
 
-sub-find-row : tie.Need-sub-find-row
-sub-find-row c = search needs
+sub-find-among : tie.Need-sub-find-among
+sub-find-among c = search needs
 
-part-find-row-start : tie.Need-part-find-row-start
-part-find-row-start c = search needs
+part-find-among-start : tie.Need-part-find-among-start
+part-find-among-start c = search needs
 
-part-find-row-end : tie.Need-part-find-row-end
-part-find-row-end c = search needs
+part-find-among-end : tie.Need-part-find-among-end
+part-find-among-end c = search needs
 
-find-row-requires : tie.Need-find-row-requires
-find-row-requires c κs =
+find-among-requires : tie.Need-find-among-requires
+find-among-requires c κs =
     let s = c .before .before in
     (part-good _ _ (omega arith) (s .pre .1), part-short (8 * row s + s .args .m - (8 * row s + 1)) _ (omega arith), rw (words-but-last s) (are-words-without-last _ _ (s .pre .2) (s .pre .0)))
 
@@ -87,7 +87,7 @@ is-at-requires : tie.Need-is-at-requires
 is-at-requires c κs = search needs
 
 last-listed : (c : tie.After-is-at) → last (c .before .before .before .before) ≡ c .is-at .result
-last-listed c = sym (c .is-at .ensures ∙ ap isAt (rw (words-but-last (c .before .before .before .before)) at (c .before .find-row .ensures)))
+last-listed c = sym (c .is-at .ensures ∙ ap isAt (rw (words-but-last (c .before .before .before .before)) at (c .before .find-among .ensures)))
 
 returns : tie.Need-returns
 unfolding shorterListed
@@ -132,12 +132,12 @@ shorter-listed-spec =
     add-second
     add-last
     add-past
-    slice-aggregate-find-row
-    mul-find-row
-    sub-find-row
-    part-find-row-start
-    part-find-row-end
-    find-row-requires
+    slice-aggregate-find-among
+    mul-find-among
+    sub-find-among
+    part-find-among-start
+    part-find-among-end
+    find-among-requires
     is-at-requires
     returns
     slice-aggregate-find-near

@@ -118,30 +118,26 @@ sizes c =
     let S = storeIn (s .args .base .now) (s .args .check .now) in
     scored-sizes S (rows-in-probability (s .args .base .now) (s .args .check .now)) (S .order - 1) (omega arith) (stateIn (numbersOf (l .loop .carried))) (stateOk-bounded (S .order) (numbersOf (l .loop .carried)) (length-numbers (l .loop .carried) (l .loop .inv .four)) o (l .loop .inv .ok)) (getD (s .args .words .now) (l .loop .i) 0) (x c) (byteOf (kind c)) (stateIn (numbersOf (d .step .result .next))) (step-is d _ (c .word .given .1))
 
-mul-scored : tie.Need-mul-scored Inv-loop μ-loop
-mul-scored c = search needs
+write-word-requires : tie.Need-write-word-requires Inv-loop μ-loop
+write-word-requires c κs = (search needs, sizes (c .before .before .before) .1)
 
-slice-set-from-scored : tie.Need-slice-set-from-scored Inv-loop μ-loop
-slice-set-from-scored c = search needs
-
-length-byte-requires : tie.Need-length-byte-requires Inv-loop μ-loop
-length-byte-requires c κs = sizes (c .before) .1
-
-slice-write-lengths : tie.Need-slice-write-lengths Inv-loop μ-loop
-slice-write-lengths c = search needs
+-- the word that is written
+abbrev told : tie.After-slice-known3 Inv-loop μ-loop → tie.After-known-told Inv-loop μ-loop
+told c = c .before .before .before .before .before .before
 
 cast-total : tie.Need-cast-total Inv-loop μ-loop
-cast-total c = to-wide tt (x-fits (c .before))
+cast-total c = to-wide tt (x-fits (told c))
 
 -- as the cast left them
-x-wide : (c : tie.After-length-byte Inv-loop μ-loop) → toZ w64 (ofZ w64 (toZ w32 (ofZ w32 (x (c .before .before))))) ≡ x (c .before .before)
-x-wide c = cc (toZ-ofZ (cast-total c), toZ-ofZ (x-fits (c .before)))
+x-wide : (c : tie.After-slice-known3 Inv-loop μ-loop) → toZ w64 (ofZ w64 (toZ w32 (ofZ w32 (x (told c .before))))) ≡ x (told c .before)
+x-wide c = cc (toZ-ofZ (cast-total c), toZ-ofZ (x-fits (told c)))
 
 add-total : tie.Need-add-total Inv-loop μ-loop
 add-total c =
-    let l = c .before .before .before .before .before .before .before in
+    let m = told c .before in
+    let l = m .before .before .before .before .before in
     let s = l .before .before .before in
-    omega (zarith, x-wide c, sizes (c .before .before) .0, l .loop .inv .total-small, abs (x (c .before .before)), abs (toZ w64 (l .loop .total)), l .loop .inv .at, s .pre .1 .1 .1 .0)
+    omega (zarith, x-wide c, sizes m .0, l .loop .inv .total-small, abs (x m), abs (toZ w64 (l .loop .total)), l .loop .inv .at, s .pre .1 .1 .1 .0)
 
 add-i : tie.Need-add-i Inv-loop μ-loop
 add-i c = search needs
@@ -159,14 +155,15 @@ again d e f r = rw (d, e, f) r
 loop-again : tie.Need-loop-again Inv-loop μ-loop
 loop-again c =
     let b = c .before in
-    let k = b .before in
+    let w = b .before .before .before in
+    let k = told b in
     let m = k .before in
     let d = m .before .before in
     let n = d .before .before in
     let l = n .before in
     let s = l .before .before .before in
     let S = storeIn (s .args .base .now) (s .args .check .now) in
-    again (cc (toZ-ofZ (add-total b), x-wide b)) (ap (set (l .loop .points) (l .loop .i)) (toZ-ofZ (x-fits k))) (ap (set (l .loop .lengths) (l .loop .i)) (b .length-byte .ensures))
+    again (cc (toZ-ofZ (add-total b), x-wide b)) (w .write-word .ensures .0 ∙ ap (set (l .loop .points) (l .loop .i)) (toZ-ofZ (x-fits k))) (w .write-word .ensures .1)
     (running-on S (stateIn (numbersOf (s .args .state))) (s .args .words .now) (s .args .points .now) (s .args .lengths .now) (l .loop .carried) (toZ w64 (l .loop .total)) (l .loop .i) (l .loop .points) (l .loop .lengths) (l .loop .inv) (x m) (byteOf (kind m)) (d .step .result .next) (n .loop-test .taken) (s .pre .1 .1 .1 .1 .0) (s .pre .1 .1 .1 .1 .1) (sizes m .0) (step-is d _ (m .word .given .1)) (d .step .ensures .ok) (next-arrays d))
 
 same-length-3 : tie.Need-same-length-3 Inv-loop μ-loop
@@ -199,10 +196,7 @@ score-words-spec =
     same-length
     same-length-2
     returns
-    mul-scored
-    slice-set-from-scored
-    length-byte-requires
-    slice-write-lengths
+    write-word-requires
     cast-total
     add-total
     add-i

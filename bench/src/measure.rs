@@ -1,0 +1,120 @@
+//! The calls and their counterparts on one list; each pair must leave and answer the same.
+
+use crate::lists::{Arrays, List};
+use crate::packed::Packed;
+use crate::score::Items;
+use crate::time::{compare, Compared};
+use crate::{array, list, plain, score, unload};
+use backoff::Total;
+
+/// Nanoseconds that a call takes for a row, a lookup or a word, and the ratio of the two.
+pub struct Measured {
+    pub call: &'static str,
+    pub unit: &'static str,
+    pub ours: f64,
+    pub rust: f64,
+    pub ratio: f64,
+}
+
+impl Measured {
+    /// From the seconds of a call that does `units` of its work.
+    fn new(call: &'static str, unit: &'static str, units: usize, compared: Compared) -> Measured {
+        let each = |seconds: f64| 1e9 * seconds / units as f64;
+        Measured { call, unit, ours: each(compared.ours), rust: each(compared.rust), ratio: compared.ratio }
+    }
+}
+
+pub fn measure(list: &List) -> Vec<Measured> {
+    let text = list.unseen_text();
+    let [run, packed, hashed] = run(list, &text);
+    vec![check(list), build(list, list.arrays.slots()), lookup(list), run, packed, hashed, plain(list, &text), unload(list)]
+}
+
+fn check(list: &List) -> Measured {
+    let mut ours = || assert_eq!(backoff::check(&list.table).number, 0);
+    let mut rust = || assert_eq!(list::check(&list.table).number, 0);
+    let compared = compare(&mut ours, &mut rust);
+    Measured::new("check", "row", list.rows(), compared)
+}
+
+pub fn build(list: &List, slots: usize) -> Measured {
+    let (mut left, mut right) = (Arrays::new(slots, list.rows()), Arrays::new(slots, list.rows()));
+    let mut ours = || assert_eq!(backoff::build(&list.table, &mut left.base, &mut left.check, &mut left.work).number, 0);
+    let mut rust = || assert_eq!(array::build(&list.table, &mut right.base, &mut right.check, &mut right.work).number, 0);
+    let compared = compare(&mut ours, &mut rust);
+    assert!(left.base == right.base && left.check == right.check && left.work == right.work, "the builders agree");
+    Measured::new("build", "row", list.rows(), compared)
+}
+
+fn lookup(list: &List) -> Measured {
+    let Arrays { base, check, .. } = &list.arrays;
+    let sequences = list.sequences();
+    // All words lie in one slice: fetching them takes next to no time.
+    let words = sequences.concat();
+    let mut rest = &words[..];
+    let parts: Vec<&[u32]> = sequences.iter().filter_map(|sequence| rest.split_off(..sequence.len())).collect();
+    let ours = || parts.iter().map(|words| backoff::lookup(base, check, words).p as i64).sum::<i64>();
+    let rust = || parts.iter().map(|words| array::lookup(base, check, words).p as i64).sum::<i64>();
+    let sum = rust();
+    let compared = compare(&mut || assert_eq!(ours(), sum), &mut || assert_eq!(rust(), sum));
+    Measured::new("lookup", "lookup", parts.len(), compared)
+}
+
+/// What a scorer leaves behind.
+#[derive(PartialEq)]
+struct Scores {
+    points: Vec<i32>,
+    lengths: Vec<u8>,
+    total: i64,
+}
+
+impl Scores {
+    fn new(words: usize) -> Scores {
+        Scores { points: vec![0; words], lengths: vec![0; words], total: 0 }
+    }
+}
+
+type Run = fn(&[i32], &[i32], &mut [i32], &[u32], &mut [i32], &mut [u8]) -> Total;
+
+/// A run from start, against Rust over the same arrays, against the fastest such Rust, and against a HashMap of the rows.
+fn run(list: &List, text: &[u32]) -> [Measured; 3] {
+    let Arrays { base, check, .. } = &list.arrays;
+    let map = plain::Map::new(&list.table);
+    let [mut left, mut right, mut third] = [(); 3].map(|()| Scores::new(text.len()));
+    let (mut state, mut other_state) = ([0; 9], [0; 9]);
+    let mut ours = || {
+        assert_eq!(backoff::start(base, check, &mut state).number, 0);
+        left.total = backoff::run(base, check, &mut state, text, &mut left.points, &mut left.lengths).total;
+    };
+    let mut rust = |run: Run| {
+        assert_eq!(score::start::<Items>(base, check, &mut other_state).number, 0);
+        right.total = run(base, check, &mut other_state, text, &mut right.points, &mut right.lengths).total;
+    };
+    let mut hashed = || third.total = plain::score(&map, true, text, &mut third.points, &mut third.lengths);
+    let with_rust = compare(&mut ours, &mut || rust(score::run::<Items>));
+    let with_packed = compare(&mut ours, &mut || rust(score::run::<Packed>));
+    let with_map = compare(&mut ours, &mut hashed);
+    assert!(left == right && left == third && state == other_state, "the scorers agree");
+    [("run", with_rust), ("run, against packed states", with_packed), ("run, against a HashMap", with_map)]
+        .map(|(call, compared)| Measured::new(call, "word", text.len(), compared))
+}
+
+/// Plain scoring with its check of the list, against Rust with binary search too.
+fn plain(list: &List, text: &[u32]) -> Measured {
+    let [mut left, mut right] = [(); 2].map(|()| Scores::new(text.len()));
+    let mut ours = || left.total = backoff::plain(&list.table, true, text, &mut left.points, &mut left.lengths).total;
+    let mut rust = || right.total = plain::plain(&list.table, true, text, &mut right.points, &mut right.lengths).total;
+    let compared = compare(&mut ours, &mut rust);
+    assert!(left == right, "the scorers agree");
+    Measured::new("plain", "word", text.len(), compared)
+}
+
+pub fn unload(list: &List) -> Measured {
+    let Arrays { base, check, work } = &list.arrays;
+    let [mut left, mut right] = [(); 2].map(|()| (vec![0; list.table.len()], vec![0; list.rows()]));
+    let mut ours = || assert_eq!(backoff::unload(base, check, &mut left.0, &mut left.1).number, 0);
+    let mut rust = || assert_eq!(unload::unload(base, check, &mut right.0, &mut right.1).number, 0);
+    let compared = compare(&mut ours, &mut rust);
+    assert!(left == right && left.0 == list.table && left.1 == *work, "the list comes back");
+    Measured::new("unload", "row", list.rows(), compared)
+}

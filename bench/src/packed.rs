@@ -1,0 +1,88 @@
+//! A carried state with which Rust scores as fast as the team got it: the words are packed in one number, and the back-offs held as sums
+//! that change in place.
+
+use crate::list::{LARGEST_B, LARGEST_WORD, LOWEST_P};
+use crate::score::State;
+
+/// The words, 16 bits each, the newest one lowest, and item i of `sums` the sum of the first i back-offs; what lies past `count` is of no account.
+#[derive(Clone, Copy, Default)]
+pub struct Packed {
+    count: usize,
+    words: u64,
+    sums: [i32; 6],
+}
+
+impl State for Packed {
+    fn read(cells: &[i32; 9], order: i32) -> Option<Packed> {
+        let count = cells[0];
+        if count < 0 || count >= order {
+            return None;
+        }
+        let mut state = Packed { count: count as usize, ..Packed::default() };
+        for i in 0..4 {
+            let (word, b) = (cells[1 + i], cells[5 + i]);
+            let fits = if i < state.count {
+                (1..=LARGEST_WORD).contains(&word) && (-LARGEST_B..=LARGEST_B).contains(&b)
+            } else {
+                word == 0 && b == 0
+            };
+            if !fits {
+                return None;
+            }
+            state.words |= (word as u64) << (16 * i);
+            state.sums[i + 1] = state.sums[i] + b;
+        }
+        Some(state)
+    }
+
+    fn write(&self, cells: &mut [i32; 9]) {
+        cells.fill(0);
+        cells[0] = self.count as i32;
+        for i in 0..self.count.min(4) {
+            cells[1 + i] = (self.words >> (16 * i)) as i32 & LARGEST_WORD;
+            cells[5 + i] = self.sums[i + 1] - self.sums[i];
+        }
+    }
+
+    /// A word of a state needs no check of its range.
+    #[inline(always)]
+    fn step(&mut self, base: &[i32], check: &[i32], order: usize, word: u32) -> Option<(i32, u8)> {
+        let check = &check[..base.len()];
+        let root_child = |word: u32| Some(word as usize + 1).filter(|&slot| slot < check.len() && check[slot] == 0);
+        let known = if (2..=LARGEST_WORD as u32).contains(&word) { root_child(word) } else { None };
+        let (mut node, word, kind) = match known {
+            Some(slot) => (slot, word, 0),
+            None => (root_child(1)?, 1, 8),
+        };
+        let whole = self.sums[self.count];
+        let (mut older, mut owed) = (self.words, whole);
+        let (mut matched, mut kept, mut sum) = (0, 0, 0);
+        let points = loop {
+            let d = base[node] as u32 as usize;
+            if d == 0 || d >= base.len() {
+                return None;
+            }
+            let (last, packed) = (check[d], base[d]);
+            if !(LOWEST_P - 1..=-1).contains(&last) || !(-2 * LARGEST_B..=2 * LARGEST_B + 1).contains(&packed) {
+                return None;
+            }
+            let points = last + 1 + owed;
+            matched += 1;
+            owed = whole - self.sums[matched];
+            sum += packed >> 1;
+            self.sums[matched] = sum;
+            if packed != 0 && matched < order {
+                kept = matched;
+            }
+            let slot = d + (older & 0xffff) as usize;
+            if matched > self.count || slot >= check.len() || check[slot] != node as i32 {
+                break points;
+            }
+            older >>= 16;
+            node = slot;
+        };
+        self.count = kept;
+        self.words = self.words << 16 | word as u64;
+        Some((points, matched as u8 + kind))
+    }
+}

@@ -1,0 +1,92 @@
+//! The tables, as Markdown.
+
+use crate::lists::{List, KINDS};
+use crate::measure::{build, measure, unload, Measured};
+use tests::reference::array::MOST_SLOTS;
+
+/// The lists of a kind and what was measured on them, 1,000 rows first.
+struct Result {
+    kind: &'static str,
+    lists: [List; 2],
+    measured: [Vec<Measured>; 2],
+}
+
+pub fn print() {
+    let results = KINDS.each_ref().map(|kind| {
+        let lists = [kind.short(), kind.long()];
+        eprintln!("bench: {}", kind.name);
+        Result { kind: kind.name, measured: lists.each_ref().map(measure), lists }
+    });
+    print_ratios(&results);
+    print_times(&results);
+    print_memory(&results);
+    print_largest(&results);
+}
+
+fn print_ratios(results: &[Result]) {
+    println!("## Ratios\n\nOur time divided by that of the counterpart: below 1 ours is faster.\n");
+    let columns =
+        || results.iter().flat_map(|result| result.lists.iter().map(|list| format!("{}, {}", result.kind, thousands(list.rows()))));
+    println!("| call |{}", columns().map(|column| format!(" {column} |")).collect::<String>());
+    println!("|---|{}", columns().map(|_| "--:|").collect::<String>());
+    for (i, first) in results[0].measured[0].iter().enumerate() {
+        let ratios = results.iter().flat_map(|result| result.measured.iter().map(|measured| measured[i].ratio));
+        println!("| {} |{}", first.call, ratios.map(|ratio| format!(" {ratio:.2} |")).collect::<String>());
+    }
+}
+
+fn print_times(results: &[Result]) {
+    println!("\n## Times and how they grow\n\nNanoseconds for each row, lookup or word, and the factor from 1,000 to 65,535 rows.\n");
+    println!("| call | list | for each | ours, 1,000 | counterpart, 1,000 | ours, 65,535 | counterpart, 65,535 | ours grows | counterpart grows |");
+    println!("|---|---|---|--:|--:|--:|--:|--:|--:|");
+    for i in 0..results[0].measured[0].len() {
+        for Result { kind, measured: [short, long], .. } in results {
+            let (short, long) = (&short[i], &long[i]);
+            print!("| {} | {kind} | {} ", short.call, short.unit);
+            print!("| {:.1} | {:.1} | {:.1} | {:.1} ", short.ours, short.rust, long.ours, long.rust);
+            println!("| {:.1} | {:.1} |", long.ours / short.ours, long.rust / short.rust);
+        }
+    }
+}
+
+/// A slot has four bytes in each of two arrays, a row four bytes of work; the root and each row take two slots.
+fn print_memory(results: &[Result]) {
+    println!("\n## Memory\n\nThe two arrays at the slots that the list needs, and the work slice. The list itself has 32 bytes a row.\n");
+    println!("| list | rows | slots | fill rate | arrays, bytes a row | with work, bytes a row |\n|---|--:|--:|--:|--:|--:|");
+    for result in results {
+        for list in &result.lists {
+            let (rows, slots) = (list.rows(), list.arrays.slots());
+            let fill_rate = 100.0 * (2 * rows + 2) as f64 / slots as f64;
+            let bytes = (8 * slots) as f64 / rows as f64;
+            let (kind, rows, slots) = (result.kind, thousands(rows), thousands(slots));
+            println!("| {kind} | {rows} | {slots} | {fill_rate:.1} % | {bytes:.1} | {:.1} |", bytes + 4.0);
+        }
+    }
+}
+
+/// The seconds that a person waits for the longest lists.
+fn print_largest(results: &[Result]) {
+    println!("\n## The longest lists in large arrays\n\nSeconds for a list of 65,535 rows; for unload its words go up to 65,535.\n");
+    println!("| call | list | slots | ours | counterpart | ratio |\n|---|---|--:|--:|--:|--:|");
+    for Result { kind, lists: [_, long], .. } in results {
+        print_seconds(kind, MOST_SLOTS, long.rows(), &build(long, MOST_SLOTS));
+    }
+    for (kind, list) in List::all_words() {
+        print_seconds(kind, list.arrays.slots(), list.rows(), &unload(&list));
+    }
+}
+
+fn print_seconds(kind: &str, slots: usize, rows: usize, measured: &Measured) {
+    let seconds = |nanoseconds: f64| nanoseconds * rows as f64 / 1e9;
+    let Measured { call, ours, rust, ratio, .. } = measured;
+    println!("| {call} | {kind} | {} | {:.4} | {:.4} | {ratio:.2} |", thousands(slots), seconds(*ours), seconds(*rust));
+}
+
+/// A number below a thousand million with commas.
+fn thousands(number: usize) -> String {
+    match (number / 1_000_000, number / 1_000 % 1_000, number % 1_000) {
+        (0, 0, ones) => ones.to_string(),
+        (0, thousands, ones) => format!("{thousands},{ones:03}"),
+        (millions, thousands, ones) => format!("{millions},{thousands:03},{ones:03}"),
+    }
+}

@@ -1,0 +1,294 @@
+//! Draws docs/double-array.svg: the sample's double array and the walk of one lookup, from what the library's own calls leave and answer.
+//!
+//! `cargo run --release --offline -p tests --example picture > docs/double-array.svg`
+
+use ::tests::lists::{sample, table};
+use ::tests::reference::list::Row;
+
+fn main() {
+    print!("{}", picture());
+}
+
+/// The sequence that is looked up, oldest word first.
+const LOOKED_UP: [i32; 3] = [2, 4, 5];
+
+const WIDTH: usize = 1080;
+const HEIGHT: usize = 640;
+
+fn picture() -> String {
+    let array = Array::build(sample());
+    let walk = array.walk(&LOOKED_UP);
+    let title = format!("The sample's double array, and the lookup of {}", spaced(&LOOKED_UP));
+    let mut drawing = Drawing(format!(
+        "<svg xmlns=\"http://www.w3.org/2000/svg\" viewBox=\"0 0 {WIDTH} {HEIGHT}\" role=\"img\">\n<title>{title}</title>\n{STYLE}\n\
+         <rect class=\"panel\" x=\"1\" y=\"1\" width=\"{}\" height=\"{}\" rx=\"12\"/>\n",
+        WIDTH - 2,
+        HEIGHT - 2
+    ));
+    drawing.text("title", 28, 40, &title);
+    draw_trie(&mut drawing, &array, &walk);
+    draw_steps(&mut drawing, &array, &walk);
+    draw_slots(&mut drawing, &array, &walk);
+    draw_jumps(&mut drawing, &array, &walk);
+    draw_legend(&mut drawing);
+    drawing.0 + "</svg>\n"
+}
+
+const STYLE: &str = "<style>
+  text { font-family: Helvetica, Arial, sans-serif; font-size: 13px; fill: #1f2933 }
+  .panel { fill: #fcfcfa; stroke: #c5ccd3 }
+  .title { font-size: 19px; font-weight: bold }
+  .small { font-size: 11px; fill: #52606d }
+  .number { font-family: Menlo, Consolas, 'DejaVu Sans Mono', monospace; font-size: 10.5px }
+  .middle { text-anchor: middle }
+  .end { text-anchor: end }
+  .word { font-weight: bold }
+  .on-line { paint-order: stroke; stroke: #fcfcfa; stroke-width: 5px; text-anchor: middle }
+  .walked { fill: #b91c1c; font-weight: bold }
+  .node { fill: #dbeafe; stroke: #3b6ea5 }
+  .marker { fill: #fdf0d0; stroke: #a87b24 }
+  .edge { fill: none; stroke: #7b8794; stroke-width: 1.3 }
+  .step { fill: none; stroke: #b91c1c; stroke-width: 2.2 }
+  .tip { fill: #b91c1c }
+</style>
+<defs><marker id=\"tip\" viewBox=\"0 0 8 8\" refX=\"7\" refY=\"4\" markerWidth=\"5\" markerHeight=\"5\" orient=\"auto\"><path class=\"tip\" d=\"M0 0 L8 4 L0 8 Z\"/></marker></defs>";
+
+/// A list and the double array that `backoff::build` leaves, in as few slots as it accepts.
+struct Array {
+    rows: Vec<Row>,
+    base: Vec<i32>,
+    check: Vec<i32>,
+    nodes: Vec<u32>,
+}
+
+/// What a slot holds, with the words of its row; the root has none.
+#[derive(Clone, Copy, PartialEq)]
+enum Held<'a> {
+    Node(&'a [i32]),
+    Marker(&'a [i32]),
+}
+
+impl Array {
+    fn build(rows: Vec<Row>) -> Array {
+        let table = table(&rows);
+        for slots in 2.. {
+            let (mut base, mut check, mut nodes) = (vec![0; slots], vec![0; slots], vec![0; rows.len()]);
+            let status = backoff::build(&table, &mut base, &mut check, &mut nodes);
+            if status.number == 0 {
+                return Array { rows, base, check, nodes };
+            }
+            assert_eq!(status.number, 10, "the sample is accepted");
+        }
+        unreachable!("some number of slots is enough")
+    }
+
+    fn slots(&self) -> usize {
+        self.base.len()
+    }
+
+    fn held(&self, slot: usize) -> Held<'_> {
+        let rows = self.rows.iter().map(|row| &row.words[..]).zip(self.nodes.iter().map(|&node| node as usize));
+        for (words, node) in std::iter::once((&[][..], 0)).chain(rows) {
+            if slot == node {
+                return Held::Node(words);
+            }
+            if slot == self.base[node] as usize {
+                return Held::Marker(words);
+            }
+        }
+        panic!("slot {slot} is free: the picture shows an array without free slots")
+    }
+
+    /// The slots of the nodes from the root on, newest word first; `backoff::lookup` must answer what their markers hold.
+    fn walk(&self, words: &[i32]) -> Vec<usize> {
+        let mut walk = vec![0];
+        for length in 1..=words.len() {
+            let walked = &words[words.len() - length..];
+            let node = walk[length - 1];
+            let slot = (self.base[node] + walked[0]) as usize;
+            let marker = self.base[slot] as usize;
+            let sequence: Vec<u32> = walked.iter().map(|&word| word as u32).collect();
+            let found = backoff::lookup(&self.base, &self.check, &sequence);
+            assert_eq!((found.number, found.found, self.check[slot]), (0, 1, node as i32), "the walk goes on");
+            assert_eq!((found.p, found.b), (self.check[marker] + 1, self.base[marker] >> 1), "the marker holds p and b");
+            walk.push(slot);
+        }
+        walk
+    }
+}
+
+/// An SVG text that grows.
+struct Drawing(String);
+
+impl Drawing {
+    fn text(&mut self, class: &str, x: usize, y: usize, text: &str) {
+        self.0 += &format!("<text class=\"{class}\" x=\"{x}\" y=\"{y}\">{text}</text>\n");
+    }
+
+    fn rectangle(&mut self, class: &str, x: usize, y: usize, width: usize, height: usize) {
+        self.0 += &format!("<rect class=\"{class}\" x=\"{x}\" y=\"{y}\" width=\"{width}\" height=\"{height}\"/>\n");
+    }
+
+    fn path(&mut self, class: &str, path: &str) {
+        let tip = if class == "step" { " marker-end=\"url(#tip)\"" } else { "" };
+        self.0 += &format!("<path class=\"{class}\" d=\"{path}\"{tip}/>\n");
+    }
+}
+
+/// The trie: a circle with its slot for each node, its word beside the line that leads to it.
+fn draw_trie(drawing: &mut Drawing, array: &Array, walk: &[usize]) {
+    let places = places(array);
+    drawing.text("small", 28, 62, "The trie of the rows, newest word first; in each node its slot");
+    for (row, &node) in array.rows.iter().zip(&array.nodes) {
+        let (slot, parent) = (node as usize, array.check[node as usize] as usize);
+        let ((x, y), (from_x, from_y)) = (places[slot], places[parent]);
+        let walked = walk.contains(&slot);
+        drawing.path(if walked { "step" } else { "edge" }, &format!("M{from_x} {} L{x} {}", from_y + 15, y - 17));
+        let class = if walked { "word on-line walked" } else { "word on-line" };
+        drawing.text(class, (x + from_x) / 2, (y + from_y) / 2 + 3, &row.words[0].to_string());
+    }
+    for slot in 0..array.slots() {
+        if let Held::Node(_) = array.held(slot) {
+            let (x, y) = places[slot];
+            let walked = if walk.contains(&slot) { " style=\"stroke:#b91c1c;stroke-width:2.2\"" } else { "" };
+            drawing.0 += &format!("<circle class=\"node\" cx=\"{x}\" cy=\"{y}\" r=\"15\"{walked}/>\n");
+            drawing.text("number middle", x, y + 4, &slot.to_string());
+        }
+    }
+}
+
+/// Where each node of the trie stands: a column for each leaf, a line for each length, a parent above its middle child.
+fn places(array: &Array) -> Vec<(usize, usize)> {
+    let mut places = vec![(0, 0); array.slots()];
+    let mut columns = 0;
+    place_below(array, 0, 0, &mut columns, &mut places);
+    places
+}
+
+fn place_below(array: &Array, slot: usize, depth: usize, columns: &mut usize, places: &mut [(usize, usize)]) {
+    let child = |node: &&u32| array.check[**node as usize] == slot as i32;
+    let children: Vec<usize> = array.nodes.iter().filter(child).map(|&node| node as usize).collect();
+    for &child in &children {
+        place_below(array, child, depth + 1, columns, places);
+    }
+    let x = match (children.first(), children.last()) {
+        (Some(&first), Some(&last)) => (places[first].0 + places[last].0) / 2,
+        _ => {
+            *columns += 1;
+            96 * *columns - 30
+        }
+    };
+    places[slot] = (x, 92 + 72 * depth);
+}
+
+/// The walk in words.
+fn draw_steps(drawing: &mut Drawing, array: &Array, walk: &[usize]) {
+    let (left, mut y) = (590, 92);
+    drawing.text("word", left, y, &format!("Lookup of {}, newest word first", spaced(&LOOKED_UP)));
+    for (step, &word) in walk.windows(2).zip(LOOKED_UP.iter().rev()) {
+        let (node, slot) = (step[0], step[1]);
+        y += 44;
+        drawing.text(
+            "",
+            left,
+            y,
+            &format!("Slot {node} has BASE {}; word {word} leads to {} + {word} = {slot}.", array.base[node], array.base[node]),
+        );
+        drawing.text("small", left, y + 17, &format!("CHECK of slot {slot} is {node}: it is the child."));
+    }
+    let node = walk[walk.len() - 1];
+    let marker = array.base[node] as usize;
+    let (p, packed) = (array.check[marker] + 1, array.base[marker]);
+    let last = format!("CHECK is p − 1 = {}, BASE is 2 × b + f = {}:", signed(p - 1), signed(packed));
+    drawing.text("", left, y + 44, &format!("Slot {node} has BASE {marker}: its marker is in slot {marker}."));
+    drawing.text("small", left, y + 61, &last);
+    drawing.text("word walked", left, y + 86, &format!("p = {}, b = {}, f = {}", signed(p), signed(packed >> 1), packed & 1));
+}
+
+/// The left edge of slot 0, the width of a slot, and the upper edge of BASE.
+const LEFT: usize = 78;
+const SLOT: usize = 49;
+const TOP: usize = 462;
+const CELL: usize = 28;
+
+fn middle(slot: usize) -> usize {
+    LEFT + SLOT * slot + SLOT / 2
+}
+
+/// The two arrays, and below each slot what it holds.
+fn draw_slots(drawing: &mut Drawing, array: &Array, walk: &[usize]) {
+    for (label, y) in
+        [("slot", TOP - 9), ("BASE", TOP + 18), ("CHECK", TOP + CELL + 18), ("holds", TOP + 2 * CELL + 18), ("of row", TOP + 2 * CELL + 33)]
+    {
+        drawing.text("small end", LEFT - 10, y, label);
+    }
+    for slot in 0..array.slots() {
+        let (kind, words) = match array.held(slot) {
+            Held::Node(words) => ("node", words),
+            Held::Marker(words) => ("marker", words),
+        };
+        let of = if words.is_empty() { "root".to_string() } else { spaced(words) };
+        let (left, walked) = (LEFT + SLOT * slot, if walk.contains(&slot) { " walked" } else { "" });
+        drawing.rectangle(kind, left, TOP, SLOT, CELL);
+        drawing.rectangle(kind, left, TOP + CELL, SLOT, CELL);
+        drawing.text(&format!("number middle{walked}"), middle(slot), TOP - 9, &slot.to_string());
+        drawing.text("number middle", middle(slot), TOP + 18, &signed(array.base[slot]));
+        drawing.text("number middle", middle(slot), TOP + CELL + 18, &signed(array.check[slot]));
+        drawing.text("small middle", middle(slot), TOP + 2 * CELL + 18, kind);
+        drawing.text("number middle", middle(slot), TOP + 2 * CELL + 33, &of);
+    }
+}
+
+/// The walk over the slots: from node to child above them, from the last node to its marker below.
+fn draw_jumps(drawing: &mut Drawing, array: &Array, walk: &[usize]) {
+    let edge = TOP - 24;
+    for (step, word) in walk.windows(2).zip(LOOKED_UP.iter().rev()) {
+        let (from, to) = (middle(step[0]), middle(step[1]));
+        let top = edge - 30 - from.abs_diff(to) / 8;
+        drawing.path("step", &format!("M{from} {edge} C{from} {top} {to} {top} {to} {edge}"));
+        drawing.text("walked middle", (from + to) / 2, edge - 3 * (edge - top) / 4 - 6, &format!("word {word}"));
+    }
+    let node = walk[walk.len() - 1];
+    let (from, to) = (middle(node), middle(array.base[node] as usize));
+    let (edge, low) = (TOP + 2 * CELL + 41, TOP + 2 * CELL + 78);
+    drawing.path("step", &format!("M{from} {edge} C{from} {low} {to} {low} {to} {edge}"));
+    drawing.text("walked middle", (from + to) / 2, low + 6, "marker");
+}
+
+fn draw_legend(drawing: &mut Drawing) {
+    let y = HEIGHT - 24;
+    let entries = [
+        ("node", 28, "node: BASE is d, the slot of its marker; CHECK is its parent, at the root the order"),
+        ("marker", 515, "marker: BASE is 2 × b + f, CHECK is p − 1; the root's holds the number of rows and −1"),
+    ];
+    for (class, x, text) in entries {
+        drawing.rectangle(class, x, y - 11, 18, 13);
+        drawing.text("small", x + 26, y, text);
+    }
+}
+
+fn spaced(words: &[i32]) -> String {
+    words.iter().map(i32::to_string).collect::<Vec<_>>().join(" ")
+}
+
+/// A number with the sign that print uses.
+fn signed(number: i32) -> String {
+    number.to_string().replace('-', "−")
+}
+
+#[cfg(test)]
+mod tests {
+    /// The picture in docs is the one that the library's array gives.
+    #[test]
+    fn committed_picture() {
+        assert!(super::picture() == include_str!("../../docs/double-array.svg"), "make docs/double-array.svg again");
+    }
+
+    /// The facts of K7 and K8.
+    #[test]
+    fn marked_cases() {
+        let array = super::Array::build(super::sample());
+        assert_eq!(array.slots(), 20);
+        assert!(array.held(12) == super::Held::Node(&[2, 4]) && array.held(16) == super::Held::Marker(&[2, 4]));
+    }
+}

@@ -1,0 +1,120 @@
+//! Our points and matched lengths against those of irstlm; `tests/irstlm/run` calls this.
+//!
+//! `train` and `unseen` print the two texts, one sentence a line. `compare FOLDER NAME..` reads FOLDER/unseen.txt and, of each list, NAME.arpa and what
+//! `compile-lm` printed of the text: NAME.eval by `--eval --debug=2`, with two decimals, and NAME.score by `--score`, with all digits.
+
+mod arpa;
+mod printed;
+mod texts;
+
+use arpa::Arpa;
+use printed::Printed;
+use std::fs::read_to_string;
+use std::process::ExitCode;
+use tests::lists::table;
+use tests::reference::array::MOST_SLOTS;
+
+/// The order that `run` trains.
+const ORDER: usize = 3;
+
+/// p and two back-offs are each rounded by half a point at most; irstlm's own numbers have 24 bits, which is far below a tenth of a point.
+const ROUNDED: f64 = 1.5 + 0.1;
+
+/// Half of the second decimal.
+const TWO_DECIMALS: f64 = 50.0;
+
+fn main() -> ExitCode {
+    let arguments: Vec<String> = std::env::args().skip(1).collect();
+    match &arguments.iter().map(String::as_str).collect::<Vec<_>>()[..] {
+        ["train"] => print!("{}", texts::train()),
+        ["unseen"] => print!("{}", texts::unseen()),
+        ["compare", folder, names @ ..] => return compare_all(folder, names),
+        _ => return ExitCode::from(2),
+    }
+    ExitCode::SUCCESS
+}
+
+fn compare_all(folder: &str, names: &[&str]) -> ExitCode {
+    let mut count = Count::default();
+    let file = |name: &str| read_to_string(format!("{folder}/{name}")).unwrap_or_else(|error| panic!("{folder}/{name}: {error}"));
+    for name in names {
+        let list = arpa::read(&file(&format!("{name}.arpa"))).unwrap_or_else(|error| panic!("{name}.arpa: {error}"));
+        println!("{name}: {} rows, {} of them added", list.rows.len(), list.added.len());
+        let words = score(&list, &file("unseen.txt"));
+        let eval = printed::eval(&file(&format!("{name}.eval")));
+        let scored = printed::score(&file(&format!("{name}.score")), ORDER);
+        count.compare(&format!("{name}, --eval --debug=2"), &words.iter().collect::<Vec<_>>(), &eval, TWO_DECIMALS + ROUNDED);
+        // `--score` tells nothing of words with fewer than two words before them.
+        let with_history: Vec<&Scored> = words.iter().filter(|word| word.preceding >= ORDER - 1).collect();
+        count.compare(&format!("{name}, --score"), &with_history, &scored, ROUNDED);
+    }
+    println!("{} passed, {} failed", count.passed, count.failed);
+    ExitCode::from((count.failed > 0) as u8)
+}
+
+/// A word of the text with our answer.
+struct Scored {
+    text: String,
+    /// How many words stand before it, `<s>` among them.
+    preceding: usize,
+    points: i32,
+    /// The matched length, not counting rows that the ARPA file lacks.
+    matched: usize,
+    known: bool,
+}
+
+/// Scores each sentence from the state after `<s>`.
+fn score(list: &Arpa, text: &str) -> Vec<Scored> {
+    let mut work = vec![0; list.rows.len()];
+    let (mut base, mut check) = (vec![0; MOST_SLOTS], vec![0; MOST_SLOTS]);
+    let status = backoff::build(&table(&list.rows), &mut base, &mut check, &mut work);
+    assert_eq!((status.number, status.place), (0, 0), "the list is accepted");
+    let mut scored = Vec::new();
+    for line in text.lines() {
+        let texts: Vec<&str> = line.strip_prefix("<s> ").expect("a sentence begins with <s>").split(' ').collect();
+        // Word 0 is unlisted.
+        let words: Vec<u32> = texts.iter().map(|word| list.numbers.get(*word).copied().unwrap_or(0) as u32).collect();
+        let (mut state, mut points, mut lengths) = ([0; 9], vec![0; words.len()], vec![0; words.len()]);
+        assert_eq!(backoff::start(&base, &check, &mut state).number, 0);
+        assert_eq!(backoff::run(&base, &check, &mut state, &words, &mut points, &mut lengths).number, 0);
+        for i in 0..words.len() {
+            let preceding = std::iter::once(2).chain(words[..i].iter().map(|&word| word.max(1) as i32));
+            let matched = in_file(list, preceding.chain([words[i].max(1) as i32]).collect(), (lengths[i] & 7) as usize);
+            scored.push(Scored { text: texts[i].to_string(), preceding: i + 1, points: points[i], matched, known: lengths[i] & 8 == 0 });
+        }
+    }
+    scored
+}
+
+/// The matched length where rows that the file lacks do not count.
+fn in_file(list: &Arpa, words: Vec<i32>, matched: usize) -> usize {
+    (1..=matched).rev().find(|&m| !list.added.contains(&words[words.len() - m..])).unwrap_or(0)
+}
+
+#[derive(Default)]
+struct Count {
+    passed: usize,
+    failed: usize,
+}
+
+impl Count {
+    /// Three tests: the words, the matched lengths, the points.
+    fn compare(&mut self, name: &str, ours: &[&Scored], irstlm: &[Printed], bound: f64) {
+        let pairs = || ours.iter().zip(irstlm);
+        let same_word = |&(ours, irstlm): &(&&Scored, &Printed)| irstlm.word == if ours.known { &ours.text } else { "<unk>" };
+        let words = pairs().filter(same_word).count();
+        self.test(
+            &format!("{name}: {words} words of {} and {}", ours.len(), irstlm.len()),
+            words > 0 && words == ours.len() && words == irstlm.len(),
+        );
+        let lengths = pairs().filter(|(ours, irstlm)| ours.matched == irstlm.matched).count();
+        self.test(&format!("{name}: {lengths} matched lengths are equal"), lengths == ours.len());
+        let distance = pairs().map(|(ours, irstlm)| (ours.points as f64 - irstlm.points).abs()).fold(0.0, f64::max);
+        self.test(&format!("{name}: points differ by {distance:.3} at most, {bound} are allowed"), distance <= bound);
+    }
+
+    fn test(&mut self, text: &str, holds: bool) {
+        println!("{} {text}", if holds { "ok    " } else { "FAILED" });
+        *(if holds { &mut self.passed } else { &mut self.failed }) += 1;
+    }
+}

@@ -1,0 +1,71 @@
+//! What `compile-lm` prints of a text, word by word.
+
+/// A scored word; `<unk>` where it is unknown.
+#[derive(Debug, PartialEq)]
+pub struct Printed {
+    pub word: String,
+    pub matched: usize,
+    pub points: f64,
+}
+
+/// The lines of `--eval --debug=2`: `w1 w2 w3<tab>1 [2-gram] -1.56`, with a base-10 logarithm.
+pub fn eval(text: &str) -> Vec<Printed> {
+    let read = |line: &str| {
+        let (words, rest) = line.split_once("\t1 [")?;
+        let (matched, log) = rest.split_once("-gram] ")?;
+        Some(Printed { word: newest(words), matched: matched.parse().ok()?, points: number(log)? * 10_000.0 })
+    };
+    text.lines().filter_map(read).collect()
+}
+
+/// The lines of `--score`: `> w1 w2 w3<tab>1 p= -0x1.04p+1 bo= 1`, with a natural logarithm and how often it backed off.
+pub fn score(text: &str, order: usize) -> Vec<Printed> {
+    let read = |line: &str| {
+        let (words, rest) = line.split_once("\t1 p= ")?;
+        let (log, backed_off) = rest.split_once(" bo= ")?;
+        let matched = order - backed_off.trim().parse::<usize>().ok()?;
+        Some(Printed { word: newest(words), matched, points: number(log)? / std::f64::consts::LN_10 * 10_000.0 })
+    };
+    text.lines().filter_map(read).collect()
+}
+
+fn newest(words: &str) -> String {
+    words.split_whitespace().next_back().unwrap_or_default().to_string()
+}
+
+/// A decimal number, or a hexadecimal one as C prints it by `%a`.
+fn number(text: &str) -> Option<f64> {
+    let text = text.trim();
+    let (sign, digits) = text.strip_prefix('-').map_or((1.0, text), |digits| (-1.0, digits));
+    let Some(digits) = digits.strip_prefix("0x") else { return text.parse().ok() };
+    let (digits, exponent) = digits.split_once('p')?;
+    let (whole, fraction) = digits.split_once('.').unwrap_or((digits, ""));
+    let mantissa = u64::from_str_radix(&format!("{whole}{fraction}"), 16).ok()?;
+    let exponent = exponent.parse::<i32>().ok()? - 4 * fraction.len() as i32;
+    Some(sign * mantissa as f64 * 2f64.powi(exponent))
+}
+
+#[cfg(test)]
+mod tests {
+    use super::{eval, number, score, Printed};
+
+    #[test]
+    fn numbers() {
+        assert_eq!(number("-0x1.8p+1"), Some(-3.0));
+        assert_eq!(number("0x1p-2"), Some(0.25));
+        assert_eq!(number("-1.56"), Some(-1.56));
+        assert_eq!(number("-inf"), Some(f64::NEG_INFINITY));
+        assert_eq!(number("NULL"), None);
+    }
+
+    #[test]
+    fn lines() {
+        let word = |word: &str, matched, points| Printed { word: word.to_string(), matched, points };
+        assert_eq!(
+            eval("Start Eval\n<s> w3\t1 [2-gram] -0.5\nw3 w4 <unk>\t1 [1-gram] -8\n%% Nw=2"),
+            [word("w3", 2, -5e3), word("<unk>", 1, -8e4)]
+        );
+        let scored = score("> <s> w3\t1 p= NULL\n> <s> w3 w4\t1 p= -0x0p+0 bo= 1\n> ", 3);
+        assert_eq!(scored, [word("w4", 2, 0.0)]);
+    }
+}
