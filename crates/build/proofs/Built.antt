@@ -17,11 +17,11 @@ use Rattle.backoff.specs.Limits.{orderLimit, rowLimit, slotLimit, unknownWord, 
 use Rattle.backoff.specs.Refusal.{numberOf, tableLength, arrayLength, noRoom}
 use Rattle.backoff.specs.Model.{Entry, isSome, listed}
 use Rattle.backoff.specs.Run.{written}
-use Rattle.backoff.specs.Store.{Look, absent, here, entryOf, isBroken, modelIn}
+use Rattle.backoff.specs.Store.{absent, here, entryOf, isBroken, lookEntry, modelIn}
 use Rattle.backoff.specs.declared.Verdict.{Verdict}
 use Rattle.backoff.specs.declared.Verdict.the-variants.{Accepted, Refused}
 use Rattle.backoff.proofs.Model.{model-ext}
-use Rattle.backoff.proofs.Store.{Whole}
+use Rattle.backoff.proofs.Store.{entryOf-lookEntry, lookEntry-sound, Whole}
 use Rattle.list.specs.Table.{rowsOf, orderOf, words}
 use Rattle.list.specs.Search.{findIn}
 use Rattle.list.specs.Check.{tableFits, verdict}
@@ -40,19 +40,6 @@ use Rattle.placing.proofs.Walk.{lookNode, look-placed}
 use Rattle.build.specs.ListTrie.{rootOf, nodesOf, placedList, rowSlots}
 use Rattle.build.specs.Build.{Built, untouched, emptied, filled, checkedBuild, buildOutcome}
 use Rattle.build.proofs.ListTrie.{nodeAt-root, nodes-ready, row-marker, nodes-sound, nodeIf, findNode-listed}
-
--- what a store without broken nodes has where its model has this
-abbrev pub lookEntry : Option Entry → Look
-lookEntry none = absent
-lookEntry (some e) = here e
-
-entryOf-lookEntry : (o : Option Entry) → entryOf (lookEntry o) ≡ o
-entryOf-lookEntry none = refl
-entryOf-lookEntry (some e) = refl
-
-lookEntry-sound : (o : Option Entry) → isBroken (lookEntry o) ≡ false
-lookEntry-sound none = refl
-lookEntry-sound (some e) = refl
 
 -- BASE and CHECK hold the list, all of it and only it: 11 lets them pass, and they have for any words what the list has
 pub record HoldsList (t base check : List ℤ) : Type 0 where

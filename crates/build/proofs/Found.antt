@@ -11,6 +11,7 @@ use lib.ListN.{length, length-reverse}
 use Rattle.backoff.specs.Limits.{orderLimit}
 use Rattle.backoff.specs.Refusal.{wordCount}
 use Rattle.backoff.specs.Model.{listed}
+use Rattle.backoff.specs.Store.{lookEntry}
 use Rattle.backoff.specs.declared.Verdict.the-variants.{Accepted}
 use Rattle.list.specs.Table.{orderOf}
 use Rattle.list.specs.Search.{findIn}
@@ -25,18 +26,18 @@ use Rattle.double_array.specs.declared.Lookup.the-variants.{NotFound, Refused}
 use Rattle.double_array.proofs.DoubleArray.{opened-some}
 use Rattle.build.specs.Build.{buildOutcome}
 use Rattle.build.specs.Listed.{answerAt, listedAnswer}
-use Rattle.build.proofs.Built.{lookEntry, HoldsList, build-accepted, build-holds}
+use Rattle.build.proofs.Built.{HoldsList, build-accepted, build-holds}
 
 module _ (t : List ℤ) (a : verdict t ≡ Accepted) (ws : List ℕ) where
   -- more words than the order are not listed
-  above-order : orderOf t < length ws → (f : Row) → findIn t ws ≡ f → f ≡ Nothing
+  pub above-order : orderOf t < length ws → (f : Row) → findIn t ws ≡ f → f ≡ Nothing
   unfolding listed modelOf
   above-order h Nothing e = refl
   above-order h (At j) e =
       let l : listed (modelOf t) (reverse ws) ≡ true = rw (reverse-reverse ws, e) in
       absurd (omega (arith, accepted-model t a .short (reverse ws) l, length-reverse ws))
 
-  looked-up : (f : Row) → lookupOf (lookEntry (entryAt t ws f)) ≡ answerAt t f
+  pub looked-up : (f : Row) → lookupOf (lookEntry (entryAt t ws f)) ≡ answerAt t f
   looked-up (At j) = refl
   looked-up Nothing = refl
 

@@ -48,12 +48,12 @@ filled-none t {N} low high b c F = record {
 
 -- ---- the rows' slots
 
-length-slotsFrom : (t : List ℤ) (i k : ℕ) → length (slotsFrom t i k) ≡ k
+pub length-slotsFrom : (t : List ℤ) (i k : ℕ) → length (slotsFrom t i k) ≡ k
 unfolding slotsFrom
 length-slotsFrom t i zero = refl
 length-slotsFrom t i (suc k) = ap suc (length-slotsFrom t (suc i) k)
 
-getD-slotsFrom : (t : List ℤ) (i k j : ℕ) → j < k → getD (slotsFrom t i k) j 0 ≡ placedList t .slot (words t (i + j))
+pub getD-slotsFrom : (t : List ℤ) (i k j : ℕ) → j < k → getD (slotsFrom t i k) j 0 ≡ placedList t .slot (words t (i + j))
 unfolding slotsFrom
 getD-slotsFrom t i zero j h = absurd (omega arith)
 getD-slotsFrom t i (suc k) zero h = ap (λ (x : ℕ). placedList t .slot (words t x)) (omega arith)

@@ -1,11 +1,11 @@
--- K6, K7 and K8: the sample list built and looked up, by computation. Assumes nothing.
+-- The sample list built, number for number, by computation; what document 01 marks of it is in grader's MarkedCases. Assumes nothing.
 use mathlib.Core.Path.{_≡_, refl}
 use mathlib.Core.List.{List, [], _∷_}
 use Prim.Native.Nat.{ℕ}
 use lib.IntN.{ℤ, pos, negℤ}
-use lib.ListN.{getD, replicate}
+use lib.ListN.{replicate}
 use Rattle.integer.specs.Integer.{between, upTo}
-use Rattle.backoff.specs.Words.{sameWords, isWord}
+use Rattle.backoff.specs.Words.{sameWords}
 use Rattle.backoff.specs.Model.{inProbability, inBackoff}
 use Rattle.backoff.specs.Refusal.{noRoom}
 use Rattle.backoff.specs.Run.{written}
@@ -16,9 +16,7 @@ use Rattle.list.specs.Search.{findBelow, findIn}
 use Rattle.list.specs.Check.{tableFits, placeFits, placesFit, backoffFits, fieldFault, isAfter, shorterListed, orderFault, rowFault, reservedListed, scan, verdict}
 use Rattle.list.specs.ListModel.{continuedBelow, continuedIn}
 use Rattle.list.specs.Sample.{sample}
-use Rattle.double_array.specs.DoubleArray.{freeCheck, markerOf, markerAt, childAt, lookFrom, sizesOk, headOk, orderIn, storeIn, opened}
-use Rattle.double_array.specs.Lookup.{lookupOutcome}
-use Rattle.double_array.specs.declared.Lookup.the-variants.{Found, NotFound}
+use Rattle.double_array.specs.DoubleArray.{freeCheck, sizesOk}
 use Rattle.placing.specs.Trie.{children}
 use Rattle.placing.specs.Placing.{isFree, update, allFree, fits, search, firstFit, own, reach, give, settle, place, placeAll, unplaced, placing, slots}
 use Rattle.build.specs.ListTrie.{nodeOf, rootOf, nodesFrom, nodesOf, placedList, slotsFrom, rowSlots}
@@ -35,18 +33,9 @@ abbrev builtCheck : List ℤ
 builtCheck = pos 3 ∷ negℤ (pos 1) ∷ pos 0 ∷ pos 0 ∷ pos 0 ∷ pos 0 ∷ pos 0 ∷ negℤ (pos 20001) ∷ negℤ (pos 990001) ∷ negℤ (pos 10001) ∷ negℤ (pos 6001) ∷ negℤ (pos 9001) ∷ pos 5 ∷ negℤ (pos 1501) ∷ pos 4 ∷ pos 6 ∷ negℤ (pos 4001) ∷ negℤ (pos 3001) ∷ negℤ (pos 1001) ∷ pos 15 ∷ []
 
 pub record SampleCases : Type 0 where
-  -- K7
   pub enough : sampleBuilt 20 ≡ record { answer = Accepted; base = builtBase; check = builtCheck; work = 2 ∷ 3 ∷ 4 ∷ 5 ∷ 6 ∷ 14 ∷ 12 ∷ 15 ∷ 19 ∷ 7 ∷ [] }
   pub too-few : sampleBuilt 19 ≡ record { answer = Refused noRoom 0; base = replicate 19 (pos 0); check = replicate 19 freeCheck; work = 0 ∷ 0 ∷ 0 ∷ 0 ∷ 0 ∷ 0 ∷ 0 ∷ 0 ∷ 0 ∷ 7 ∷ [] }
-  -- K8
-  pub node : placedList sample .slot (2 ∷ 4 ∷ []) ≡ 12
-  pub marker : getD (sampleBuilt 20 .base) 12 (pos 0) ≡ pos 16
-  pub marker-check : getD (sampleBuilt 20 .check) 16 (pos 0) ≡ negℤ (pos 4001)
-  pub marker-base : getD (sampleBuilt 20 .base) 16 (pos 0) ≡ negℤ (pos 999)
-  -- K6
-  pub listed : lookupOutcome (sampleBuilt 20 .base) (sampleBuilt 20 .check) (2 ∷ 4 ∷ []) ≡ Found (negℤ (pos 4000)) (negℤ (pos 500))
-  pub unlisted : lookupOutcome (sampleBuilt 20 .base) (sampleBuilt 20 .check) (5 ∷ 4 ∷ []) ≡ NotFound
 
 pub sample-cases : SampleCases
-unfolding between upTo sameWords isWord inProbability inBackoff written rowsOf field lengthOf orderOf wordsOf words withoutFirst withoutLast lastLess precedes findBelow findIn tableFits placeFits placesFit backoffFits fieldFault isAfter shorterListed orderFault rowFault reservedListed scan verdict continuedBelow continuedIn markerOf markerAt childAt lookFrom sizesOk headOk orderIn storeIn opened lookupOutcome children isFree update allFree fits search firstFit own reach give settle place placeAll unplaced placing slots nodeOf rootOf nodesFrom nodesOf placedList slotsFrom rowSlots untouched emptied filled buildOutcome
-sample-cases = record { enough = refl; too-few = refl; node = refl; marker = refl; marker-check = refl; marker-base = refl; listed = refl; unlisted = refl }
+unfolding between upTo sameWords inProbability inBackoff written rowsOf field lengthOf orderOf wordsOf words withoutFirst withoutLast lastLess precedes findBelow findIn tableFits placeFits placesFit backoffFits fieldFault isAfter shorterListed orderFault rowFault reservedListed scan verdict continuedBelow continuedIn sizesOk children isFree update allFree fits search firstFit own reach give settle place placeAll unplaced placing slots nodeOf rootOf nodesFrom nodesOf placedList slotsFrom rowSlots untouched emptied filled buildOutcome
+sample-cases = record { enough = refl; too-few = refl }

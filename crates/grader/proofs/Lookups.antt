@@ -11,7 +11,7 @@ use lib.IntN.{ℤ}
 use lib.ListN.{length, length-reverse}
 use Rattle.backoff.specs.Limits.{orderLimit}
 use Rattle.backoff.specs.Refusal.{wordCount}
-use Rattle.backoff.specs.Model.{listed}
+use Rattle.backoff.specs.Store.{lookEntry, storeOf}
 use Rattle.backoff.specs.declared.Verdict.the-variants.{Accepted}
 use Rattle.list.specs.Table.{orderOf}
 use Rattle.list.specs.Search.{findIn}
@@ -23,23 +23,12 @@ use Rattle.list.proofs.ListModel.{accepted-model}
 use Rattle.double_array.specs.Lookup.{lookupOf, lookupIn, lookupOutcome}
 use Rattle.double_array.specs.declared.Lookup.the-variants.{NotFound, Refused}
 use Rattle.build.specs.Listed.{answerAt, listedAnswer}
+use Rattle.build.proofs.Found.{above-order, looked-up}
 use Rattle.unload.specs.Unload.{unloadOutcome}
-use Rattle.unload.specs.Meaning.{rowsPart, lookEntry, storeOf}
+use Rattle.unload.specs.Meaning.{rowsPart}
 use Rattle.unload.proofs.Meaning.{unload-means, unloaded-says}
 
 module _ (t : List ℤ) (a : verdict t ≡ Accepted) (ws : List ℕ) where
-  -- more words than the order are not listed
-  unlisted-above : orderOf t < length ws → (f : Row) → findIn t ws ≡ f → f ≡ Nothing
-  unfolding listed modelOf
-  unlisted-above h Nothing e = refl
-  unlisted-above h (At j) e =
-      let l : listed (modelOf t) (reverse ws) ≡ true = rw (reverse-reverse ws, e) in
-      absurd (omega (arith, accepted-model t a .short (reverse ws) l, length-reverse ws))
-
-  said-found : (f : Row) → lookupOf (lookEntry (entryAt t ws f)) ≡ answerAt t f
-  said-found (At j) = refl
-  said-found Nothing = refl
-
   -- what the list's model says to a lookup is what the list says
   said-lookup : lookupIn (some (storeOf (modelOf t))) ws ≡ listedAnswer t ws
   unfolding storeOf modelOf listedAnswer
@@ -48,8 +37,8 @@ module _ (t : List ℤ) (a : verdict t ≡ Accepted) (ws : List ℕ) where
       go : (counted short : Bool) → leb (length ws) (orderOf t) ≡ short
           → cond counted (cond short (lookupOf (lookEntry (entryAt t ws (findIn t ws)))) NotFound) (Refused wordCount 0) ≡ cond counted (answerAt t (findIn t ws)) (Refused wordCount 0)
       go false short e = refl
-      go true true e = said-found (findIn t ws)
-      go true false e = ap (answerAt t) (sym (unlisted-above (leb-false (length ws) (orderOf t) e) (findIn t ws) refl))
+      go true true e = looked-up t a ws (findIn t ws)
+      go true false e = ap (answerAt t) (sym (above-order t a ws (leb-false (length ws) (orderOf t) e) (findIn t ws) refl))
 
 -- for any words, those outside 1..65,535 too, and any number of them
 pub unloaded-lookup : (base check table : List ℤ) (work ws : List ℕ) → unloadOutcome base check table work .answer ≡ Accepted

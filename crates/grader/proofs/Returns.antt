@@ -25,6 +25,7 @@ use Rattle.build.specs.ListTrie.{rootOf, nodesOf, placedList, slotsFrom, rowSlo
 use Rattle.build.specs.Build.{buildOutcome}
 use Rattle.build.proofs.ListTrie.{nodeAt-root, nodes-ready, findNode-row}
 use Rattle.build.proofs.Built.{built-array, built-order, built-model, built-whole, build-accepted}
+use Rattle.build.proofs.Outcome.{length-slotsFrom, getD-slotsFrom}
 use Rattle.unload.specs.Unload.{walkTo, reached, slotsOf, rowsIn, unloadOutcome}
 use Rattle.unload.specs.Meaning.{Holds}
 use Rattle.unload.proofs.Rows.{rows-tableOf, length-slotsOf}
@@ -46,23 +47,6 @@ walk-laid-out {nodes} {slot} {base} {check} R L (w ∷ us) = go (findNode nodes 
         → walkTo base check (w ∷ us) ≡ childIf (findNode nodes (w ∷ us)) (slot (w ∷ us))
     go none q ih = rw (ih, q, orphan q (findNode nodes (w ∷ us)) refl)
     go (some m) q ih = rw (ih, q) (L .child us m q w)
-
--- ---- the slots of the rows
-
-length-slotsFrom : (t : List ℤ) (i k : ℕ) → length (slotsFrom t i k) ≡ k
-unfolding slotsFrom
-length-slotsFrom t i zero = refl
-length-slotsFrom t i (suc k) = ap suc (length-slotsFrom t (suc i) k)
-
-getD-slotsFrom : (t : List ℤ) (i k j : ℕ) → j < k → getD (slotsFrom t i k) j 0 ≡ placedList t .slot (words t (i + j))
-unfolding slotsFrom
-getD-slotsFrom t i zero j h = absurd (omega arith)
-getD-slotsFrom t i (suc k) zero h = ap (λ (n : ℕ). placedList t .slot (words t n)) (omega arith)
-getD-slotsFrom t i (suc k) (suc j) h = getD-slotsFrom t (suc i) k j (omega arith) ∙ ap (λ (n : ℕ). placedList t .slot (words t n)) (omega arith)
-
-length-rowSlots : (t : List ℤ) → length (rowSlots t) ≡ rowsOf t
-unfolding rowSlots
-length-rowSlots t = length-slotsFrom t 0 (rowsOf t)
 
 -- ---- the first N slots of the placed array
 
@@ -114,7 +98,7 @@ pub unload-returns-the-list : (table base check : List ℤ) (work : List ℕ) (t
 unfolding written
 unload-returns-the-list table base check work table′ work′ e h k =
     let b = build-accepted table base check work e in
-    let n = length-rowSlots table in
+    let n : length (rowSlots table) ≡ rowsOf table = (unfold rowSlots in length-slotsFrom table 0 (rowsOf table)) in
     let u : unloadOutcome (buildOutcome table base check work .base) (buildOutcome table base check work .check) table′ work′ ≡ record { answer = Accepted; table = written table table′; work = written (rowSlots table) work′ } = rw (b .base-slots, b .check-slots) (placed-unloads table (b .accepted) (length base) (b .sizes .low) (b .sizes .high) (b .room) table′ work′ h k) in
     record {
       accepted = rw u;

@@ -18,9 +18,9 @@ use Rattle.backoff.specs.Model.{Entry, listed}
 use Rattle.backoff.specs.Run.{Run, run, first}
 use Rattle.backoff.specs.Runs.{answers}
 use Rattle.backoff.specs.NineNumbers.{nine}
-use Rattle.backoff.specs.Store.{Look, absent, broken, here, entryOf, isBroken, modelIn, runOutcome}
+use Rattle.backoff.specs.Store.{Look, absent, broken, here, entryOf, isBroken, lookEntry, storeOf, modelIn, runOutcome}
 use Rattle.backoff.proofs.Model.{model-ext}
-use Rattle.backoff.proofs.Store.{Whole, packed, answers-over-a-store}
+use Rattle.backoff.proofs.Store.{entryOf-lookEntry, lookEntry-sound, Whole, packed, answers-over-a-store}
 use Rattle.list.specs.Table.{rowsOf, probabilityAt, backoffAt, orderOf, words}
 use Rattle.list.specs.Search.{findIn}
 use Rattle.list.specs.Good.{Good}
@@ -41,21 +41,13 @@ use Rattle.double_array.specs.declared.Child.{Child}
 use Rattle.double_array.specs.declared.Child.the-variants.{At, Nothing}
 use Rattle.double_array.proofs.DoubleArray.{opened-order, opened-some, look-row}
 use Rattle.unload.specs.Unload.{Reached, isRight, walkTo, reached, rowOf, tableOf, allRight, isList, rowsIn}
-use Rattle.unload.specs.Meaning.{lookEntry, storeOf, Holds, Says}
+use Rattle.unload.specs.Meaning.{Holds, Says}
 use Rattle.unload.specs.Steps.{EachTwo, none as no-two, more, IsReached}
 use Rattle.unload.proofs.Reached.{ByKey, walk-child, walk-slot, reached-unique}
 use Rattle.unload.proofs.Rows.{good-row-is-row}
 use Rattle.unload.proofs.Agree.{runOutcome-agrees, startOutcome-agrees}
 
 -- ---- what a store has and its entries
-
-pub entryOf-lookEntry : (o : Option Entry) → entryOf (lookEntry o) ≡ o
-entryOf-lookEntry none = refl
-entryOf-lookEntry (some e) = refl
-
-pub lookEntry-sound : (o : Option Entry) → isBroken (lookEntry o) ≡ false
-lookEntry-sound none = refl
-lookEntry-sound (some e) = refl
 
 look-entry : (x : Look) → isBroken x ≡ false → x ≡ lookEntry (entryOf x)
 look-entry absent e = refl

@@ -8,9 +8,11 @@ pub mod Meaning
 pub mod Climb
 pub mod Items
 pub mod Gathering
-pub mod Merging
+pub mod Numbering
+pub mod Children
+pub mod Queue
+pub mod BreadthFirst
 pub mod Placing
-pub mod Halves
 pub mod Marks
 pub mod Written
 pub mod Listed

@@ -16,10 +16,10 @@ use Rattle.integer.proofs.Ranges.{and-left, and-right, and-both}
 use Rattle.backoff.specs.Refusal.{numberOf, arrayHead, brokenNode, shortSlice}
 use Rattle.backoff.specs.Run.{Run, written, run, first}
 use Rattle.backoff.specs.Runs.{answers}
-use Rattle.backoff.specs.Store.{absent, entryOf, isBroken, modelIn, runOutcome}
+use Rattle.backoff.specs.Store.{absent, entryOf, isBroken, lookEntry, modelIn, runOutcome}
 use Rattle.backoff.specs.NineNumbers.{nine}
 use Rattle.backoff.specs.declared.Verdict.the-variants.{Accepted, Refused}
-use Rattle.backoff.proofs.Store.{packed}
+use Rattle.backoff.proofs.Store.{entryOf-lookEntry, lookEntry-sound, packed}
 use Rattle.list.specs.Table.{rowsOf, orderOf, words}
 use Rattle.list.specs.Search.{findIn}
 use Rattle.list.specs.Check.{verdict}
@@ -34,11 +34,11 @@ use Rattle.double_array.specs.declared.Child.{Child}
 use Rattle.double_array.specs.declared.Child.the-variants.{At, Nothing}
 use Rattle.double_array.proofs.DoubleArray.{opened-none, root-sound, look-here, look-down}
 use Rattle.unload.specs.Unload.{Reached, walkTo, reached, tableOf, allRight, slotsOf, rowsIn, isList, Unloaded, untouched, emptied, filled, unloadOutcome}
-use Rattle.unload.specs.Meaning.{lookEntry, Holds, Says, RefusedBy, no-array, too-short, no-list, rowsPart, UnloadMeans}
+use Rattle.unload.specs.Meaning.{Holds, Says, RefusedBy, no-array, too-short, no-list, rowsPart, UnloadMeans}
 use Rattle.unload.proofs.Reached.{reached-told, reached-shown, walk-child, walk-slot}
 use Rattle.unload.proofs.Rows.{length-tableOf, rows-tableOf, length-slotsOf, row-node, node-row, all-sound}
 use Rattle.unload.proofs.Gathering.{readable}
-use Rattle.unload.proofs.Held.{entryOf-lookEntry, lookEntry-sound, held-says, held-runs-in-a-row, held-table, held-is-list}
+use Rattle.unload.proofs.Held.{held-says, held-runs-in-a-row, held-table, held-is-list}
 
 -- ---- an array whose nodes reached are a list
 

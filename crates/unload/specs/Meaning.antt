@@ -10,7 +10,7 @@ use lib.IntN.{ℤ}
 use Rattle.backoff.specs.Refusal.{arrayHead, brokenNode, shortSlice}
 use Rattle.backoff.specs.Model.{Entry, Model}
 use Rattle.backoff.specs.Run.{Run}
-use Rattle.backoff.specs.Store.{Look, absent, here, Store, isBroken, modelIn, runOutcome, startOutcome}
+use Rattle.backoff.specs.Store.{isBroken, storeOf, modelIn, runOutcome, startOutcome}
 use Rattle.backoff.specs.declared.Verdict.the-variants.{Accepted, Refused}
 use Rattle.list.specs.Table.{rowsOf, orderOf, words}
 use Rattle.list.specs.Check.{verdict}
@@ -19,19 +19,6 @@ use Rattle.double_array.specs.DoubleArray.{isArray, orderIn, storeIn, opened}
 use Rattle.double_array.specs.Lookup.{lookupIn, lookupOutcome}
 use Rattle.double_array.specs.declared.Child.the-variants.{At}
 use Rattle.unload.specs.Unload.{walkTo, rowsIn, Unloaded}
-
--- ---- a model as a store
-
--- what a store without broken nodes has where its model has this
-abbrev pub lookEntry : Option Entry → Look
-lookEntry none = absent
-lookEntry (some e) = here e
-
--- the store that has what the model has
-unfoldable pub storeOf : Model → Store
-storeOf M = record { order = M .order; look = λ l. lookEntry (M .find l) }
-
--- ---- what the answers mean
 
 -- The array holds the list t: t has the array's order n and number of rows, and of at most n words the array has what t has, on sound nodes. Of nodes
 -- of more than n words, which no lookup, start or run comes to, nothing is said.

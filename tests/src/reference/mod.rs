@@ -5,4 +5,5 @@ pub mod build;
 pub mod list;
 pub mod rule;
 pub mod score;
+pub mod totals;
 pub mod unload;

@@ -1,0 +1,127 @@
+-- Laws of splitting a text into lines. Assumes nothing.
+use mathlib.Core.Path.{_≡_, refl, ap, _∙_}
+use mathlib.Core.Bool.{Bool, true, false}
+use mathlib.Core.List.{List, [], _∷_, _++_}
+use Prim.Native.Nat.{ℕ, suc, _+_, _≤_, _<_}
+use native.Mathlib.Omega.{arith}
+use native.Mathlib.Numerals.{add-one}
+use borrow.Author.Tests.{eq-eqb, ne-eqb, lt-leb}
+use lib.Dec.{eqb}
+use lib.ListN.{length, take, drop, getD, drop-of-length-le}
+use lib.Seq.{drop-cons}
+use Rattle.backoff.specs.Refusal.{textLine}
+use Rattle.backoff.specs.Model.{Model}
+use Rattle.totals_text.specs.Lines.{isTextLine, refusedLine}
+use Rattle.totals.specs.Totals.{Line, ended, unended, longer, linesOf, textOutput}
+use Rattle.totals.specs.Steps.{lineEnd, finished}
+
+-- ---- where a line ends
+
+pub end-here : (text : List ℕ) (i : ℕ) → i < length text → getD text i 0 ≡ 10 → lineEnd (drop i text) ≡ 0
+unfolding lineEnd
+end-here text i h e = rw (drop-cons text i 0 h, eq-eqb (getD text i 0) 10 e) refl
+
+pub end-later : (text : List ℕ) (i : ℕ) → i < length text → (getD text i 0 ≡ 10 → ⊥) → lineEnd (drop i text) ≡ suc (lineEnd (drop (i + 1) text))
+unfolding lineEnd
+end-later text i h n = rw (add-one, drop-cons text i 0 h, ne-eqb (getD text i 0) 10 n) refl
+
+pub end-none : (text : List ℕ) (i : ℕ) → length text ≤ i → lineEnd (drop i text) ≡ 0
+unfolding lineEnd
+end-none text i h = rw (drop-of-length-le text h) refl
+
+pub lineEnd-le : (text : List ℕ) → lineEnd text ≤ length text
+unfolding lineEnd
+lineEnd-le [] = omega arith
+lineEnd-le (c ∷ text) = go (lineEnd-le text) (eqb c 10) refl
+  where
+    go : lineEnd text ≤ length text → (b : Bool) → eqb c 10 ≡ b → lineEnd (c ∷ text) ≤ suc (length text)
+    go ih true e = rw e (omega arith)
+    go ih false e = rw e (omega arith)
+
+-- ---- the first line
+
+pub line-ended : (text : List ℕ) → lineEnd text < length text → linesOf text ≡ ended (take (lineEnd text) text) ∷ linesOf (drop (suc (lineEnd text)) text)
+unfolding lineEnd linesOf
+line-ended [] h = absurd (omega arith)
+line-ended (c ∷ text) h = go (line-ended text) (eqb c 10) refl
+  where
+    go : (lineEnd text < length text → linesOf text ≡ ended (take (lineEnd text) text) ∷ linesOf (drop (suc (lineEnd text)) text)) → (b : Bool) → eqb c 10 ≡ b → linesOf (c ∷ text) ≡ ended (take (lineEnd (c ∷ text)) (c ∷ text)) ∷ linesOf (drop (suc (lineEnd (c ∷ text))) (c ∷ text))
+    go ih true e = rw e refl
+    go ih false e = let k : suc (lineEnd text) < suc (length text) = rw e at h in rw e (ap (longer c) (ih (omega arith)) ∙ (unfold longer in refl))
+
+pub line-unended : (text : List ℕ) → lineEnd text ≡ length text → 0 < length text → linesOf text ≡ unended text ∷ []
+unfolding lineEnd linesOf
+line-unended [] e h = absurd (omega arith)
+line-unended (c ∷ []) e h = go (eqb c 10) refl
+  where
+    go : (b : Bool) → eqb c 10 ≡ b → linesOf (c ∷ []) ≡ unended (c ∷ []) ∷ []
+    go true q = let z : _≡_ {A = ℕ} 0 1 = rw q at e in absurd (omega arith)
+    go false q = rw q (unfold longer in refl)
+line-unended (c ∷ d ∷ text) e h = go (line-unended (d ∷ text)) (eqb c 10) refl
+  where
+    go : (lineEnd (d ∷ text) ≡ length (d ∷ text) → 0 < length (d ∷ text) → linesOf (d ∷ text) ≡ unended (d ∷ text) ∷ []) → (b : Bool) → eqb c 10 ≡ b → linesOf (c ∷ d ∷ text) ≡ unended (c ∷ d ∷ text) ∷ []
+    go ih true q = let z : 0 ≡ suc (suc (length text)) = rw q at e in absurd (omega arith)
+    go ih false q = let k : suc (lineEnd (d ∷ text)) ≡ suc (suc (length text)) = rw q at e in rw q (ap (longer c) (ih (omega arith) (omega arith)) ∙ (unfold longer in refl))
+
+-- ---- a line that has begun
+
+-- its characters without the first
+begun-rest : (c : ℕ) (l : List ℕ) → lineEnd (c ∷ l) ≡ suc (length l) → (eqb c 10 ≡ false) × (lineEnd l ≡ length l)
+unfolding lineEnd
+begun-rest c l e = go (eqb c 10) refl
+  where
+    go : (b : Bool) → eqb c 10 ≡ b → (eqb c 10 ≡ false) × (lineEnd l ≡ length l)
+    go true q = let z : 0 ≡ suc (length l) = rw q at e in absurd (omega arith)
+    go false q = let k : suc (lineEnd l) ≡ suc (length l) = rw q at e in (q, omega arith)
+
+pub begun-more : (l : List ℕ) (c : ℕ) → lineEnd l ≡ length l → (c ≡ 10 → ⊥) → lineEnd (l ++ (c ∷ [])) ≡ suc (length l)
+unfolding lineEnd
+begun-more [] c e n = rw (ne-eqb c 10 n) refl
+begun-more (d ∷ l) c e n = let k = begun-rest d l e in rw (k .0) (ap suc (begun-more l c (k .1) n))
+
+pub begun-ends : (l rest : List ℕ) → lineEnd l ≡ length l → linesOf (l ++ (10 ∷ rest)) ≡ ended l ∷ linesOf rest
+unfolding linesOf
+begun-ends [] rest e = refl
+begun-ends (c ∷ l) rest e = let k = begun-rest c l e in rw (k .0) (ap (longer c) (begun-ends l rest (k .1)) ∙ (unfold longer in refl))
+
+-- the first line has so many characters
+FirstLong : ℕ → List Line → Type 0
+FirstLong n [] = n ≤ 0
+FirstLong n (ended l ∷ ls) = n ≤ length l
+FirstLong n (unended l ∷ ls) = n ≤ length l
+
+any-long : (ls : List Line) → FirstLong 0 ls
+unfolding FirstLong
+any-long [] = omega arith
+any-long (ended l ∷ ls) = omega arith
+any-long (unended l ∷ ls) = omega arith
+
+longer-long : (n c : ℕ) (ls : List Line) → FirstLong n ls → FirstLong (suc n) (longer c ls)
+unfolding FirstLong longer
+longer-long n c [] h = omega arith
+longer-long n c (ended l ∷ ls) h = omega arith
+longer-long n c (unended l ∷ ls) h = omega arith
+
+first-long : (l rest : List ℕ) → lineEnd l ≡ length l → FirstLong (length l) (linesOf (l ++ rest))
+unfolding linesOf
+first-long [] rest e = any-long (linesOf rest)
+first-long (c ∷ l) rest e = let k = begun-rest c l e in rw (k .0) (longer-long (length l) c (linesOf (l ++ rest)) (first-long l rest (k .1)))
+
+-- more characters than 64 words have are not in form, whatever follows
+pub too-long : (M : Model) (k : ℕ) (l rest : List ℕ) → lineEnd l ≡ length l → 512 < length l → textOutput M k (linesOf (l ++ rest)) ≡ refusedLine textLine k
+unfolding FirstLong
+too-long M k l rest e h = go (linesOf (l ++ rest)) (first-long l rest e)
+  where
+    long : (m : List ℕ) → length l ≤ length m → isTextLine m ≡ false
+    long m g = unfold isTextLine in rw (lt-leb (length m) 512 (omega arith)) refl
+
+    go : (ls : List Line) → FirstLong (length l) ls → textOutput M k ls ≡ refusedLine textLine k
+    go [] g = absurd (omega arith)
+    go (ended m ∷ ls) g = unfold textOutput in rw (long m g) refl
+    go (unended m ∷ ls) g = unfold textOutput in refl
+
+-- what is printed where TEXT ends in a line that has begun
+pub begun-finished : (M : Model) (k : ℕ) (l : List ℕ) → lineEnd l ≡ length l → textOutput M k (linesOf l) ≡ finished k (length l)
+unfolding finished
+begun-finished M k [] e = unfold linesOf textOutput in refl
+begun-finished M k (c ∷ l) e = rw (line-unended (c ∷ l) e (omega arith), ne-eqb (suc (length l)) 0 (λ z. omega arith)) (unfold textOutput in refl)

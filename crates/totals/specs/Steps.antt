@@ -1,0 +1,84 @@
+-- What the inner functions of the program are held to. Assumes nothing.
+use mathlib.Core.Path.{_≡_}
+use mathlib.Core.Bool.{true, false, cond}
+use mathlib.Core.List.{List, [], _∷_, _++_}
+use Prim.Native.Nat.{ℕ, suc, _+_, _*_, _≤_}
+use lib.Dec.{eqb, leb}
+use lib.IntN.{ℤ}
+use lib.ListN.{length, take}
+use Rattle.backoff.specs.Limits.{endWord}
+use Rattle.backoff.specs.Refusal.{textLine}
+use Rattle.backoff.specs.Model.{Model}
+use Rattle.backoff.specs.State.{start}
+use Rattle.backoff.specs.NineNumbers.{nine}
+use Rattle.backoff.specs.declared.Verdict.the-variants.{Accepted}
+use Rattle.score.specs.Meaning.{rowsIn}
+use Rattle.totals_text.specs.Lines.{isTextLine, textWords, refusedLine}
+use Rattle.totals.specs.declared.ListText.{ListText}
+use Rattle.totals.specs.declared.ListText.the-variants.{Rows, NotInForm}
+use Rattle.totals.specs.declared.Printed.{Printed}
+use Rattle.totals.specs.declared.Progress.{Progress}
+use Rattle.totals.specs.Totals.{linesOf, rows, notInForm, readList, built, sentenceOutput, textOutput}
+
+-- where the first line of a text ends: at its first LF, or at the end of the text
+unfoldable pub lineEnd : List ℕ → ℕ
+lineEnd [] = 0
+lineEnd (c ∷ text) = cond (eqb c 10) 0 (suc (lineEnd text))
+
+-- what is read of LIST, and the table that is left
+abbrev pub ReadAs : List ℕ → ListText → List ℤ → Type 0
+ReadAs text (Rows n) table = (n ≤ 512) × (readList 1 (linesOf text) ≡ rows (take (8 * n) table))
+ReadAs text (NotInForm k) table = readList 1 (linesOf text) ≡ notInForm k
+
+-- the words of a sentence and the closing word
+abbrev pub Closed : List ℕ → List ℕ → Type 0
+Closed line words = isTextLine line ≡ true → take (length (textWords line) + 1) words ≡ textWords line ++ (endWord ∷ [])
+
+-- how many length bytes have 8 added
+unfoldable pub countUnknown : List ℕ → ℕ
+countUnknown [] = 0
+countUnknown (b ∷ bs) = cond (leb 8 b) 1 0 + countUnknown bs
+
+-- the arrays that an accepted build of a table left
+pub record HoldsBuilt (base check : List ℤ) : Type 0 where
+  pub table : List ℤ
+  pub accepted : built table .answer ≡ Accepted
+  pub base-is : base ≡ built table .base
+  pub check-is : check ≡ built table .check
+
+-- and start's state over them
+pub record Ready (base check state : List ℤ) : Type 0 where
+  pub holds : HoldsBuilt base check
+  pub state-is : state ≡ nine (start (rowsIn base check))
+
+-- what a line of TEXT prints
+unfoldable pub lineOutput : Model → ℕ → List ℕ → List ℕ
+lineOutput M k line = cond (isTextLine line) (sentenceOutput M k (textWords line)) (refusedLine textLine k)
+
+-- it stands in `out` behind `before`, up to `end`
+pub record PrintedAs (M : Model) (k : ℕ) (line : List ℕ) (r : Printed) (before : List ℕ) (end : ℕ) (out : List ℕ) : Type 0 where
+  pub accepted : r .accepted ≡ isTextLine line
+  pub room : r .length ≤ 64
+  pub text : take end out ≡ before ++ lineOutput M k line
+
+-- the line that has begun has no LF, and the buffer has room for the longest line
+pub record Begun (progress : Progress) (line : List ℕ) : Type 0 where
+  pub buffer : length line ≡ 512
+  pub room : progress .count ≤ 512
+  pub no-end : lineEnd (take (progress .count) line) ≡ progress .count
+
+-- what is printed for a line that has begun and all that follows it
+abbrev pub outputFrom : Model → Progress → List ℕ → List ℕ → List ℕ
+outputFrom M progress line rest = textOutput M (progress .number) (linesOf (take (progress .count) line ++ rest))
+
+-- A piece of TEXT was read and `text` printed: whatever follows the piece, the whole output begins with it, and goes on unless it has ended with a
+-- refusal.
+pub record Fed (M : Model) (piece : List ℕ) (before : Progress) (line : List ℕ) (after : Progress) (left : List ℕ) (text : List ℕ) : Type 0 where
+  pub begun : Begun after left
+  pub number : after .number ≤ before .number + length piece
+  pub refused : after .refused ≡ true → (rest : List ℕ) → outputFrom M before line (piece ++ rest) ≡ text
+  pub onward : after .refused ≡ false → (rest : List ℕ) → outputFrom M before line (piece ++ rest) ≡ text ++ outputFrom M after left rest
+
+-- what is printed at the end of TEXT, where so many characters of line k have come
+unfoldable pub finished : ℕ → ℕ → List ℕ
+finished k count = cond (eqb count 0) [] (refusedLine textLine k)
