@@ -2,7 +2,7 @@
 //! that change in place.
 
 use crate::list::{LARGEST_B, LARGEST_WORD, LOWEST_P};
-use crate::score::State;
+use crate::score::{Items, State};
 
 /// The words, 16 bits each, the newest one lowest, and item i of `sums` the sum of the first i back-offs; what lies past `count` is of no account.
 #[derive(Clone, Copy, Default)]
@@ -14,23 +14,11 @@ pub struct Packed {
 
 impl State for Packed {
     fn read(cells: &[i32; 9], order: i32) -> Option<Packed> {
-        let count = cells[0];
-        if count < 0 || count >= order {
-            return None;
-        }
-        let mut state = Packed { count: count as usize, ..Packed::default() };
+        let Items { count, words, back_offs } = Items::read(cells, order)?;
+        let mut state = Packed { count, ..Packed::default() };
         for i in 0..4 {
-            let (word, b) = (cells[1 + i], cells[5 + i]);
-            let fits = if i < state.count {
-                (1..=LARGEST_WORD).contains(&word) && (-LARGEST_B..=LARGEST_B).contains(&b)
-            } else {
-                word == 0 && b == 0
-            };
-            if !fits {
-                return None;
-            }
-            state.words |= (word as u64) << (16 * i);
-            state.sums[i + 1] = state.sums[i] + b;
+            state.words |= (words[i] as u64) << (16 * i);
+            state.sums[i + 1] = state.sums[i] + back_offs[i];
         }
         Some(state)
     }

@@ -18,9 +18,9 @@ pub trait State: Default {
 /// Words newest first, and the back-offs of the newest word, of the newest two, and so on; unused ones are 0.
 #[derive(Clone, Copy, Default)]
 pub struct Items {
-    count: usize,
-    words: [u32; 4],
-    back_offs: [i32; 4],
+    pub count: usize,
+    pub words: [u32; 4],
+    pub back_offs: [i32; 4],
 }
 
 impl State for Items {
