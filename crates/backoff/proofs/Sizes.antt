@@ -2,7 +2,7 @@
 -- Assumes nothing.
 use mathlib.Core.Path.{_≡_, refl, sym, _∙_}
 use mathlib.Core.Logic.{_⊎_, inl, inr}
-use mathlib.Core.Bool.{Bool, true, false, false≢true}
+use mathlib.Core.Bool.{Bool, true, false}
 use mathlib.Core.List.{List, [], _∷_, map}
 use mathlib.Core.Option.{some}
 use Prim.Native.Nat.{ℕ, suc, _+_, _*_, _≤_, _<_}
@@ -10,8 +10,8 @@ use native.Mathlib.Omega.{arith}
 use lib.ListN.{length, take, drop, getD, length-drop, List·getD-map}
 use lib.Seq.{getD-drop}
 use lib.IntN.{ℤ, pos, negℤ, natAbs, _+ℤ_}
-use lib.Dec.{eqb, ltb}
-use borrow.Author.Tests.{ltb-false, eqb-true}
+use lib.Dec.{eqb}
+use borrow.Author.Tests.{eqb-true}
 use Rattle.integer.specs.Integer.{sum, between}
 use Rattle.integer.proofs.Arithmetic.{zarith, up, down, abs, add}
 use Rattle.integer.proofs.Ranges.{between-low, between-high}
@@ -20,10 +20,11 @@ use Rattle.backoff.specs.Limits.{leastProbability, largestBackoff, order
 use Rattle.backoff.specs.Model.{Model, inProbability, inBackoff, probability, backoff, reach}
 use Rattle.backoff.specs.Rule.{replaced}
 use Rattle.backoff.specs.State.{State, walk, pointsFrom, stepPoints, stepNext}
-use Rattle.backoff.specs.Run.{Run, refusal, accepted, acceptedRun, refusedRun, runPoints}
+use Rattle.backoff.specs.Run.{Run, accepted, acceptedRun, refusedRun, runPoints}
 use Rattle.backoff.specs.NineNumbers.{all, stateIn, stateOk}
 use Rattle.backoff.specs.Store.{Store, modelIn, runOver, refusedAt, brokenRun, runOutcome}
 use Rattle.backoff.proofs.NineNumbers.{passed, Bounded, stateOk-bounded, nextFrom-bounded}
+use Rattle.backoff.proofs.Run.{fits}
 use Rattle.backoff.proofs.Store.{modelRan, runOver-cases}
 
 natAbs-add : (a b : ℤ) → natAbs (a +ℤ b) ≤ natAbs a + natAbs b
@@ -69,14 +70,6 @@ module _ (M : Model) (in-probability : (l : List ℕ) → inProbability (probabi
     runPoints-size (w ∷ ws) s b =
         omega (arith, natAbs-add (stepPoints M s w) (sum (runPoints M (stepNext M s w) ws)), points-size b (replaced M w), b .few, runPoints-size ws (stepNext M s w) (nextFrom-bounded M in-backoff s (replaced M w)))
 
-accepted-few : (r : Run) → accepted r ≡ true → length (r .words) ≤ runLimit
-unfolding accepted refusal
-accepted-few r e = go (ltb runLimit (length (r .words))) refl
-  where
-    go : (b : Bool) → ltb runLimit (length (r .words)) ≡ b → length (r .words) ≤ runLimit
-    go true q = absurd (false≢true (rw q at e))
-    go false q = ltb-false _ _ q
-
 module _ (S : Store) (in-probability : (l : List ℕ) → inProbability (probability (modelIn S) l) ≡ true) (in-backoff : (l : List ℕ) → inBackoff (backoff (modelIn S) l) ≡ true) (order : S .order ≤ orderLimit) where
   pub total-size : (l : List ℤ) (r : Run) → natAbs (runOutcome (some S) l r .total) ≤ runLimit * (orderLimit * largestBackoff)
   total-size l r = go (eqb (length l) 9) refl (stateOk (S .order) l) refl (accepted r) refl (runOver-cases S (r .words) (stateIn l) 1)
@@ -89,4 +82,4 @@ module _ (S : Store) (in-probability : (l : List ℕ) → inProbability (probabi
       go true e true f true g (inr o) =
           unfold runOutcome acceptedRun in
           rw (e, f, g, o)
-          (omega (arith, accepted-few r g, runPoints-size (modelIn S) in-probability in-backoff (unfold modelIn reach in omega arith) (r .words) (stateIn l) (unfold modelIn reach in stateOk-bounded (S .order) l (eqb-true _ _ e) order f)))
+          (omega (arith, fits r (eqb-true _ _ (unfold accepted in g)) .few, runPoints-size (modelIn S) in-probability in-backoff (unfold modelIn reach in omega arith) (r .words) (stateIn l) (unfold modelIn reach in stateOk-bounded (S .order) l (eqb-true _ _ e) order f)))

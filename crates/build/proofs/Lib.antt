@@ -10,5 +10,4 @@ pub mod Parts
 pub mod Turn
 pub mod NodeByNode
 pub mod Continued
-pub mod Each
 pub mod Outcome

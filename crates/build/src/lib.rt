@@ -267,33 +267,13 @@ fn place_nodes(table: &[i32], base: &mut [i32], check: &mut [i32], work: &mut [u
     place_rows(table, base, check, work)
 }
 
-fn fill(slots: &mut [i32], value: i32)
-    ensures { λ _. ⌜ now (slots .exit) ≡ replicate (length (now (slots .entry))) value ⌝ }
-{
-    let mut t = 0;
-    while t < slots.len() {
-        slots[t] = value;
-        t += 1;
-    }
-}
-
-fn zero(work: &mut [u32])
-    ensures { λ _. ⌜ now (work .exit) ≡ replicate (length (now (work .entry))) 0 ⌝ }
-{
-    let mut i = 0;
-    while i < work.len() {
-        work[i] = 0;
-        i += 1;
-    }
-}
-
 // Frees all slots and empties the work items.
 fn wipe(base: &mut [i32], check: &mut [i32], work: &mut [u32])
     ensures { λ _. ⌜ Wiped (now (base .entry)) (now (check .entry)) (now (work .entry)) (now (base .exit)) (now (check .exit)) (now (work .exit)) ⌝ }
 {
-    fill(base, 0);
-    fill(check, double_array::FREE);
-    zero(work);
+    double_array::fill(base, 0);
+    double_array::fill(check, double_array::FREE);
+    double_array::zero(work);
 }
 
 // Sets f of the row that is row i without its last word, which is likely among the shorter rows.

@@ -3,7 +3,7 @@ ghost use mathlib.Core.Path.{_≡_};
 ghost use mathlib.Core.Bool.{true};
 ghost use mathlib.Core.List.{reverse};
 ghost use Prim.Native.Nat.{ℕ, _≤_, _<_};
-ghost use lib.ListN.{length};
+ghost use lib.ListN.{length, replicate};
 ghost use Rattle.backoff.specs.Limits.{slotLimit};
 ghost use Rattle.backoff.specs.Model.{inProbability, inBackoff};
 ghost use Rattle.double_array.specs.DoubleArray.{markerCheck, markerBase, markerOf, markerAt, childAt, lookFrom, sizesOk, headOk, isArray};
@@ -184,4 +184,26 @@ pub fn look_up(base: &[i32], check: &[i32], words: &[u32]) -> Lookup
         return Lookup::NotFound;
     }
     walk(base, check, words)
+}
+
+// Writes one value everywhere.
+pub fn fill(numbers: &mut [i32], value: i32)
+    ensures { λ _. ⌜ now (numbers .exit) ≡ replicate (length (now (numbers .entry))) value ⌝ }
+{
+    let mut t = 0;
+    while t < numbers.len() {
+        numbers[t] = value;
+        t += 1;
+    }
+}
+
+// Writes 0 everywhere.
+pub fn zero(work: &mut [u32])
+    ensures { λ _. ⌜ now (work .exit) ≡ replicate (length (now (work .entry))) 0 ⌝ }
+{
+    let mut i = 0;
+    while i < work.len() {
+        work[i] = 0;
+        i += 1;
+    }
 }

@@ -13,11 +13,11 @@ use lib.ListN.{length, length-map}
 use borrow.Author.Tests.{eqb-true, eqb-false}
 use Rattle.integer.proofs.Ranges.{lt-or-ge, upTo-le}
 use Rattle.backoff.specs.Limits.{wordLimit}
-use Rattle.backoff.specs.Words.{sameWords, areWords}
+use Rattle.backoff.specs.Words.{sameWords, areWords, radix, key}
 use Rattle.list.specs.Table.{rowsOf, field, wordOf, wordsOf, words, withoutFirst}
 use Rattle.list.specs.Search.{findBelow, findIn, isAt, Stretch}
 use Rattle.list.specs.Good.{GoodRow, Good}
-use Rattle.list.specs.Keys.{radix, key, rowKey, findKey, Bracket, Window}
+use Rattle.list.specs.Keys.{rowKey, findKey, Bracket, Window}
 use Rattle.list.specs.declared.Found.{Found}
 use Rattle.list.specs.declared.Found.the-variants.{At, Nothing}
 use Rattle.backoff.proofs.Words.{same-eq}

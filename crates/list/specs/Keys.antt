@@ -1,21 +1,13 @@
 -- Keys: how the code holds and compares words. Only private contracts cite them. Assumes nothing.
 use mathlib.Core.Bool.{cond}
-use mathlib.Core.List.{List, [], _∷_}
+use mathlib.Core.List.{List}
 use Prim.Native.Nat.{ℕ, zero, suc, _+_, _*_, _<_, _≤_}
 use lib.Dec.{eqb}
 use lib.IntN.{ℤ}
+use Rattle.backoff.specs.Words.{key}
 use Rattle.list.specs.Table.{rowsOf, words}
 use Rattle.list.specs.declared.Found.{Found}
 use Rattle.list.specs.declared.Found.the-variants.{At, Nothing}
-
--- one more than the largest word
-abbrev pub radix : ℕ
-radix = 65536
-
--- the words as the digits of one number, the last word the highest
-unfoldable pub key : List ℕ → ℕ
-key [] = 0
-key (w ∷ ws) = w + radix * key ws
 
 unfoldable pub rowKey : List ℤ → ℕ → ℕ
 rowKey t i = key (words t i)

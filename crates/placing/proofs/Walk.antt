@@ -1,19 +1,16 @@
 -- What a correct layout of a trie is, told by what a walk can see of it; that it suffices for walking; and that the placing rule's array is one.
 -- Assumes nothing.
-use mathlib.Core.Path.{_≡_, refl, sym, ap₂, _∙_}
+use mathlib.Core.Path.{_≡_, refl, sym, ap, ap₂, _∙_}
 use mathlib.Core.Logic.{_≢_}
-use mathlib.Core.Bool.{Bool, true, false, cond, _&&_}
+use mathlib.Core.Bool.{true}
 use mathlib.Core.List.{List, [], _∷_, List·Memᴰ, reverse, reverseAux}
 use mathlib.Core.Option.{Option, none, some, Option·none-ne-some}
 use Prim.Native.Nat.{ℕ, _≤_, _<_}
 use native.Mathlib.Omega.{arith}
-use borrow.Author.Tests.{ltb-true, lt-ltb, le-leb}
-use lib.Dec.{leb, ltb}
-use lib.IntN.{ℤ, pos, negsuc, pos-ne-negsuc}
+use borrow.Author.Tests.{lt-ltb, le-leb}
+use lib.IntN.{ℤ, pos, negsuc, natAbs, pos-ne-negsuc}
 use lib.ListN.{length}
-use Rattle.integer.specs.Integer.{eqZ}
-use Rattle.integer.proofs.Arithmetic.{zarith, eqZ-yes}
-use Rattle.integer.proofs.Ranges.{and-left, and-right}
+use Rattle.integer.proofs.Arithmetic.{zarith}
 use Rattle.backoff.specs.Words.{isWord}
 use Rattle.backoff.specs.Store.{Look, absent}
 use Rattle.double_array.specs.declared.Marker.{Marker}
@@ -21,6 +18,7 @@ use Rattle.double_array.specs.declared.Marker.the-variants.{Sound, Broken}
 use Rattle.double_array.specs.declared.Child.{Child}
 use Rattle.double_array.specs.declared.Child.the-variants.{At, Nothing}
 use Rattle.double_array.specs.DoubleArray.{freeCheck, markerOf, childSlot, baseAt, checkAt, markerAt, childAt, lookMarker, past, downTo, lookFrom}
+use Rattle.double_array.proofs.DoubleArray.{child-told, child-shown}
 use Rattle.placing.specs.Trie.{Node, findNode, Ready}
 use Rattle.placing.specs.Placing.{Placed, placing, slots}
 use Rattle.placing.proofs.Trie.{child-found, found-child, found-in, root-found, found-word, absent-below}
@@ -85,26 +83,21 @@ module _ (base check : List ℤ) (s : ℕ) {d : ℕ} (b : baseAt base check s �
   unfolding markerAt
   marker-read l = rw (b, le-leb 1 d p, lt-ltb d (length check) l)
 
+  child-place : (w : ℕ) → childSlot (natAbs (baseAt base check s)) w ≡ childSlot d w
+  child-place w = ap (λ (z : ℤ). childSlot (natAbs z) w) b
+
   child-there : (w : ℕ) → isWord w ≡ true → childSlot d w < length check → checkAt base check (childSlot d w) ≡ pos s → childAt base check s w ≡ At (childSlot d w)
-  unfolding childAt
-  child-there w e l q = rw (b, e, le-leb 1 d p, lt-ltb (childSlot d w) (length check) l, q, eqZ-yes (pos s) (pos s) refl)
+  child-there w e l q = child-shown base check s w (childSlot d w) (record { word = e; some-base = omega zarith; slot = child-place w; inside = l; owner = q })
 
   child-none : (w : ℕ) → (childSlot d w < length check → checkAt base check (childSlot d w) ≡ pos s → ⊥) → childAt base check s w ≡ Nothing
-  unfolding childAt
-  child-none w h = rw b (go (isWord w && (leb 1 d && (inside && owned))) refl)
+  child-none w h = go (childAt base check s w) refl
     where
-      inside : Bool
-      inside = ltb (childSlot d w) (length check)
-
-      owned : Bool
-      owned = eqZ (checkAt base check (childSlot d w)) (pos s)
-
-      go : (t : Bool) → (isWord w && (leb 1 d && (inside && owned))) ≡ t → cond t (At (childSlot d w)) Nothing ≡ Nothing
-      go true e =
-          let i = and-right (leb 1 d) (inside && owned) (and-right (isWord w) (leb 1 d && (inside && owned)) e) in
-          let o : owned ≡ true = and-right inside owned i in
-          absurd (h (ltb-true (childSlot d w) (length check) (and-left inside owned i)) (omega zarith))
-      go false e = refl
+      go : (r : Child) → childAt base check s w ≡ r → r ≡ Nothing
+      go (At t) e =
+          let c = child-told base check s w t e in
+          let same = sym (child-place w) ∙ c .slot in
+          absurd (h (rw same (c .inside)) (rw same (c .owner)))
+      go Nothing e = refl
 
 -- ---- the placing rule's array
 

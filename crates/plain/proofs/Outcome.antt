@@ -1,17 +1,14 @@
 -- Laws of the outcome of plain scoring: each answer is the outcome's, and means what it says. Assumes nothing.
 use mathlib.Core.Path.{_≡_, refl, ap, _∙_}
-use mathlib.Core.Bool.{Bool, true, false, cond, _||_}
+use mathlib.Core.Bool.{Bool}
 use mathlib.Core.List.{List}
-use Prim.Native.Nat.{ℕ, _≤_}
+use Prim.Native.Nat.{ℕ}
 use native.Mathlib.Omega.{arith}
-use lib.Dec.{ltb}
-use lib.ListN.{length}
 use lib.Seq.{take-at}
 use lib.IntN.{ℤ, pos}
-use borrow.Author.Tests.{ltb-false, ne-eqb}
+use borrow.Author.Tests.{ne-eqb}
 use Rattle.integer.specs.Integer.{sum}
-use Rattle.backoff.specs.Limits.{runLimit}
-use Rattle.backoff.specs.Refusal.{numberOf, wordCount, shortSlice}
+use Rattle.backoff.specs.Refusal.{numberOf}
 use Rattle.backoff.specs.declared.Verdict.the-variants.{Accepted, Refused}
 use Rattle.backoff.specs.Rule.{rulePoints, ruleBytes}
 use Rattle.backoff.specs.Run.{Run, refusal, accepted, written, refusedRun, acceptedRun, front, plain}
@@ -21,26 +18,6 @@ use Rattle.list.specs.ListModel.{modelOf}
 use Rattle.list.proofs.Check.{number-accepted}
 use Rattle.list.proofs.ListModel.{accepted-model}
 use Rattle.plain.specs.Plain.{plainOutcome, Answers, PlainMeans}
-
--- ---- 14 and 15
-
--- what no refusal leaves of a run
-pub record Fits (r : Run) : Type 0 where
-  pub few : length (r .words) ≤ runLimit
-  pub points-hold : length (r .words) ≤ length (r .points)
-  pub lengths-hold : length (r .words) ≤ length (r .lengths)
-
-pub fits : (r : Run) → refusal r ≡ 0 → Fits r
-unfolding refusal
-fits r = go (ltb runLimit (length (r .words))) (ltb (length (r .points)) (length (r .words))) (ltb (length (r .lengths)) (length (r .words))) refl refl refl
-  where
-    go : (a b c : Bool) → ltb runLimit (length (r .words)) ≡ a → ltb (length (r .points)) (length (r .words)) ≡ b → ltb (length (r .lengths)) (length (r .words)) ≡ c → cond a wordCount (cond (b || c) shortSlice 0) ≡ 0 → Fits r
-    go true b c d e f z = absurd (omega arith)
-    go false true c d e f z = absurd (omega arith)
-    go false false true d e f z = absurd (omega arith)
-    go false false false d e f z = record { few = ltb-false _ _ d; points-hold = ltb-false _ _ e; lengths-hold = ltb-false _ _ f }
-
--- ---- the answers, with what they mean
 
 module _ (t : List ℤ) (b : Bool) (r : Run) where
   answer-refused : (n p : ℕ) → (n ≡ 0 → ⊥) → plainOutcome t b r ≡ refusedRun n p tt r → Answers (plainOutcome t b r) (record { number = n; place = p; total = pos 0 }) (r .points) (r .lengths) × PlainMeans t b r n (pos 0) (r .points) (r .lengths)

@@ -9,17 +9,14 @@ ghost use Rattle.integer.specs.Integer.{sum};
 ghost use Rattle.backoff.specs.Limits.{orderLimit, runLimit};
 ghost use Rattle.backoff.specs.Words.{areWords};
 ghost use Rattle.backoff.specs.Rule.{replaced, scoreAfter, lengthByte, rulePoints, ruleBytes};
-ghost use Rattle.backoff.specs.Run.{refusal, written, front};
+ghost use Rattle.backoff.specs.Run.{written, front};
 ghost use Rattle.backoff.specs.declared.Verdict.the-variants.{Accepted};
 ghost use Rattle.list.specs.Table.{orderOf, wordOf, wordsOf};
 ghost use Rattle.list.specs.Check.{verdict};
 ghost use Rattle.list.specs.ListModel.{modelOf};
 ghost use Rattle.plain.specs.Plain.{runOf, plainOutcome, Answers, PlainMeans};
 ghost use Rattle.plain.specs.Held.{IsRow, IsScore, IsScored, FiveWords, lastWord, wordsBefore, begun, pushed};
-use backoff::RUN_LIMIT;
-use backoff::SHORT_SLICE;
 use backoff::Verdict;
-use backoff::WORD_COUNT;
 use backoff::WORD_LIMIT;
 use list::Found;
 
@@ -227,22 +224,6 @@ fn score_words(
     total
 }
 
-// 14 for too many words, 15 for a slice that is too short, 0 for neither.
-fn run_fault(words: &[u32], points: &[i32], lengths: &[u8]) -> u32
-    ensures { λ r. ⌜ r ≡ refusal (runOf (now (words .entry)) (now (points .entry)) (now (lengths .entry))) ⌝ }
-{
-    if words.len() > RUN_LIMIT {
-        return WORD_COUNT;
-    }
-    if points.len() < words.len() {
-        return SHORT_SLICE;
-    }
-    if lengths.len() < words.len() {
-        return SHORT_SLICE;
-    }
-    0
-}
-
 // The refusal's number and place, 0 and 0 where there is none, and the total.
 pub struct Plain {
     pub number: u32,
@@ -269,7 +250,7 @@ pub fn score_plain(
             total: 0,
         };
     }
-    let fault = run_fault(words, points, lengths);
+    let fault = backoff::run_fault(words.len(), points.len(), lengths.len());
     if fault != 0 {
         return Plain {
             number: fault,

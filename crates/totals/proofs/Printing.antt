@@ -5,27 +5,27 @@ use Prim.Native.Nat.{ℕ, _+_, _≤_}
 use native.Mathlib.Omega.{arith}
 use lib.ListN.{length, take, drop, length-append, length-drop}
 use lib.Seq.{take-at, length-take-le, paste, take-paste}
+use Rattle.backoff.specs.Run.{written}
 use Rattle.io.specs.Counts.{Counts}
-use Rattle.totals_text.specs.Lines.{onto}
 
 -- the line that was written
-pub front-of : {A : Type 0} (n : ℕ) (line old out : List A) → n ≡ length line → out ≡ onto line old → take n out ≡ line
-unfolding onto
+pub front-of : {A : Type 0} (n : ℕ) (line old out : List A) → n ≡ length line → out ≡ written line old → take n out ≡ line
+unfolding written
 front-of {A} n line old out e f = ap (λ (l : List A). take n l) f ∙ take-at line _ n (sym e)
 
-pub length-onto : {A : Type 0} (new old : List A) → length new ≤ length old → length (onto new old) ≡ length old
-unfolding onto
-length-onto new old h = omega (arith, length-append new (drop (length new) old), length-drop (length new) old)
+pub length-written : {A : Type 0} (new old : List A) → length new ≤ length old → length (written new old) ≡ length old
+unfolding written
+length-written new old h = omega (arith, length-append new (drop (length new) old), length-drop (length new) old)
 
 -- its length is a count of the buffer's characters
-pub counted : (n : ℕ) (line old out : List ℕ) → n ≡ length line → out ≡ onto line old → Counts n out
-unfolding onto
+pub counted : (n : ℕ) (line old out : List ℕ) → n ≡ length line → out ≡ written line old → Counts n out
+unfolding written
 counted n line old out e f =
     let k : n ≤ length out = omega (arith, ap length f, length-append line (drop (length line) old)) in
     (k, sym (length-take-le n out k))
 
-pub length-line : (n : ℕ) (line old out : List ℕ) → n ≡ length line → out ≡ onto line old → n ≤ length old → length out ≡ length old
-length-line n line old out e f h = ap length f ∙ length-onto line old (omega arith)
+pub length-line : (n : ℕ) (line old out : List ℕ) → n ≡ length line → out ≡ written line old → n ≤ length old → length out ≡ length old
+length-line n line old out e f h = ap length f ∙ length-written line old (omega arith)
 
 -- a line that was copied behind what stands in the buffer
 pub appended : (out line out′ text : List ℕ) (at n : ℕ) → out′ ≡ paste out at line n → at + n ≤ length out → n ≤ length line → take n line ≡ text → take (at + n) out′ ≡ take at out ++ text

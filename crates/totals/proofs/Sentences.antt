@@ -16,12 +16,13 @@ use Rattle.backoff.specs.Limits.{startWord, endWord}
 use Rattle.backoff.specs.Refusal.{textLine}
 use Rattle.backoff.specs.Model.{Model}
 use Rattle.backoff.specs.Rule.{rulePoints}
+use Rattle.backoff.specs.Run.{written}
 use Rattle.totals_text.specs.declared.TextLine.the-variants.{Words, NotInForm}
-use Rattle.totals_text.specs.Lines.{isTextLine, textWords, textAnswer, sentenceLine, refusedLine, onto}
+use Rattle.totals_text.specs.Lines.{isTextLine, textWords, textAnswer, sentenceLine, refusedLine}
 use Rattle.totals_text.proofs.Lines.{length-words}
 use Rattle.totals.specs.Totals.{unknownIn, totalOf, sentenceOutput}
 use Rattle.totals.specs.Steps.{lineOutput}
-use Rattle.totals.proofs.Printing.{length-onto}
+use Rattle.totals.proofs.Printing.{length-written}
 
 -- a line that is in form is answered with its words
 pub not-words : (line : List ℕ) → isTextLine line ≡ true → textAnswer line ≡ NotInForm → ⊥
@@ -58,11 +59,11 @@ in-form line n e = go (isTextLine line) refl
     go false q = let z : _≡_ {A = ℕ} 0 1 = cc (rw q at e) in absurd (omega arith)
 
 -- the words and the closing word stand at the front
-pub closed : (line words₀ words : List ℕ) (n : ℕ) → isTextLine line ≡ true → n ≡ length (textWords line) → n < length words₀ → words ≡ cond (isTextLine line) (onto (textWords line) words₀) words₀ → take (length (textWords line) + 1) (set words n endWord) ≡ textWords line ++ (endWord ∷ [])
-unfolding onto
+pub closed : (line words₀ words : List ℕ) (n : ℕ) → isTextLine line ≡ true → n ≡ length (textWords line) → n < length words₀ → words ≡ cond (isTextLine line) (written (textWords line) words₀) words₀ → take (length (textWords line) + 1) (set words n endWord) ≡ textWords line ++ (endWord ∷ [])
+unfolding written
 closed line words₀ words n e f h g =
     rw (← f, add-one)
-    (take-suc-set words n endWord (omega (arith, ap length (rw e at g), length-onto (textWords line) words₀ (omega arith)))
+    (take-suc-set words n endWord (omega (arith, ap length (rw e at g), length-written (textWords line) words₀ (omega arith)))
     ∙ ap (λ (l : List ℕ). l ++ (endWord ∷ [])) (ap (λ (l : List ℕ). take n l) (rw e at g) ∙ take-at (textWords line) _ n (sym f)))
 
 -- the line of a sentence whose words were counted and scored with the closing word behind them

@@ -13,10 +13,11 @@ ghost use Rattle.integer.specs.Integer.{sum};
 ghost use Rattle.backoff.specs.Limits.{startWord};
 ghost use Rattle.backoff.specs.Refusal.{textLine};
 ghost use Rattle.backoff.specs.Rule.{rulePoints};
+ghost use Rattle.backoff.specs.Run.{written};
 ghost use Rattle.io.specs.Counts.{Counts};
 ghost use Rattle.score.specs.Answers.{numbersOf};
 ghost use Rattle.score.specs.Meaning.{rowsIn};
-ghost use Rattle.totals_text.specs.Lines.{isListLine, listRow, isTextLine, textAnswer, sentenceLine, refusedLine, onto};
+ghost use Rattle.totals_text.specs.Lines.{isListLine, listRow, isTextLine, textAnswer, sentenceLine, refusedLine};
 ghost use Rattle.totals.specs.Totals.{unknownIn};
 ghost use Rattle.totals.specs.Steps.{lineEnd, ReadAs, Closed, countUnknown, HoldsBuilt, Ready, lineOutput, PrintedAs, Begun, Fed, finished};
 
@@ -173,7 +174,7 @@ fn score_sentence(
     requires { ⌜ (1 ≤ length (now words)) × (length (now words) ≤ 65) ⌝ }
     ensures length { λ r. ⌜ r ≡ length (sentenceLine number n (unknownIn (rowsIn (now (base .entry)) (now (check .entry))) (take (length (now (words .entry)) - 1) (now (words .entry)))) (sum (rulePoints (rowsIn (now (base .entry)) (now (check .entry))) (startWord ∷ []) (now (words .entry))))) ⌝ }
     ensures room { λ r. ⌜ r ≤ 64 ⌝ }
-    ensures text { λ _. ⌜ now (out .exit) ≡ onto (sentenceLine number n (unknownIn (rowsIn (now (base .entry)) (now (check .entry))) (take (length (now (words .entry)) - 1) (now (words .entry)))) (sum (rulePoints (rowsIn (now (base .entry)) (now (check .entry))) (startWord ∷ []) (now (words .entry))))) (now (out .entry)) ⌝ }
+    ensures text { λ _. ⌜ now (out .exit) ≡ written (sentenceLine number n (unknownIn (rowsIn (now (base .entry)) (now (check .entry))) (take (length (now (words .entry)) - 1) (now (words .entry)))) (sum (rulePoints (rowsIn (now (base .entry)) (now (check .entry))) (startWord ∷ []) (now (words .entry))))) (now (out .entry)) ⌝ }
 {
     let mut points = [0i32; 65];
     let mut lengths = [0u8; 65];
@@ -196,7 +197,7 @@ fn print_sentence(
     ensures accepted { λ r. ⌜ r .accepted ≡ isTextLine (now (line .entry)) ⌝ }
     ensures length { λ r. ⌜ r .length ≡ length (lineOutput (rowsIn (now (base .entry)) (now (check .entry))) number (now (line .entry))) ⌝ }
     ensures room { λ r. ⌜ r .length ≤ 64 ⌝ }
-    ensures text { λ r. ⌜ now (out .exit) ≡ onto (lineOutput (rowsIn (now (base .entry)) (now (check .entry))) number (now (line .entry))) (now (out .entry)) ⌝ }
+    ensures text { λ r. ⌜ now (out .exit) ≡ written (lineOutput (rowsIn (now (base .entry)) (now (check .entry))) number (now (line .entry))) (now (out .entry)) ⌝ }
 {
     let sentence = read_sentence(line);
     let read = sentence.read;

@@ -15,11 +15,12 @@ use mir.Syntax.{w64}
 use mir.Val.{SFits}
 use Rattle.integer.proofs.Arithmetic.{zarith, abs-le}
 use Rattle.integer.proofs.Ranges.{and-left, and-right, and-both}
+use Rattle.backoff.specs.Run.{written}
 use Rattle.totals_text.specs.declared.Column.{Column}
 use Rattle.totals_text.specs.declared.Column.the-variants.{Number, NotInForm}
 use Rattle.totals_text.specs.declared.TextLine.the-variants.{Words, NotInForm as NoWords}
 use Rattle.totals_text.specs.Columns.{digits, signed, numeral, justified, column, leastNumber, readColumn}
-use Rattle.totals_text.specs.Lines.{columns, inForm, allInForm, numberOf, wordOf, isListLine, listRow, isTextLine, textWords, textAnswer, lineOf, AllHeld, ListForm, ListLineMeans, TextForm, TextLineMeans, refusedWord, countColumns, sentenceLine, refusedLine, onto}
+use Rattle.totals_text.specs.Lines.{columns, inForm, allInForm, numberOf, wordOf, isListLine, listRow, isTextLine, textWords, textAnswer, lineOf, AllHeld, ListForm, ListLineMeans, TextForm, TextLineMeans, refusedWord, countColumns, sentenceLine, refusedLine}
 use Rattle.totals_text.proofs.Digits.{digits-le}
 use Rattle.totals_text.proofs.Columns.{length-justified, read-eight, printed-read, column-eight, column-range}
 
@@ -53,16 +54,16 @@ unfolding refusedLine
 length-refused number place = rw (length-append, length-append, length-append) refl
 
 -- stores from the front on
-pub sets-onto : {A : Type 0} (old new : List A) → length new ≤ length old → sets old 0 new ≡ onto new old
-unfolding onto
-sets-onto old new h =
+pub sets-written : {A : Type 0} (old new : List A) → length new ≤ length old → sets old 0 new ≡ written new old
+unfolding written
+sets-written old new h =
     let e : 0 + length new ≡ length new = omega arith in
     sets-eq new old 0 (omega arith) ∙ rw e refl
 
 -- a whole buffer
 pub sets-whole : {A : Type 0} (old new : List A) → length new ≡ length old → sets old 0 new ≡ new
-unfolding onto
-sets-whole old new h = sets-onto old new (omega arith) ∙ rw (drop-of-length-le old {i = length new} (omega arith)) (append-nil new)
+unfolding written
+sets-whole old new h = sets-written old new (omega arith) ∙ rw (drop-of-length-le old {i = length new} (omega arith)) (append-nil new)
 
 -- ---- the word of a column
 
@@ -290,13 +291,13 @@ answered line n e = go (isTextLine line) refl
     go false f = let g : NoWords ≡ Words n = rw f at e in let z : _≡_ {A = ℕ} 0 1 = cc in absurd (omega arith)
 
 -- a line not in form is refused, and only such a line
-pub text-line-means : (line words : List ℕ) → TextLineMeans line (textAnswer line) (cond (isTextLine line) (onto (textWords line) words) words)
-unfolding onto textAnswer
+pub text-line-means : (line words : List ℕ) → TextLineMeans line (textAnswer line) (cond (isTextLine line) (written (textWords line) words) words)
+unfolding written textAnswer
 text-line-means line words = record {
   accepted = λ n e.
       let a = answered line n e in
       let f = text-line-form line (a .0) in
-      let t : take n (cond (isTextLine line) (onto (textWords line) words) words) ≡ textWords line = rw (a .0) (take-at (textWords line) (drop (length (textWords line)) words) n (a .1)) in
+      let t : take n (cond (isTextLine line) (written (textWords line) words) words) ≡ textWords line = rw (a .0) (take-at (textWords line) (drop (length (textWords line)) words) n (a .1)) in
       (omega (arith, f .most), subst (TextForm line) (sym t) f);
   every = λ ws f.
       let r = text-line-read ws (f .most) (f .held) in

@@ -103,9 +103,3 @@ sentenceLine number words unknown total = countColumns number words unknown ++ (
 -- "`refused`, then number and place, 8 wide each", and LF
 unfoldable pub refusedLine : ℕ → ℕ → List ℕ
 refusedLine number place = refusedWord ++ (column 8 (pos number) ++ (column 8 (pos place) ++ (10 ∷ [])))
-
--- ---- where it is written
-
--- a buffer with `new` at its front, and untouched behind it
-unfoldable pub onto : {A : Type 0} → List A → List A → List A
-onto new old = new ++ drop (length new) old

@@ -6,8 +6,9 @@ ghost use Prim.Native.Nat.{ℕ, _+_, _*_, _-_, _<_, _≤_};
 ghost use lib.IntN.{pos, natAbs};
 ghost use lib.ListN.{length, drop, replicate};
 ghost use lib.Seq.{sets};
+ghost use Rattle.backoff.specs.Run.{written};
 ghost use Rattle.totals_text.specs.Columns.{digits, signed, justified, column, withoutSpaces, allDigits, isNatural, valueFrom, readNatural, readNegative, readNumeral, readColumn, ColumnMeans};
-ghost use Rattle.totals_text.specs.Lines.{columns, allInForm, numberOf, wordOf, isListLine, listRow, isTextLine, textWords, textAnswer, ListLineMeans, TextLineMeans, refusedWord, countColumns, sentenceLine, refusedLine, onto};
+ghost use Rattle.totals_text.specs.Lines.{columns, allInForm, numberOf, wordOf, isListLine, listRow, isTextLine, textWords, textAnswer, ListLineMeans, TextLineMeans, refusedWord, countColumns, sentenceLine, refusedLine};
 
 // The least number that a column holds.
 const LEAST_NUMBER: i32 = -9999999;
@@ -222,7 +223,7 @@ pub fn read_list_line(line: &[u8], row: &mut [i32; 8]) -> bool
 // them, room for a closing word at least, is left as it was, and so are all where the line is refused.
 pub fn read_text_line(line: &[u8], words: &mut [u32; 65]) -> TextLine
     ensures answer { λ r. ⌜ r ≡ textAnswer (now (line .entry)) ⌝ }
-    ensures words { λ _. ⌜ now (words .exit) ≡ cond (isTextLine (now (line .entry))) (onto (textWords (now (line .entry))) (now (words .entry))) (now (words .entry)) ⌝ }
+    ensures words { λ _. ⌜ now (words .exit) ≡ cond (isTextLine (now (line .entry))) (written (textWords (now (line .entry))) (now (words .entry))) (now (words .entry)) ⌝ }
     ensures meaning { λ r. ⌜ TextLineMeans (now (line .entry)) r (now (words .exit)) ⌝ }
 {
     if 512 < line.len() {
@@ -359,7 +360,7 @@ fn put_counts(number: u64, words: u32, unknown: u32, out: &mut [u8]) -> usize
 pub fn sentence_line(number: u64, words: u32, unknown: u32, total: i64, out: &mut [u8; 64]) -> usize
     ensures length { λ r. ⌜ r ≡ length (sentenceLine number words unknown total) ⌝ }
     ensures room { λ r. ⌜ r ≤ 64 ⌝ }
-    ensures text { λ _. ⌜ now (out .exit) ≡ onto (sentenceLine number words unknown total) (now (out .entry)) ⌝ }
+    ensures text { λ _. ⌜ now (out .exit) ≡ written (sentenceLine number words unknown total) (now (out .entry)) ⌝ }
 {
     let at = put_counts(number, words, unknown, out);
     let end = put_total(total, out, at);
@@ -387,7 +388,7 @@ fn put_refused(out: &mut [u8]) -> usize
 pub fn refused_line(number: u32, place: u64, out: &mut [u8; 64]) -> usize
     ensures length { λ r. ⌜ r ≡ length (refusedLine number place) ⌝ }
     ensures room { λ r. ⌜ r ≤ 64 ⌝ }
-    ensures text { λ _. ⌜ now (out .exit) ≡ onto (refusedLine number place) (now (out .entry)) ⌝ }
+    ensures text { λ _. ⌜ now (out .exit) ≡ written (refusedLine number place) (now (out .entry)) ⌝ }
 {
     let at = put_refused(out);
     let next = put_column(false, number as u64, 8, out, at);

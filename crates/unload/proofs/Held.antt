@@ -4,7 +4,7 @@ use mathlib.Core.Path.{_≡_, refl, sym, ap, _∙_, fun-ext}
 use mathlib.Core.Logic.{⊎-elim}
 use mathlib.Core.Bool.{Bool, true, false, _&&_, false≢true}
 use mathlib.Core.List.{List, [], _∷_, map, reverse, reverseAux, reverse-reverse, List·Memᴰ, List·Memᴰ·head, List·Memᴰ·tail, List·Memᴰ·not-nil, List·Memᴰ·cases-cons, Memᴰ·cast}
-use mathlib.Core.Option.{Option, none, some}
+use mathlib.Core.Option.{some}
 use Prim.Native.Nat.{ℕ, zero, suc, _+_, _*_, _≤_, _<_}
 use native.Mathlib.Decide.{ℕ-discrete}
 use native.Mathlib.Omega.{arith}
@@ -21,10 +21,11 @@ use Rattle.backoff.specs.NineNumbers.{nine}
 use Rattle.backoff.specs.Store.{Look, absent, broken, here, entryOf, isBroken, lookEntry, storeOf, modelIn, runOutcome}
 use Rattle.backoff.proofs.Model.{model-ext}
 use Rattle.backoff.proofs.Store.{entryOf-lookEntry, lookEntry-sound, Whole, packed, answers-over-a-store}
+use Rattle.backoff.specs.Words.{key}
 use Rattle.list.specs.Table.{rowsOf, probabilityAt, backoffAt, orderOf, words}
 use Rattle.list.specs.Search.{findIn}
 use Rattle.list.specs.Good.{Good}
-use Rattle.list.specs.Keys.{key, rowKey}
+use Rattle.list.specs.Keys.{rowKey}
 use Rattle.list.specs.ListModel.{continuedIn, entryAt, modelOf}
 use Rattle.list.specs.declared.Found.{Found}
 use Rattle.list.specs.declared.Found.the-variants.{At as Row, Nothing as NoRow}

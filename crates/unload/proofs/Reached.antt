@@ -14,10 +14,9 @@ use lib.IntN.{ℤ}
 use Rattle.integer.proofs.Arithmetic.{zarith, abs, or-yes}
 use Rattle.integer.proofs.Ranges.{lt-or-ge, and-left, and-right, and-both}
 use Rattle.backoff.specs.Limits.{wordLimit}
-use Rattle.backoff.specs.Words.{sameWords, isWord, areWords}
+use Rattle.backoff.specs.Words.{sameWords, isWord, areWords, key}
 use Rattle.backoff.proofs.Words.{same-refl}
 use Rattle.list.specs.Order.{lastLess, precedes}
-use Rattle.list.specs.Keys.{key}
 use Rattle.list.proofs.Keys.{precedes-key}
 use Rattle.double_array.specs.DoubleArray.{baseAt, childAt}
 use Rattle.double_array.specs.declared.Child.{Child}

@@ -5,7 +5,7 @@ use native.Mathlib.Omega.{arith}
 use lib.ListN.{length}
 use borrow.Author.Needs.{needs}
 use Rattle.build.specs.Steps.{halved}
-use Rattle.build.proofs.Each.{Written, written-none, written-next, written-all}
+use Rattle.integer.proofs.Each.{Written, written-none, written-next, written-all}
 use Rattle.build.proofs.halve.Statement.{statement}
 use Rattle.build.proofs.halve.Tie as tie
 

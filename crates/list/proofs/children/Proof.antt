@@ -2,8 +2,9 @@ use mathlib.Core.Path.{ap, _∙_, subst}
 use Prim.Native.Nat.{ℕ, _+_, _*_, _<_}
 use native.Mathlib.Omega.{arith}
 use denote.Ref.{now}
+use Rattle.backoff.specs.Words.{radix}
 use Rattle.list.specs.Table.{rowsOf}
-use Rattle.list.specs.Keys.{radix, lowLimit, rowKey, Bracket}
+use Rattle.list.specs.Keys.{lowLimit, rowKey, Bracket}
 use Rattle.list.proofs.Good.{row-key-limit}
 use Rattle.list.proofs.Search.{stretch}
 use borrow.Author.Needs.{needs}

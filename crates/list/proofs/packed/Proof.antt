@@ -1,6 +1,6 @@
 use native.Mathlib.Omega.{arith}
-use Rattle.list.specs.Keys.{key}
 use borrow.Author.Needs.{needs}
+use Rattle.backoff.specs.Words.{key}
 use Rattle.list.proofs.packed.Statement.{statement}
 use Rattle.list.proofs.packed.Tie as tie
 

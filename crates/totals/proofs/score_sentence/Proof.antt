@@ -4,7 +4,8 @@ use mathlib.Core.Path.{refl, sym, ap, ap₂, _∙_}
 use mathlib.Core.List.{List}
 use denote.Ref.{now}
 use lib.IntN.{ℤ}
-use Rattle.totals_text.specs.Lines.{sentenceLine, onto}
+use Rattle.backoff.specs.Run.{written}
+use Rattle.totals_text.specs.Lines.{sentenceLine}
 use Prim.Native.Nat.{ℕ, _-_}
 use native.Mathlib.Omega.{arith}
 use lib.ListN.{length}
@@ -46,7 +47,7 @@ returns c =
     let unknown = c .before .before .before .count-unknown .ensures ∙ scored-unknown (s .pre .0) _ (s .pre .1 .1) refl refl (ran .ensures .0) (length (s .args .words .now) - 1) (omega arith) in
     let total = toZ-ofZ (sfits-of (c .before .struct-told .given .1 .1 .0 .1)) ∙ scored-total (s .pre .0) _ (s .pre .1 .1) refl refl (ran .ensures .0) in
     let q = ap₂ (λ (u : ℕ) (t : ℤ). sentenceLine (s .args .number) (s .args .n) u t) unknown total in
-    (r .0 ∙ ap length q, (r .1 .0, r .1 .1 ∙ ap (λ (l : List ℕ). onto l (now (s .args .out))) q))
+    (r .0 ∙ ap length q, (r .1 .0, r .1 .1 ∙ ap (λ (l : List ℕ). written l (now (s .args .out))) q))
 
 pub score-sentence-spec : {M : Type 1} → statement M
 score-sentence-spec =

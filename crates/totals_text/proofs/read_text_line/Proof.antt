@@ -6,23 +6,24 @@ use Prim.Native.Nat.{ℕ, _/_, _%_}
 use native.Mathlib.Omega.{arith}
 use borrow.Author.Tests.{le-leb, lt-leb, eq-eqb, ne-eqb, not-true, not-false}
 use lib.ListN.{length}
+use Rattle.backoff.specs.Run.{written}
 use Rattle.totals_text.specs.declared.TextLine.{TextLine}
 use Rattle.totals_text.specs.declared.TextLine.the-variants.{Words, NotInForm}
-use Rattle.totals_text.specs.Lines.{isTextLine, textWords, textAnswer, onto, TextLineMeans}
-use Rattle.totals_text.proofs.Lines.{length-words, text-line-means, sets-onto}
+use Rattle.totals_text.specs.Lines.{isTextLine, textWords, textAnswer, TextLineMeans}
+use Rattle.totals_text.proofs.Lines.{length-words, text-line-means, sets-written}
 use borrow.Author.Needs.{needs}
 use Rattle.totals_text.proofs.read_text_line.Statement.{statement}
 use Rattle.totals_text.proofs.read_text_line.Tie as tie
 
 -- what the contract says of an answer and the words as they are left
 abbrev Settled : List ℕ → List ℕ → TextLine → List ℕ → Type 0
-Settled line words₀ r words = (r ≡ textAnswer line) × ((words ≡ cond (isTextLine line) (onto (textWords line) words₀) words₀) × TextLineMeans line r words)
+Settled line words₀ r words = (r ≡ textAnswer line) × ((words ≡ cond (isTextLine line) (written (textWords line) words₀) words₀) × TextLineMeans line r words)
 
 refused : (line words : List ℕ) → isTextLine line ≡ false → Settled line words NotInForm words
 unfolding textAnswer
 refused line words e = (rw e refl, (rw e refl, rw e at (text-line-means line words)))
 
-accepted : (line words₀ words : List ℕ) → isTextLine line ≡ true → words ≡ onto (textWords line) words₀ → Settled line words₀ (Words (length line / 8)) words
+accepted : (line words₀ words : List ℕ) → isTextLine line ≡ true → words ≡ written (textWords line) words₀ → Settled line words₀ (Words (length line / 8)) words
 unfolding textAnswer
 accepted line words₀ words e f =
     (rw (e, length-words line) refl, (rw e f, subst (TextLineMeans line (Words (length line / 8))) (sym f) (rw (e, length-words line) at (text-line-means line words₀))))
@@ -71,7 +72,7 @@ returns-4 c =
     let line = s .args .line .now in
     accepted line (s .args .words .now) (c .fill-words .last .1 .1 .0)
     (rw (le-leb (length line) 512 (b .before .if1 .left), eq-eqb (length line % 8) 0 (b .if2 .left)) (sym (f .all-in-form .ensures) ∙ not-false _ (t .if3 .left)))
-    (c .fill-words .ensures ∙ sets-onto (s .args .words .now) (textWords line) (omega (arith, length-words line, room (c .before))))
+    (c .fill-words .ensures ∙ sets-written (s .args .words .now) (textWords line) (omega (arith, length-words line, room (c .before))))
 
 pub read-text-line-spec : {M : Type 1} → statement M
 read-text-line-spec =

@@ -6,7 +6,7 @@ use lib.IntN.{pos}
 use lib.ListN.{length}
 use Rattle.totals_text.specs.Columns.{numeral, column}
 use Rattle.totals_text.specs.Lines.{refusedWord, refusedLine}
-use Rattle.totals_text.proofs.Lines.{length-count, length-refused, sets-onto}
+use Rattle.totals_text.proofs.Lines.{length-count, length-refused, sets-written}
 use Rattle.totals_text.proofs.Stores.{front-three}
 use borrow.Author.Needs.{needs}
 use Rattle.totals_text.proofs.refused_line.Statement.{statement}
@@ -62,7 +62,7 @@ returns c =
         omega arith,
         rw (place c, c .put-column2 .ensures .1, p .put-column .ensures .1, w .put-refused .ensures .1, p .put-column .ensures .0, w .put-refused .ensures .0)
             (front-three (a .out .now) refusedWord (column 8 (pos (a .number))) (column 8 (pos (a .place))) 10)
-            ∙ sets-onto (a .out .now) (refusedLine (a .number) (a .place)) (omega (arith, n, place c)),
+            ∙ sets-written (a .out .now) (refusedLine (a .number) (a .place)) (omega (arith, n, place c)),
       ),
     )
 

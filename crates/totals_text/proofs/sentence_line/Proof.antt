@@ -6,7 +6,7 @@ use lib.ListN.{length}
 use mir.Facts.{toZ-ofZ}
 use Rattle.totals_text.specs.Columns.{column}
 use Rattle.totals_text.specs.Lines.{countColumns, sentenceLine}
-use Rattle.totals_text.proofs.Lines.{length-count, length-counts, length-total, length-sentence, sets-onto}
+use Rattle.totals_text.proofs.Lines.{length-count, length-counts, length-total, length-sentence, sets-written}
 use Rattle.totals_text.proofs.Stores.{front-two}
 use Rattle.totals_text.proofs.sentence_line.Statement.{statement}
 use Rattle.totals_text.proofs.sentence_line.Tie as tie
@@ -63,7 +63,7 @@ returns c =
         omega arith,
         rw (place c, c .put-total .ensures .1, p .put-counts .ensures .1, p .put-counts .ensures .0, toZ-ofZ (s .fits .total))
             (front-two (a .out .now) counts (column 16 (a .total)) 10)
-            ∙ sets-onto (a .out .now) (sentenceLine (a .number) (a .words) (a .unknown) (a .total)) (omega (arith, n, place c)),
+            ∙ sets-written (a .out .now) (sentenceLine (a .number) (a .words) (a .unknown) (a .total)) (omega (arith, n, place c)),
       ),
     )
 

@@ -5,9 +5,9 @@ use native.Mathlib.Omega.{arith}
 use lib.ListN.{length}
 use denote.Ref.{now}
 use borrow.Author.Needs.{needs}
-use Rattle.build.proofs.Each.{Written, written-none, written-next, written-all, map-same}
-use Rattle.build.proofs.zero.Statement.{statement}
-use Rattle.build.proofs.zero.Tie as tie
+use Rattle.integer.proofs.Each.{Written, written-none, written-next, written-all, map-same}
+use Rattle.double_array.proofs.zero.Statement.{statement}
+use Rattle.double_array.proofs.zero.Tie as tie
 
 abbrev Inv-loop : tie.InvT-loop
 Inv-loop work₀ i₀ work i = Written (λ (x : ℕ). 0) work₀ work i

@@ -1,4 +1,4 @@
--- Invariant: the slots passed hold the value, the others are as they were.
+-- Invariant: the numbers passed hold the value, the others are as they were.
 use mathlib.Core.Path.{refl, ap, _∙_}
 use Prim.Native.Nat.{_-_}
 use native.Mathlib.Omega.{arith}
@@ -9,15 +9,15 @@ use mir.Syntax.{w32}
 use mir.Val.{toZ}
 use mir.Facts.{toZ-ofZ}
 use borrow.Author.Needs.{needs}
-use Rattle.build.proofs.Each.{Written, written-none, written-next, written-all, map-same}
-use Rattle.build.proofs.fill.Statement.{statement}
-use Rattle.build.proofs.fill.Tie as tie
+use Rattle.integer.proofs.Each.{Written, written-none, written-next, written-all, map-same}
+use Rattle.double_array.proofs.fill.Statement.{statement}
+use Rattle.double_array.proofs.fill.Tie as tie
 
 abbrev Inv-loop : tie.InvT-loop
-Inv-loop slots₀ value t₀ slots t = Written (λ (x : ℤ). toZ w32 value) slots₀ slots t
+Inv-loop numbers₀ value t₀ numbers t = Written (λ (x : ℤ). toZ w32 value) numbers₀ numbers t
 
 abbrev μ-loop : tie.MeasureT-loop
-μ-loop slots₀ value t₀ slots t = length slots₀ - t
+μ-loop numbers₀ value t₀ numbers t = length numbers₀ - t
 
 loop-holds : tie.Need-loop-holds Inv-loop μ-loop
 loop-holds c = written-none _ _
@@ -43,8 +43,8 @@ same-length c = c .before .loop .inv .same-length
 returns : tie.Need-returns Inv-loop μ-loop
 returns c =
     let l = c .before in
-    let slots = now (l .before .args .slots) in
-    written-all _ _ _ _ (l .loop .inv) (c .loop-test .left) ∙ map-same _ slots ∙ ap (replicate (length slots)) (toZ-ofZ (l .before .fits .value))
+    let numbers = now (l .before .args .numbers) in
+    written-all _ _ _ _ (l .loop .inv) (c .loop-test .left) ∙ map-same _ numbers ∙ ap (replicate (length numbers)) (toZ-ofZ (l .before .fits .value))
 
 pub fill-spec : {M : Type 1} → statement M
 fill-spec =
