@@ -9,20 +9,20 @@ use native.Mathlib.Nat.{not-suc-le-zero}
 use native.Mathlib.Omega.{arith}
 use lib.Dec.{eqb}
 use lib.IntN.{ℤ}
-use lib.ListN.{length, length-map}
-use borrow.Author.Tests.{eqb-true, eqb-false}
+use lib.ListN.{length, take, drop, length-map, length-take}
+use borrow.Author.Tests.{eqb-true, eqb-false, lt-ltb, le-ltb}
 use Rattle.integer.proofs.Ranges.{lt-or-ge, upTo-le}
 use Rattle.backoff.specs.Limits.{wordLimit}
 use Rattle.backoff.specs.Words.{sameWords, areWords, radix, key}
-use Rattle.list.specs.Table.{rowsOf, field, wordOf, wordsOf, words, withoutFirst}
-use Rattle.list.specs.Search.{findBelow, findIn, isAt, Stretch}
+use Rattle.list.specs.Table.{rowsOf, field, lengthOf, wordOf, wordsOf, words, withoutFirst, withoutLast}
+use Rattle.list.specs.Search.{findBelow, findIn, isAt, rowBefore, Stretch}
 use Rattle.list.specs.Good.{GoodRow, Good}
 use Rattle.list.specs.Keys.{rowKey, findKey, Bracket, Window}
 use Rattle.list.specs.declared.Found.{Found}
 use Rattle.list.specs.declared.Found.the-variants.{At, Nothing}
 use Rattle.backoff.proofs.Words.{same-eq}
 use Rattle.list.proofs.Keys.{same-key, key-unique}
-use Rattle.list.proofs.Table.{row-in, words-length, words-cons}
+use Rattle.list.proofs.Table.{row-in, words-length, words-cons, part-rows}
 use Rattle.list.proofs.Good.{are-words, are-words-without-first, ascend-key, good-fewer}
 
 pub bracket-start : (t : List ℤ) (k : ℕ) → Bracket t k 0 (rowsOf t)
@@ -177,6 +177,15 @@ pub is-at : (f : Found) → isAt f ≡ true → (j : ℕ) × (f ≡ At j)
 is-at (At j) e = (j, refl)
 is-at Nothing e = absurd (let z : _≡_ {A = ℕ} 0 1 = cc in omega arith)
 
+-- what is found in the rows before row i is before it
+pub found-before : (t : List ℤ) (ws : List ℕ) (i j : ℕ) → 8 * i ≤ length t → findIn (take (8 * i) t) ws ≡ At j → rowBefore i j ≡ findIn (take (8 * i) t) ws
+found-before t ws i j h e =
+    let w = found-words (take (8 * i) t) ws j e in
+    rw (lt-ltb j i (omega (arith, w .0, part-rows t i h))) (sym e)
+
+pub not-before : (i : ℕ) → rowBefore i i ≡ Nothing
+not-before i = rw (le-ltb i i (omega arith))
+
 -- no row has no words
 pub finds-nothing : (t zs : List ℤ) → Good t (rowsOf t) → length zs ≡ 0 → findIn t (wordsOf zs) ≡ Nothing
 unfolding wordsOf
@@ -189,6 +198,11 @@ finds-nothing t zs g e = go (findIn t (wordsOf zs)) refl
         let same : length (words t j) ≡ length zs = ap length (w .1) ∙ length-map zs _ in
         absurd (omega (arith, words-length t j (row-in t j (w .0))))
     go Nothing q = refl
+
+-- a row of one word has no shorter row
+pub single-nothing : (t part : List ℤ) (i : ℕ) → Good part (rowsOf part) → lengthOf t i ≤ 1 → findIn part (withoutLast t i) ≡ Nothing
+unfolding withoutLast
+single-nothing t part i g l = finds-nothing part (take (lengthOf t i - 1) (drop (8 * i + 1) t)) g (rw length-take (omega arith))
 
 -- a row of good rows is found at its own place, and nowhere else
 module _ (t : List ℤ) (g : Good t (rowsOf t)) where

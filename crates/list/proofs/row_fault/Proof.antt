@@ -8,9 +8,16 @@ use Rattle.list.proofs.row_fault.Tie as tie
 field-fault-requires : tie.Need-field-fault-requires
 field-fault-requires c κs = search needs
 
+faulty-requires : tie.Need-faulty-requires
+faulty-requires c κs = search needs
+
 returns : tie.Need-returns
 unfolding rowFault
-returns c = let e = c .before .field-fault .ensures in e ∙ sym (or-left _ _ (λ z. c .if1 .taken (e ∙ z)))
+returns c =
+    let n = c .before .if1 .taken in
+    let e = c .before .before .field-fault .ensures in
+    let f = c .faulty .ensures in
+    (f ∙ e ∙ sym (or-left _ _ (λ z. n (e ∙ z))), λ z. absurd (n (sym f ∙ z)))
 
 order-fault-requires : tie.Need-order-fault-requires
 order-fault-requires c κs =
@@ -19,7 +26,11 @@ order-fault-requires c κs =
 
 returns-2 : tie.Need-returns-2
 unfolding rowFault
-returns-2 c = c .order-fault .ensures ∙ sym (or-right _ _ (sym (c .before .before .field-fault .ensures) ∙ c .before .if1 .left))
+returns-2 c =
+    let r = c .order-fault .ensures in
+    (r .0 ∙ sym (or-right _ _ (sym (c .before .before .field-fault .ensures) ∙ c .before .if1 .left)), r .1)
 
 pub row-fault-spec : {M : Type 1} → statement M
-row-fault-spec = tie.close (tie.spec field-fault-requires returns order-fault-requires returns-2)
+row-fault-spec =
+    tie.close
+    (tie.spec field-fault-requires faulty-requires returns order-fault-requires returns-2)
