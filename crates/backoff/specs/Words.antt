@@ -23,6 +23,10 @@ areWords (w ∷ ws) = isWord w && areWords ws
 abbrev pub radix : ℕ
 radix = 65536
 
+-- three digits make a number below this
+abbrev pub threeDigits : ℕ
+threeDigits = 281474976710656
+
 -- the words as the digits of one number, the last word the highest
 unfoldable pub key : List ℕ → ℕ
 key [] = 0

@@ -276,14 +276,13 @@ fn wipe(base: &mut [i32], check: &mut [i32], work: &mut [u32])
     double_array::zero(work);
 }
 
-// Sets f of the row that is row i without its last word, which is likely among the shorter rows.
-fn mark_row(table: &[i32], i: usize, work: &mut [u32], shorter: list::Span)
+// Sets f of the row that is row i without its last word, which is likely among rows `from` to `to` - 1.
+fn mark_row(table: &[i32], i: usize, work: &mut [u32], from: usize, to: usize)
     requires { ⌜ (verdict (now table) ≡ Accepted) × (i < rowsOf (now table)) × Flagged (now table) i (now work) ⌝ }
     ensures { λ _. ⌜ Flagged (now (table .entry)) (i + 1) (now (work .exit)) ⌝ }
 {
-    let first = 8 * i + 1;
-    let last = 8 * i + list::length_of(table, i);
-    let list::Found::At(j) = list::find_among(table, &table[first..last], shorter) else {
+    let m = list::length_of(table, i);
+    let list::Found::At(j) = list::find_without_last(table, i, m, from, to) else {
         return;
     };
     work[j] = 1;
@@ -298,7 +297,7 @@ fn mark_continued(table: &[i32], work: &mut [u32])
     let mut i = 0;
     while i < work.len() {
         shorter = list::shorter_rows(table, i, shorter);
-        mark_row(table, i, work, shorter);
+        mark_row(table, i, work, shorter.from, shorter.to);
         i += 1;
     }
 }

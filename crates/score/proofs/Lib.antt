@@ -1,9 +1,11 @@
 -- The laws of scoring with a carried state.
 pub mod Parts
+pub mod Digits
 pub mod Carried
 pub mod Written
 pub mod Rows
 pub mod Walking
+pub mod Owing
 pub mod Stepping
 pub mod Running
 pub mod Outcomes

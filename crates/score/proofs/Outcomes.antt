@@ -1,27 +1,26 @@
 -- The outcomes of start and run mean what specs/Meaning.antt says, over any lent arrays. Assumes nothing.
 use mathlib.Core.Path.{_≡_, refl, sym, ap, _∙_}
 use mathlib.Core.Logic.{_⊎_, inl, inr}
-use mathlib.Core.Bool.{Bool, true, false, cond, _||_}
+use mathlib.Core.Bool.{Bool, true, false, cond}
 use mathlib.Core.List.{List, [], _∷_}
 use mathlib.Core.Option.{Option, none, some}
-use Prim.Native.Nat.{ℕ, _≤_}
+use Prim.Native.Nat.{ℕ}
 use native.Mathlib.Omega.{arith}
-use lib.Dec.{ltb}
 use lib.ListN.{length, replicate, length-replicate}
 use lib.Seq.{take-at, drop-at}
 use lib.IntN.{ℤ, pos}
-use borrow.Author.Tests.{eqb-true, eqb-false, eq-eqb, ltb-false}
-use Rattle.backoff.specs.Limits.{startWord, runLimit}
-use Rattle.backoff.specs.Refusal.{arrayHead, brokenNode, wordCount, shortSlice, badState}
+use borrow.Author.Tests.{eqb-true, eqb-false, eq-eqb}
+use Rattle.backoff.specs.Limits.{startWord}
+use Rattle.backoff.specs.Refusal.{arrayHead, brokenNode, badState}
 use Rattle.backoff.specs.State.{State, empty, stepNext, start}
-use Rattle.backoff.specs.Run.{Run, Answer, refusal, accepted, written, refusedRun, acceptedRun, runPoints, runBytes, runEnd}
+use Rattle.backoff.specs.Run.{Run, Answer, sizeRefusal, refusal, accepted, written, refusedRun, acceptedRun, runPoints, runBytes, runEnd}
 use Rattle.backoff.specs.NineNumbers.{nine, nineZeros, stateIn, stateOk}
 use Rattle.backoff.specs.Store.{Store, Step, scored, stuck, step, ran, onward, runOver, refusedAt, brokenRun, ranAnswer, runIn, runOutcome, refusedStart, Started, startStep, startIn, startOutcome}
-use Rattle.backoff.proofs.Run.{length-runPoints, length-runBytes}
+use Rattle.backoff.proofs.Run.{Fits, fits, length-runPoints, length-runBytes}
 use Rattle.backoff.proofs.Store.{modelRan, stuckAt, step-is, runOver-cases}
 use Rattle.double_array.specs.DoubleArray.{isArray, orderIn, storeIn, opened}
 use Rattle.double_array.proofs.DoubleArray.{opened-some, opened-none}
-use Rattle.score.specs.Inner.{sizeRefusal, earlyRefusal}
+use Rattle.score.specs.Inner.{earlyRefusal}
 use Rattle.score.specs.Meaning.{rowsIn, StartMeans, RunMeans}
 use Rattle.score.proofs.Carried.{zeros-empty}
 
@@ -46,9 +45,7 @@ module _ (l : List ℤ) (nine-long : length l ≡ 9) (r : Run) where
 pub record Passed (base check : List ℤ) (l : List ℤ) (r : Run) : Type 0 where
   pub array : isArray base check ≡ true
   pub state : stateOk (orderIn check) l ≡ true
-  pub few : length (r .words) ≤ runLimit
-  pub points : length (r .words) ≤ length (r .points)
-  pub lengths : length (r .words) ≤ length (r .lengths)
+  pub sizes : Fits r
 
 module _ (base check : List ℤ) (l : List ℤ) (r : Run) (none-meets : earlyRefusal (opened base check) l (sizeRefusal (length (r .words)) (length (r .points)) (length (r .lengths))) ≡ 0) where
   array-passed : isArray base check ≡ true
@@ -69,13 +66,7 @@ module _ (base check : List ℤ) (l : List ℤ) (r : Run) (none-meets : earlyRef
   sizes-passed = unfold storeIn in rw (opened-some base check array-passed, state-passed) at none-meets
 
   pub passed-all : Passed base check l r
-  passed-all = go (ltb runLimit (length (r .words))) refl (ltb (length (r .points)) (length (r .words))) refl (ltb (length (r .lengths)) (length (r .words))) refl sizes-passed
-    where
-      go : (a : Bool) → ltb runLimit (length (r .words)) ≡ a → (b : Bool) → ltb (length (r .points)) (length (r .words)) ≡ b → (c : Bool) → ltb (length (r .lengths)) (length (r .words)) ≡ c → cond a wordCount (cond (b || c) shortSlice 0) ≡ 0 → Passed base check l r
-      go true e b f c g q = absurd (omega arith)
-      go false e true f c g q = absurd (omega arith)
-      go false e false f true g q = absurd (omega arith)
-      go false e false f false g q = record { array = array-passed; state = state-passed; few = ltb-false _ _ e; points = ltb-false _ _ f; lengths = ltb-false _ _ g }
+  passed-all = record { array = array-passed; state = state-passed; sizes = fits r (unfold refusal in sizes-passed) }
 
   pub scored-late : length l ≡ 9 → runOutcome (opened base check) l r ≡ ranAnswer l r (runOver (storeIn base check) (r .words) (stateIn l) 1)
   unfolding runOutcome storeIn

@@ -1,15 +1,15 @@
--- One part of a state, its four words or its four back-offs, as the loops over it have it: the part's check, the back-offs that are owed, and a part
--- cut after its first items. Assumes nothing.
+-- One part of a state, its four words or its four back-offs, as the loops over it have it: the part's check, and a part cut after its first items.
+-- Assumes nothing.
 use mathlib.Core.Path.{_≡_, refl, sym, ap, _∙_}
 use mathlib.Core.Bool.{Bool, true, false, _&&_, and-assoc}
 use mathlib.Core.List.{List, [], _∷_, map}
-use Prim.Native.Nat.{ℕ, zero, suc, _+_, _-_, _≤_, _<_, max}
+use Prim.Native.Nat.{ℕ, zero, suc, _+_, _-_, _≤_, _<_}
 use native.Mathlib.Decide.{decLe}
 use native.Mathlib.Numerals.{add-one}
 use native.Mathlib.Omega.{arith}
 use lib.ListN.{length, take, drop, getD, set, drop-of-length-le}
 use lib.Seq.{drop-cons}
-use lib.IntN.{ℤ, pos, _+ℤ_, +ℤ-assoc, +ℤ-idr}
+use lib.IntN.{ℤ, pos, _+ℤ_}
 use Rattle.integer.specs.Integer.{eqZ, sum}
 use Rattle.integer.proofs.Arithmetic.{zarith}
 use Rattle.integer.proofs.Ranges.{and-left, and-right}
@@ -56,24 +56,6 @@ module _ (P : ℤ → Bool) where
         empty-part zero = unfold all in refl
         empty-part (suc k) = unfold all in refl
 
--- ---- the back-offs from the j-th on: what is left to be added at the i-th
-
-module _ (j : ℕ) (bs : List ℤ) (acc : ℤ) (i : ℕ) where
-  pub owed-more : j ≤ i → i < length bs → acc +ℤ getD bs i (pos 0) +ℤ sum (drop (max j (i + 1)) bs) ≡ acc +ℤ sum (drop (max j i) bs)
-  owed-more h k =
-      let e : max j i ≡ i = omega arith in
-      let f : max j (i + 1) ≡ suc i = omega arith in
-      rw (e, f, drop-cons bs i (pos 0) k) (+ℤ-assoc acc (getD bs i (pos 0)) (sum (drop (suc i) bs)))
-
-  pub owed-not-yet : i < j → acc +ℤ sum (drop (max j (i + 1)) bs) ≡ acc +ℤ sum (drop (max j i) bs)
-  owed-not-yet h =
-      let e : max j i ≡ j = omega arith in
-      let f : max j (i + 1) ≡ j = omega arith in
-      rw (e, f)
-
-  pub owed-all : length bs ≤ i → acc +ℤ sum (drop (max j i) bs) ≡ acc
-  owed-all h = rw (drop-of-length-le bs {i = max j i} (omega arith)) (+ℤ-idr acc)
-
 -- ---- a part whose first i items are done, cut after its first k: the others are 0
 
 abbrev pub cutTo : ℕ → ℕ → List ℤ → List ℤ
@@ -96,12 +78,6 @@ cut-set zero zero (x ∷ xs) h l = refl
 cut-set zero (suc k) (x ∷ xs) h l = absurd (omega arith)
 cut-set (suc i) zero (x ∷ xs) h l = ap (λ (l : List ℤ). pos 0 ∷ l) (cut-set i zero xs (omega arith) (omega arith))
 cut-set (suc i) (suc k) (x ∷ xs) h l = ap (λ (l : List ℤ). x ∷ l) (cut-set i k xs (omega arith) (omega arith))
-
-pub length-cut : (i k : ℕ) (xs : List ℤ) → length (cutTo i k xs) ≡ length xs
-length-cut zero k xs = refl
-length-cut (suc i) k [] = refl
-length-cut (suc i) zero (x ∷ xs) = ap suc (length-cut i zero xs)
-length-cut (suc i) (suc k) (x ∷ xs) = ap suc (length-cut i k xs)
 
 -- all of them done, it is padded
 pub cut-padded : (k : ℕ) (xs : List ℤ) → cutTo (length xs) k xs ≡ padded (length xs) (take k xs)
@@ -136,32 +112,21 @@ zeros-sum (x ∷ xs) e =
     let f : x ≡ pos 0 = omega zarith in
     rw (f, zeros-sum xs (and-right (eqZ (pos 0) x) (all (map (eqZ (pos 0)) xs)) e))
 
-zeros-drop : (j : ℕ) (xs : List ℤ) → all (map (eqZ (pos 0)) xs) ≡ true → all (map (eqZ (pos 0)) (drop j xs)) ≡ true
-unfolding all
-zeros-drop zero xs e = e
-zeros-drop (suc j) [] e = e
-zeros-drop (suc j) (x ∷ xs) e = zeros-drop j xs (and-right (eqZ (pos 0) x) (all (map (eqZ (pos 0)) xs)) e)
-
 -- adds up to what its first c items do
-pub sum-used : (c j : ℕ) (xs : List ℤ) → all (map (eqZ (pos 0)) (drop c xs)) ≡ true → sum (drop j (take c xs)) ≡ sum (drop j xs)
-sum-used zero j xs e = rw (zeros-sum (drop j xs) (zeros-drop j xs e)) (nothing j)
-  where
-    nothing : (j : ℕ) → sum (drop j []) ≡ pos 0
-    nothing zero = refl
-    nothing (suc j) = refl
-sum-used (suc c) j [] e = refl
-sum-used (suc c) zero (x ∷ xs) e = ap (λ (z : ℤ). x +ℤ z) (sum-used c zero xs e)
-sum-used (suc c) (suc j) (x ∷ xs) e = sum-used c j xs e
+pub sum-used : (c : ℕ) (xs : List ℤ) → all (map (eqZ (pos 0)) (drop c xs)) ≡ true → sum (take c xs) ≡ sum xs
+sum-used zero xs e = sym (zeros-sum xs e)
+sum-used (suc c) [] e = refl
+sum-used (suc c) (x ∷ xs) e = ap (λ (z : ℤ). x +ℤ z) (sum-used c xs e)
 
--- and passes a test that its first c items and 0 pass
-pub all-used : (P : ℤ → Bool) → P (pos 0) ≡ true → (c : ℕ) (xs : List ℤ) → partOk P c xs ≡ true → all (map P xs) ≡ true
+-- and passes a test that 0 passes and its first c items do
+pub all-used : (P Q : ℤ → Bool) → ((x : ℤ) → P x ≡ true → Q x ≡ true) → Q (pos 0) ≡ true → (c : ℕ) (xs : List ℤ) → partOk P c xs ≡ true → all (map Q xs) ≡ true
 unfolding all
-all-used P z c [] e = refl
-all-used P z zero (x ∷ xs) e =
+all-used P Q f z c [] e = refl
+all-used P Q f z zero (x ∷ xs) e =
     let q = part-unused P x xs in
-    let f = and-left (eqZ (pos 0) x) (partOk P 0 xs) (sym q ∙ e) in
+    let u = and-left (eqZ (pos 0) x) (partOk P 0 xs) (sym q ∙ e) in
     let g : x ≡ pos 0 = omega zarith in
-    rw (g, z) (all-used P z zero xs (and-right (eqZ (pos 0) x) (partOk P 0 xs) (sym q ∙ e)))
-all-used P z (suc c) (x ∷ xs) e =
+    rw (g, z) (all-used P Q f z zero xs (and-right (eqZ (pos 0) x) (partOk P 0 xs) (sym q ∙ e)))
+all-used P Q f z (suc c) (x ∷ xs) e =
     let q = sym (part-used P c x xs) ∙ e in
-    rw (and-left (P x) (partOk P c xs) q) (all-used P z c xs (and-right (P x) (partOk P c xs) q))
+    rw (f x (and-left (P x) (partOk P c xs) q)) (all-used P Q f z c xs (and-right (P x) (partOk P c xs) q))

@@ -19,16 +19,13 @@ use Rattle.backoff.specs.Model.{inProbability, probability}
 use Rattle.backoff.specs.Rule.{lengthByte, replaced}
 use Rattle.backoff.specs.State.{State as Carried, matchedFrom, stepPoints, stepByte, stepNext}
 use Rattle.backoff.specs.Run.{written, acceptedRun}
-use Rattle.backoff.specs.NineNumbers.{nine, stateIn, stateOk}
+use Rattle.backoff.specs.NineNumbers.{nine}
 use Rattle.backoff.specs.Store.{Store, modelIn, scored, stuck, step, Ran, ran, refusedAt, before, onward, runOver, brokenRun, ranAnswer}
 use Rattle.backoff.proofs.State.{walk-le}
-use Rattle.backoff.proofs.NineNumbers.{Bounded, nine-stateIn}
+use Rattle.backoff.proofs.NineNumbers.{Bounded}
 use Rattle.backoff.proofs.Store.{stuckAt, step-is}
 use Rattle.backoff.proofs.Sizes.{points-size}
-use Rattle.score.specs.declared.State.{State}
-use Rattle.score.specs.Answers.{numbersOf}
 use Rattle.score.proofs.Written.{drop-more}
-use Rattle.score.proofs.Carried.{Four, length-numbers}
 
 -- scored words in front of those that are left
 abbrev beforeAll : List ℤ → List ℕ → Ran → Ran
@@ -65,56 +62,50 @@ module _ (S : Store) (in-probability : (l : List ℕ) → inProbability (probabi
 -- ---- the loop
 
 -- the words before the i-th are scored: `points` and `lengths` are the slices now, `carried` and `total` what they leave
-pub record Running (S : Store) (s : Carried) (ws : List ℕ) (points₀ : List ℤ) (lengths₀ : List ℕ) (carried : State) (total : ℤ) (i : ℕ) (points : List ℤ) (lengths : List ℕ) : Type 0 where
+pub record Running (S : Store) (s : Carried) (ws : List ℕ) (points₀ : List ℤ) (lengths₀ : List ℕ) (carried : Carried) (total : ℤ) (i : ℕ) (points : List ℤ) (lengths : List ℕ) : Type 0 where
   pub at : i ≤ length ws
-  pub rest : runOver S ws s 1 ≡ beforeAll (take i points) (take i lengths) (runOver S (drop i ws) (stateIn (numbersOf carried)) (suc i))
+  pub rest : runOver S ws s 1 ≡ beforeAll (take i points) (take i lengths) (runOver S (drop i ws) carried (suc i))
   pub points-past : drop i points ≡ drop i points₀
   pub lengths-past : drop i lengths ≡ drop i lengths₀
   pub points-long : length points ≡ length points₀
   pub lengths-long : length lengths ≡ length lengths₀
   pub total-is : total ≡ sum (take i points)
   pub total-small : natAbs total ≤ i * (orderLimit * largestBackoff)
-  pub ok : stateOk (S .order) (numbersOf carried) ≡ true
-  pub four : Four carried
 
 module _ (S : Store) (s : Carried) (ws : List ℕ) (points₀ : List ℤ) (lengths₀ : List ℕ) where
-  pub running-begins : (state : State) → s ≡ stateIn (numbersOf state) → stateOk (S .order) (numbersOf state) ≡ true → Four state → Running S s ws points₀ lengths₀ state (pos 0) 0 points₀ lengths₀
-  running-begins state e k f = record {
+  pub running-begins : (carried : Carried) → carried ≡ s → Running S s ws points₀ lengths₀ carried (pos 0) 0 points₀ lengths₀
+  running-begins carried e = record {
     at = omega arith;
-    rest = rw e (all-left (runOver S ws (stateIn (numbersOf state)) 1));
+    rest = rw e (all-left (runOver S ws s 1));
     points-past = refl;
     lengths-past = refl;
     points-long = refl;
     lengths-long = refl;
     total-is = refl;
     total-small = omega arith;
-    ok = k;
-    four = f;
   }
     where
       all-left : (r : Ran) → r ≡ beforeAll [] [] r
       all-left (ran qs cs t) = refl
       all-left (refusedAt k) = refl
 
-  module _ (carried : State) (total : ℤ) (i : ℕ) (points : List ℤ) (lengths : List ℕ) (r : Running S s ws points₀ lengths₀ carried total i points lengths) where
+  module _ (carried : Carried) (total : ℤ) (i : ℕ) (points : List ℤ) (lengths : List ℕ) (r : Running S s ws points₀ lengths₀ carried total i points lengths) where
     -- the next word
-    next-word : i < length ws → runOver S (drop i ws) (stateIn (numbersOf carried)) (suc i) ≡ onward (λ (t : Carried). runOver S (drop (i + 1) ws) t (suc (i + 1))) (suc i) (step S (stateIn (numbersOf carried)) (getD ws i 0))
+    next-word : i < length ws → runOver S (drop i ws) carried (suc i) ≡ onward (λ (t : Carried). runOver S (drop (i + 1) ws) t (suc (i + 1))) (suc i) (step S carried (getD ws i 0))
     unfolding runOver
     next-word h = rw (drop-cons ws i 0 h, add-one)
 
     -- is scored
-    pub running-on : (x : ℤ) (y : ℕ) (next : State) → i < length ws → length ws ≤ length points₀ → length ws ≤ length lengths₀ → natAbs x ≤ orderLimit * largestBackoff → step S (stateIn (numbersOf carried)) (getD ws i 0) ≡ scored x y (stateIn (numbersOf next)) → stateOk (S .order) (numbersOf next) ≡ true → Four next → Running S s ws points₀ lengths₀ next (total +ℤ x) (i + 1) (set points i x) (set lengths i y)
-    running-on x y next h k m z e o f = record {
+    pub running-on : (x : ℤ) (y : ℕ) (next : Carried) → i < length ws → length ws ≤ length points₀ → length ws ≤ length lengths₀ → natAbs x ≤ orderLimit * largestBackoff → step S carried (getD ws i 0) ≡ scored x y next → Running S s ws points₀ lengths₀ next (total +ℤ x) (i + 1) (set points i x) (set lengths i y)
+    running-on x y next h k m z e = record {
       at = omega arith;
-      rest = rw (points-taken, lengths-taken) (r .rest ∙ ap (beforeAll (take i points) (take i lengths)) (next-word h ∙ ap (onward (λ (t : Carried). runOver S (drop (i + 1) ws) t (suc (i + 1))) (suc i)) e) ∙ before-one (take i points) (take i lengths) x y (runOver S (drop (i + 1) ws) (stateIn (numbersOf next)) (suc (i + 1))));
+      rest = rw (points-taken, lengths-taken) (r .rest ∙ ap (beforeAll (take i points) (take i lengths)) (next-word h ∙ ap (onward (λ (t : Carried). runOver S (drop (i + 1) ws) t (suc (i + 1))) (suc i)) e) ∙ before-one (take i points) (take i lengths) x y (runOver S (drop (i + 1) ws) next (suc (i + 1))));
       points-past = drop-set-lt (i + 1) points i x (omega arith) ∙ drop-more i (i + 1) points points₀ (omega arith) (r .points-past);
       lengths-past = drop-set-lt (i + 1) lengths i y (omega arith) ∙ drop-more i (i + 1) lengths lengths₀ (omega arith) (r .lengths-past);
       points-long = length-set points i x ∙ r .points-long;
       lengths-long = length-set lengths i y ∙ r .lengths-long;
       total-is = rw (points-taken, r .total-is) (ap (λ (u : ℤ). sum (take i points) +ℤ u) (sym (+ℤ-idr x)) ∙ sym (sum-append (take i points) (x ∷ [])));
       total-small = omega (arith, add total x, abs total, abs x, abs (total +ℤ x), r .total-small);
-      ok = o;
-      four = f;
     }
       where
         points-taken : take (i + 1) (set points i x) ≡ take i points ++ (x ∷ [])
@@ -124,10 +115,10 @@ module _ (S : Store) (s : Carried) (ws : List ℕ) (points₀ : List ℤ) (lengt
         lengths-taken = rw add-one (take-suc-set lengths i y (omega (arith, r .lengths-long)))
 
     -- is refused: so is the run, and its slices are cleared to what they would have been at first
-    pub running-refused : i < length ws → step S (stateIn (numbersOf carried)) (getD ws i 0) ≡ stuck → (l ps : List ℤ) (bs : List ℕ) → ps ≡ written (replicate (length ws) (pos 0)) points → bs ≡ written (replicate (length ws) 0) lengths → record { number = brokenNode; place = i + 1; total = pos 0; end = l; points = ps; lengths = bs } ≡ ranAnswer l (record { words = ws; points = points₀; lengths = lengths₀ }) (runOver S ws s 1)
+    pub running-refused : i < length ws → step S carried (getD ws i 0) ≡ stuck → (l ps : List ℤ) (bs : List ℕ) → ps ≡ written (replicate (length ws) (pos 0)) points → bs ≡ written (replicate (length ws) 0) lengths → record { number = brokenNode; place = i + 1; total = pos 0; end = l; points = ps; lengths = bs } ≡ ranAnswer l (record { words = ws; points = points₀; lengths = lengths₀ }) (runOver S ws s 1)
     running-refused h e l ps bs p b = sym (ap (ranAnswer l (record { words = ws; points = points₀; lengths = lengths₀ })) refused ∙ answered)
       where
-        left : runOver S (drop i ws) (stateIn (numbersOf carried)) (suc i) ≡ refusedAt (i + 1)
+        left : runOver S (drop i ws) carried (suc i) ≡ refusedAt (i + 1)
         left = next-word h ∙ rw (e, add-one)
 
         refused : runOver S ws s 1 ≡ refusedAt (i + 1)
@@ -137,14 +128,14 @@ module _ (S : Store) (s : Carried) (ws : List ℕ) (points₀ : List ℤ) (lengt
         answered = unfold brokenRun written in rw (p, b, length-replicate (length ws) (pos 0), length-replicate {A = ℕ} (length ws) 0, drop-more i (length ws) points points₀ (r .at) (r .points-past), drop-more i (length ws) lengths lengths₀ (r .at) (r .lengths-past))
 
     -- no word is left
-    pub running-ends : length ws ≤ i → length ws ≤ length points₀ → length ws ≤ length lengths₀ → S .order ≤ orderLimit → (l : List ℤ) → record { number = 0; place = 0; total = total; end = numbersOf carried; points = points; lengths = lengths } ≡ ranAnswer l (record { words = ws; points = points₀; lengths = lengths₀ }) (runOver S ws s 1)
-    running-ends h k m o l = sym (ap (ranAnswer l (record { words = ws; points = points₀; lengths = lengths₀ })) all-scored ∙ answered)
+    pub running-ends : length ws ≤ i → length ws ≤ length points₀ → length ws ≤ length lengths₀ → (end : List ℤ) → end ≡ nine carried → (l : List ℤ) → record { number = 0; place = 0; total = total; end = end; points = points; lengths = lengths } ≡ ranAnswer l (record { words = ws; points = points₀; lengths = lengths₀ }) (runOver S ws s 1)
+    running-ends h k m end e l = sym (ap (ranAnswer l (record { words = ws; points = points₀; lengths = lengths₀ })) all-scored ∙ answered)
       where
-        none-left : runOver S (drop i ws) (stateIn (numbersOf carried)) (suc i) ≡ ran [] [] (stateIn (numbersOf carried))
+        none-left : runOver S (drop i ws) carried (suc i) ≡ ran [] [] carried
         none-left = unfold runOver in rw (drop-of-length-le ws h)
 
-        all-scored : runOver S ws s 1 ≡ ran (take i points) (take i lengths) (stateIn (numbersOf carried))
-        all-scored = r .rest ∙ ap (beforeAll (take i points) (take i lengths)) none-left ∙ ap₂ (λ (p : List ℤ) (b : List ℕ). ran p b (stateIn (numbersOf carried))) (append-nil (take i points)) (append-nil (take i lengths))
+        all-scored : runOver S ws s 1 ≡ ran (take i points) (take i lengths) carried
+        all-scored = r .rest ∙ ap (beforeAll (take i points) (take i lengths)) none-left ∙ ap₂ (λ (p : List ℤ) (b : List ℕ). ran p b carried) (append-nil (take i points)) (append-nil (take i lengths))
 
-        answered : acceptedRun (nine (stateIn (numbersOf carried))) (take i points) (take i lengths) (record { words = ws; points = points₀; lengths = lengths₀ }) ≡ record { number = 0; place = 0; total = total; end = numbersOf carried; points = points; lengths = lengths }
-        answered = unfold acceptedRun written in rw (nine-stateIn (S .order) (numbersOf carried) (length-numbers carried (r .four)) o (r .ok), length-take-le i points (omega (arith, r .points-long, r .at)), length-take-le i lengths (omega (arith, r .lengths-long, r .at)), sym (r .points-past), sym (r .lengths-past), take-append-drop i points, take-append-drop i lengths, sym (r .total-is))
+        answered : acceptedRun (nine carried) (take i points) (take i lengths) (record { words = ws; points = points₀; lengths = lengths₀ }) ≡ record { number = 0; place = 0; total = total; end = end; points = points; lengths = lengths }
+        answered = unfold acceptedRun written in rw (e, length-take-le i points (omega (arith, r .points-long, r .at)), length-take-le i lengths (omega (arith, r .lengths-long, r .at)), sym (r .points-past), sym (r .lengths-past), take-append-drop i points, take-append-drop i lengths, sym (r .total-is))

@@ -1,26 +1,29 @@
 -- The walk of a word v through the words ws over a double array, as the code's loop has it. Assumes nothing.
 use mathlib.Core.Path.{_≡_, refl, sym, ap, ap₂, _∙_}
-use mathlib.Core.Bool.{Bool, true, false, cond, _&&_, or-true}
+use mathlib.Core.Bool.{Bool, true, false, not, cond, _&&_, _||_, or-true}
 use mathlib.Core.Logic.{_⊎_, inl, inr}
 use mathlib.Core.List.{List, [], _∷_, _++_, append-nil}
 use Prim.Native.Nat.{ℕ, zero, suc, _+_, _-_, _≤_, _<_, min}
 use native.Mathlib.Nat.{min-zero}
+use native.Mathlib.Decide.{decLe}
 use native.Mathlib.Numerals.{add-one}
 use native.Mathlib.Omega.{arith}
 use borrow.Author.Count.{below-more}
 use borrow.Author.Tests.{ltb-true, ltb-false}
 use lib.Dec.{ltb}
-use lib.ListN.{length, take, getD, set}
+use lib.ListN.{length, take, drop, getD, set, length-set}
 use lib.Seq.{take-suc, take-all, take-suc-set, append-snoc}
-use lib.IntN.{ℤ}
+use lib.IntN.{ℤ, pos, _+ℤ_}
+use Rattle.integer.specs.Integer.{eqZ, sum}
 use Rattle.backoff.specs.Model.{Model, listed, live, reach}
-use Rattle.backoff.specs.State.{largest, backoffsOf, liveLength, walk}
+use Rattle.backoff.specs.State.{largest, backoffsOf, liveLength, walk, pointsFrom}
 use Rattle.backoff.specs.Store.{absent, broken, here, Store, isBroken, modelIn, endsBroken}
 use Rattle.backoff.proofs.Climb.{climb-stops, largest-here, largest-down}
 use Rattle.double_array.specs.DoubleArray.{markerAt, childAt, lookFrom, isArray, orderIn, storeIn}
 use Rattle.double_array.specs.declared.Marker.the-variants.{Sound, Broken}
 use Rattle.double_array.specs.declared.Child.the-variants.{At, Nothing}
 use Rattle.double_array.proofs.DoubleArray.{root-sound, look-here, look-down, look-broken}
+use Rattle.score.specs.declared.Kept.{Kept}
 use Rattle.score.specs.Meaning.{rowsIn}
 use Rattle.score.specs.Inner.{longestLive, meetsBroken, Read}
 use Rattle.score.proofs.Rows.{here-listed, here-probability, here-backoff, here-live, absent-unlisted, broken-unlisted, listed-sound}
@@ -59,15 +62,15 @@ kept-more P n j = go (ltb (j + 1) n) refl (P (suc j)) refl
         rw m
 
 -- the walk has come to the node in slot s, past `passed` of the words, with what was read at the nodes before it
-pub record Walking (base check : List ℤ) (v : ℕ) (ws : List ℕ) (s passed kept : ℕ) (backoffs : List ℤ) : Type 0 where
+pub record Walking (base check : List ℤ) (v : ℕ) (ws : List ℕ) (s passed : ℕ) (kept : Kept) (backoffs : List ℤ) : Type 0 where
   pub reached : (m : List ℕ) → storeIn base check .look (v ∷ (take passed ws ++ m)) ≡ lookFrom base check s m
   pub sound : (i : ℕ) → i < passed → listed (rowsIn base check) (v ∷ take i ws) ≡ true
-  pub kept-is : kept ≡ liveLength (rowsIn base check) (min (reach (rowsIn base check)) passed) (v ∷ ws)
+  pub kept-is : kept .count ≡ liveLength (rowsIn base check) (min (reach (rowsIn base check)) passed) (v ∷ ws)
   pub read : take passed backoffs ≡ backoffsOf (rowsIn base check) passed (v ∷ ws)
 
 module _ (base check : List ℤ) (v : ℕ) (ws : List ℕ) where
   -- it begins at the root's child for v
-  pub walking-begins : (t : ℕ) (backoffs : List ℤ) → isArray base check ≡ true → childAt base check 0 v ≡ At t → Walking base check v ws t 0 0 backoffs
+  pub walking-begins : (t : ℕ) (backoffs : List ℤ) → isArray base check ≡ true → childAt base check 0 v ≡ At t → Walking base check v ws t 0 (record { count = 0; owed = pos 0 }) backoffs
   walking-begins t backoffs h e = record {
     reached = λ m. unfold storeIn in look-down base check 0 _ _ _ v m (root-sound base check h) ∙ rw e;
     sound = λ i l. absurd (omega arith);
@@ -75,7 +78,7 @@ module _ (base check : List ℤ) (v : ℕ) (ws : List ℕ) where
     read = unfold backoffsOf in refl;
   }
 
-  module _ (s passed kept : ℕ) (backoffs : List ℤ) (w : Walking base check v ws s passed kept backoffs) where
+  module _ (s passed : ℕ) (kept : Kept) (backoffs : List ℤ) (w : Walking base check v ws s passed kept backoffs) where
     at-node : storeIn base check .look (v ∷ take passed ws) ≡ lookFrom base check s []
     at-node = ap (λ (l : List ℕ). storeIn base check .look (v ∷ l)) (sym (append-nil (take passed ws))) ∙ w .reached []
 
@@ -103,48 +106,65 @@ module _ (base check : List ℤ) (v : ℕ) (ws : List ℕ) where
       sound-here : (i : ℕ) → i ≤ passed → listed (rowsIn base check) (v ∷ take i ws) ≡ true
       sound-here i h = below-more (λ (k : ℕ). listed (rowsIn base check) (v ∷ take k ws) ≡ true) passed (w .sound) (here-listed (storeIn base check) (v ∷ take passed ws) node) i (omega arith)
 
-      -- what the code notes of it
-      abbrev noted : ℕ
-      noted = longestLive kept (passed + 1) (orderIn check) b f
-
-      noted-is : noted ≡ liveLength (rowsIn base check) (min (reach (rowsIn base check)) (suc passed)) (v ∷ ws)
-      unfolding liveLength reach modelIn storeIn
-      noted-is = rw (sym (here-live (storeIn base check) (v ∷ take passed ws) node), w .kept-is) (kept-more (λ i. live (rowsIn base check) (take i (v ∷ ws))) (orderIn check) passed)
-
       read-is : passed < length backoffs → take (suc passed) (set backoffs passed b) ≡ backoffsOf (rowsIn base check) (suc passed) (v ∷ ws)
       unfolding backoffsOf
       read-is h = take-suc-set backoffs passed b h ∙ ap₂ (λ (l : List ℤ) (x : ℤ). l ++ (x ∷ [])) (w .read) (sym (here-backoff (storeIn base check) (v ∷ take passed ws) node))
 
-      -- the walk goes on to the child for the next word
-      pub walking-on : (u : ℕ) → passed < length ws → passed < length backoffs → childAt base check s (getD ws passed 0) ≡ At u → Walking base check v ws u (passed + 1) noted (set backoffs passed b)
-      walking-on u h k c = record {
-        reached = λ m. rw add-one (past-node m h ∙ look-down base check s p b f (getD ws passed 0) m e ∙ rw c);
-        sound = λ i l. sound-here i (omega arith);
-        kept-is = noted-is ∙ ap (λ (k : ℕ). liveLength (rowsIn base check) (min (reach (rowsIn base check)) k) (v ∷ ws)) (sym (add-one passed));
-        read = rw add-one (read-is k);
-      }
+      -- what the code notes of it, with the sum of the back-offs up to it
+      module _ (total : ℤ) where
+        abbrev noted : Kept
+        noted = longestLive kept (record { count = passed + 1; owed = total }) (orderIn check) b f
 
-      -- it ends here where the node at which it would go on is none, or there are no more words
-      ended : passed ≤ length ws → passed < length backoffs → (passed ≡ length ws) ⊎ (listed (rowsIn base check) (v ∷ take (suc passed) ws) ≡ false) → isBroken (storeIn base check .look (v ∷ take (suc passed) ws)) ≡ false → Read (storeIn base check) ws v (record { sound = true; p = p; passed = passed; kept = noted; backoffs = set backoffs passed b })
-      ended h k o n =
-          let stop : walk (rowsIn base check) v ws ≡ passed = walk-stops (rowsIn base check) v ws passed h sound-here o in
-          record {
-            sound = rw (listed-sound (storeIn base check) (v ∷ []) (sound-here 0 (omega arith)), ends-at (storeIn base check) ws v passed stop, n);
-            first = sound-here 0 (omega arith);
-            passed = sym stop;
-            p = sym (here-probability (storeIn base check) (v ∷ take passed ws) node);
-            kept = noted-is;
-            backoffs = read-is k;
-          }
+        noted-is : noted .count ≡ liveLength (rowsIn base check) (min (reach (rowsIn base check)) (suc passed)) (v ∷ ws)
+        unfolding liveLength reach modelIn storeIn
+        noted-is =
+            count-of (ltb (passed + 1) (orderIn check) && (not (eqZ b (pos 0)) || f))
+            ∙ rw (sym (here-live (storeIn base check) (v ∷ take passed ws) node), w .kept-is) (kept-more (λ i. live (rowsIn base check) (take i (v ∷ ws))) (orderIn check) passed)
+          where
+            count-of : (t : Bool) → cond t (record { count = passed + 1; owed = total }) kept .count ≡ cond t (passed + 1) (kept .count)
+            count-of true = refl
+            count-of false = refl
 
-      pub walking-ends : passed ≡ length ws → passed < length backoffs → Read (storeIn base check) ws v (record { sound = true; p = p; passed = passed; kept = noted; backoffs = set backoffs passed b })
-      walking-ends h k = ended (omega arith) k (inl h) (ap (λ (l : List ℕ). isBroken (storeIn base check .look (v ∷ l))) same ∙ listed-sound (storeIn base check) (v ∷ take passed ws) (sound-here passed (omega arith)))
-        where
-          same : take (suc passed) ws ≡ take passed ws
-          same = take-all (suc passed) ws (omega arith) ∙ sym (take-all passed ws (omega arith))
+        -- the walk goes on to the child for the next word
+        pub walking-on : (u : ℕ) → passed < length ws → passed < length backoffs → childAt base check s (getD ws passed 0) ≡ At u → Walking base check v ws u (passed + 1) noted (set backoffs passed b)
+        walking-on u h k c = record {
+          reached = λ m. rw add-one (past-node m h ∙ look-down base check s p b f (getD ws passed 0) m e ∙ rw c);
+          sound = λ i l. sound-here i (omega arith);
+          kept-is = noted-is ∙ ap (λ (k : ℕ). liveLength (rowsIn base check) (min (reach (rowsIn base check)) k) (v ∷ ws)) (sym (add-one passed));
+          read = rw add-one (read-is k);
+        }
 
-      pub walking-stops : passed < length ws → passed < length backoffs → childAt base check s (getD ws passed 0) ≡ Nothing → Read (storeIn base check) ws v (record { sound = true; p = p; passed = passed; kept = noted; backoffs = set backoffs passed b })
-      walking-stops h k c = ended (omega arith) k (inr (absent-unlisted (storeIn base check) (v ∷ take (suc passed) ws) nothing)) (rw nothing)
-        where
-          nothing : storeIn base check .look (v ∷ take (suc passed) ws) ≡ absent
-          nothing = ap (λ (l : List ℕ). storeIn base check .look (v ∷ l)) (sym (append-nil (take (suc passed) ws))) ∙ past-node [] h ∙ look-down base check s p b f (getD ws passed 0) [] e ∙ rw c
+        -- it ends here where the node at which it would go on is none, or there are no more words; `left` are the state's back-offs
+        module _ (left : List ℤ) (five : length backoffs ≡ 5) (inside : passed < 5) (owed : noted .owed ≡ sum (take (noted .count) (set backoffs passed b))) where
+          ended : passed ≤ length ws → (passed ≡ length ws) ⊎ (listed (rowsIn base check) (v ∷ take (suc passed) ws) ≡ false) → isBroken (storeIn base check .look (v ∷ take (suc passed) ws)) ≡ false → Read (storeIn base check) (record { words = ws; backoffs = left }) v (p +ℤ sum (drop passed left)) passed noted (set backoffs passed b)
+          unfolding pointsFrom
+          ended h o n =
+              let stop : walk (rowsIn base check) v ws ≡ passed = walk-stops (rowsIn base check) v ws passed h sound-here o in
+              record {
+                sound = rw (listed-sound (storeIn base check) (v ∷ []) (sound-here 0 (omega arith)), ends-at (storeIn base check) ws v passed stop, n);
+                passed-is = sym stop;
+                points-are = rw (stop, here-probability (storeIn base check) (v ∷ take passed ws) node);
+                kept-is = noted-is;
+                owed = owed;
+                five = length-set backoffs passed b ∙ five;
+                read = read-is (omega arith);
+              }
+
+          no-more : passed ≡ length ws → Read (storeIn base check) (record { words = ws; backoffs = left }) v (p +ℤ sum (drop passed left)) passed noted (set backoffs passed b)
+          no-more h = ended (omega arith) (inl h) (ap (λ (l : List ℕ). isBroken (storeIn base check .look (v ∷ l))) same ∙ listed-sound (storeIn base check) (v ∷ take passed ws) (sound-here passed (omega arith)))
+            where
+              same : take (suc passed) ws ≡ take passed ws
+              same = take-all (suc passed) ws (omega arith) ∙ sym (take-all passed ws (omega arith))
+
+          nowhere : passed < length ws → childAt base check s (getD ws passed 0) ≡ Nothing → Read (storeIn base check) (record { words = ws; backoffs = left }) v (p +ℤ sum (drop passed left)) passed noted (set backoffs passed b)
+          nowhere h c = ended (omega arith) (inr (absent-unlisted (storeIn base check) (v ∷ take (suc passed) ws) nothing)) (rw nothing)
+            where
+              nothing : storeIn base check .look (v ∷ take (suc passed) ws) ≡ absent
+              nothing = ap (λ (l : List ℕ). storeIn base check .look (v ∷ l)) (sym (append-nil (take (suc passed) ws))) ∙ past-node [] h ∙ look-down base check s p b f (getD ws passed 0) [] e ∙ rw c
+
+          pub walking-ends : passed ≤ length ws → (passed < length ws → childAt base check s (getD ws passed 0) ≡ Nothing) → Read (storeIn base check) (record { words = ws; backoffs = left }) v (p +ℤ sum (drop passed left)) passed noted (set backoffs passed b)
+          walking-ends h c = go (decLe (length ws) passed)
+            where
+              go : Dec (length ws ≤ passed) → Read (storeIn base check) (record { words = ws; backoffs = left }) v (p +ℤ sum (drop passed left)) passed noted (set backoffs passed b)
+              go (yes k) = no-more (omega arith)
+              go (no k) = nowhere (omega arith) (c (omega arith))

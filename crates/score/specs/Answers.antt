@@ -2,9 +2,9 @@
 use mathlib.Core.List.{List, _∷_, _++_}
 use Prim.Native.Nat.{ℕ, _+_}
 use lib.IntN.{ℤ}
+use Rattle.backoff.specs.State.{State as Carried}
 use Rattle.backoff.specs.Run.{Answer}
 use Rattle.backoff.specs.Store.{Step, scored, stuck, Started as StartAnswer}
-use Rattle.backoff.specs.NineNumbers.{stateIn}
 use Rattle.score.specs.declared.State.{State}
 use Rattle.score.specs.declared.Kind.{Kind}
 use Rattle.score.specs.declared.Kind.the-variants.{Known, Unknown}
@@ -23,8 +23,8 @@ byteOf (Known matched) = matched
 byteOf (Unknown matched) = matched + 8
 
 -- a word's answer, with the state that it leaves, as a step
-abbrev pub stepOf : Word → State → Step
-stepOf (Scored kind points) next = scored points (byteOf kind) (stateIn (numbersOf next))
+abbrev pub stepOf : Word → Carried → Step
+stepOf (Scored kind points) next = scored points (byteOf kind) next
 stepOf Refused next = stuck
 
 abbrev pub startedOf : Started → StartAnswer

@@ -1,32 +1,43 @@
 -- What the inner functions of scoring are held to. Assumes nothing.
 use mathlib.Core.Path.{_≡_}
 use mathlib.Core.Bool.{Bool, true, false, not, cond, _&&_, _||_}
-use mathlib.Core.List.{List, [], _∷_, _++_, map}
+use mathlib.Core.List.{List, [], _∷_, map}
 use mathlib.Core.Option.{Option, none, some}
-use Prim.Native.Nat.{ℕ, suc, min}
+use Prim.Native.Nat.{ℕ, zero, suc, _+_, _*_, _-_, _/_, _%_, _≤_, min}
 use lib.Dec.{ltb}
-use lib.ListN.{take, drop}
-use lib.IntN.{ℤ, pos, _+ℤ_}
+use lib.ListN.{length, take, drop, getD}
+use lib.IntN.{ℤ, pos, natAbs}
 use Rattle.integer.specs.Integer.{eqZ, sum}
-use Rattle.backoff.specs.Limits.{unknownWord, runLimit}
-use Rattle.backoff.specs.Refusal.{arrayHead, wordCount, shortSlice, badState}
-use Rattle.backoff.specs.Model.{listed, probability, reach}
+use Rattle.backoff.specs.Limits.{unknownWord}
+use Rattle.backoff.specs.Refusal.{arrayHead, badState}
+use Rattle.backoff.specs.Words.{isWord, radix, threeDigits, key}
+use Rattle.backoff.specs.Model.{inBackoff, reach}
 use Rattle.backoff.specs.Rule.{lengthByte}
-use Rattle.backoff.specs.State.{backoffsOf, liveLength, walk}
-use Rattle.backoff.specs.NineNumbers.{all, padded, stateIn, stateOk}
+use Rattle.backoff.specs.State.{State as Carried, backoffsOf, liveLength, walk, pointsFrom}
+use Rattle.backoff.specs.NineNumbers.{all, stateOk}
 use Rattle.backoff.specs.Store.{Store, isBroken, modelIn, scored, endsBroken, step}
+use Rattle.double_array.specs.DoubleArray.{freeCheck, childSlot}
 use Rattle.double_array.specs.declared.Child.{Child}
 use Rattle.double_array.specs.declared.Child.the-variants.{At, Nothing}
 use Rattle.score.specs.declared.State.{State}
+use Rattle.score.specs.declared.Kind.{Kind}
+use Rattle.score.specs.declared.Word.the-variants.{Scored}
 use Rattle.score.specs.declared.First.{First}
 use Rattle.score.specs.declared.First.the-variants.{From, Missing}
+use Rattle.score.specs.declared.Packed.{Packed}
+use Rattle.score.specs.declared.Kept.{Kept}
 use Rattle.score.specs.declared.Walked.{Walked}
+use Rattle.score.specs.declared.Walked.the-variants.{Whole, Stuck}
 use Rattle.score.specs.declared.Stepped.{Stepped}
-use Rattle.score.specs.Answers.{numbersOf, stepOf}
+use Rattle.score.specs.Answers.{stepOf}
 
 -- the items of a state that check 16 looks at together: the used ones pass a test, the unused ones are 0
 unfoldable pub partOk : (ℤ → Bool) → ℕ → List ℤ → Bool
 partOk P count items = all (map P (take count items)) && all (map (eqZ (pos 0)) (drop count items))
+
+-- the root's child for w, where BASE[0] is 1
+abbrev pub rootChild : List ℤ → ℕ → Child
+rootChild check w = cond (isWord w && (ltb (childSlot 1 w) (length check) && eqZ (getD check (childSlot 1 w) freeCheck) (pos 0))) (At (childSlot 1 w)) Nothing
 
 -- the root's child for w, or that for word 1 in its place
 abbrev pub firstOf : ℕ → Child → Child → First
@@ -34,40 +45,61 @@ firstOf w (At slot) other = From slot w
 firstOf w Nothing (At slot) = From slot unknownWord
 firstOf w Nothing Nothing = Missing
 
--- how long the longest live row of fewer than n words is: `kept` so far, and now a row of j words with b and f has been read
-abbrev pub longestLive : ℕ → ℕ → ℕ → ℤ → Bool → ℕ
-longestLive kept j n b f = cond (ltb j n && (not (eqZ b (pos 0)) || f)) j kept
+-- the first k digits of n, the lowest first
+unfoldable pub digits : ℕ → ℕ → List ℕ
+digits zero n = []
+digits (suc k) n = n % radix ∷ digits k (n / radix)
+
+-- the three lowest digits of n, and w below them
+abbrev pub pushed : ℕ → ℕ → ℕ
+pushed w n = n % threeDigits * radix + w
+
+-- a state's words as digits and the sum of its back-offs, as the code carries them
+abbrev pub packedAs : State → Packed
+packedAs s = record { count = natAbs (s .count); words = key (map natAbs (s .words)); owed = sum (s .backoffs) }
+
+-- the state that is carried so, its back-offs in a lent array
+abbrev pub heldIn : Packed → List ℤ → Carried
+heldIn c backoffs = record { words = take (c .count) (digits 4 (c .words)); backoffs = take (c .count) backoffs }
+
+-- what holds of it where the order is n
+pub record Carries (n : ℕ) (c : Packed) (backoffs : List ℤ) : Type 0 where
+  pub five : length backoffs ≡ 5
+  pub few : c .count ≤ n - 1
+  pub in-backoffs : all (map inBackoff (take (c .count) backoffs)) ≡ true
+  pub owed : c .owed ≡ sum (take (c .count) backoffs)
+
+-- the longest live row of fewer than n words: `kept` so far, and now a row with b and f has been read
+abbrev pub longestLive : Kept → Kept → ℕ → ℤ → Bool → Kept
+longestLive kept row n b f = cond (ltb (row .count) n && (not (eqZ b (pos 0)) || f)) row kept
 
 -- the walk from v through the words ws met a node without a sound marker
 abbrev pub meetsBroken : Store → List ℕ → ℕ → Bool
 meetsBroken S ws v = isBroken (S .look (v ∷ [])) || endsBroken S ws v
 
--- what a walk with no such node has read
-pub record Read (S : Store) (ws : List ℕ) (v : ℕ) (r : Walked) : Type 0 where
-  pub sound : meetsBroken S ws v ≡ false
-  pub first : listed (modelIn S) (v ∷ []) ≡ true
-  pub passed : r .passed ≡ walk (modelIn S) v ws
-  pub p : r .p ≡ probability (modelIn S) (v ∷ take (r .passed) ws)
-  pub kept : r .kept ≡ liveLength (modelIn S) (min (reach (modelIn S)) (suc (r .passed))) (v ∷ ws)
-  pub backoffs : take (suc (r .passed)) (r .backoffs) ≡ backoffsOf (modelIn S) (suc (r .passed)) (v ∷ ws)
+-- what a walk with no such node from the state s has read, and left in the lent array
+pub record Read (S : Store) (s : Carried) (v : ℕ) (points : ℤ) (passed : ℕ) (kept : Kept) (backoffs : List ℤ) : Type 0 where
+  pub sound : meetsBroken S (s .words) v ≡ false
+  pub passed-is : passed ≡ walk (modelIn S) v (s .words)
+  pub points-are : points ≡ pointsFrom (modelIn S) s v
+  pub kept-is : kept .count ≡ liveLength (modelIn S) (min (reach (modelIn S)) (suc passed)) (v ∷ s .words)
+  pub owed : kept .owed ≡ sum (take (kept .count) backoffs)
+  pub five : length backoffs ≡ 5
+  pub read : take (suc passed) backoffs ≡ backoffsOf (modelIn S) (suc passed) (v ∷ s .words)
 
-pub record WalkedOver (S : Store) (ws : List ℕ) (v : ℕ) (r : Walked) : Type 0 where
-  pub whole : r .sound ≡ true → Read S ws v r
-  pub broken : r .sound ≡ false → meetsBroken S ws v ≡ true
+abbrev pub WalkedOver : Store → Carried → ℕ → Walked → List ℤ → Type 0
+WalkedOver S s v (Whole points passed kept) backoffs = Read S s v points passed kept backoffs
+WalkedOver S s v Stuck backoffs = meetsBroken S (s .words) v ≡ true
 
--- what a word v and the walk from it make of a state
-pub record ScoredAs (state : State) (v : ℕ) (walked : Walked) (r : Stepped) : Type 0 where
-  pub word : stepOf (r .word) (r .next) ≡ scored (walked .p +ℤ sum (drop (walked .passed) (state .backoffs))) (lengthByte (suc (walked .passed)) v) (stateIn (numbersOf (r .next)))
-  pub next : numbersOf (r .next) ≡ pos (walked .kept) ∷ (padded 4 (take (walked .kept) (pos v ∷ state .words)) ++ padded 4 (take (walked .kept) (walked .backoffs)))
+-- what a word v and what was read on the walk from it make of a state's words
+pub record ScoredAs (words v : ℕ) (points : ℤ) (passed : ℕ) (kept : Kept) (r : Stepped) : Type 0 where
+  pub word : (t : Carried) → stepOf (r .word) t ≡ scored points (lengthByte (suc passed) v) t
+  pub next : r .next ≡ record { count = kept .count; words = pushed v words; owed = kept .owed }
 
--- one word from a state: the step, and the state that it leaves passes check 16
-pub record SteppedTo (S : Store) (state : State) (w : ℕ) (r : Stepped) : Type 0 where
-  pub is : stepOf (r .word) (r .next) ≡ step S (stateIn (numbersOf state)) w
-  pub ok : stateOk (S .order) (numbersOf (r .next)) ≡ true
-
--- 14 and 15 by the numbers of a run's words and of the items of its output slices, 0 for neither
-abbrev pub sizeRefusal : ℕ → ℕ → ℕ → ℕ
-sizeRefusal words points lengths = cond (ltb runLimit words) wordCount (cond (ltb points words || ltb lengths words) shortSlice 0)
+-- one word from the state s: the step, and the state that it leaves is carried
+pub record SteppedTo (S : Store) (s : Carried) (w : ℕ) (r : Stepped) (backoffs : List ℤ) : Type 0 where
+  pub is : stepOf (r .word) (heldIn (r .next) backoffs) ≡ step S s w
+  pub carries : (kind : Kind) (points : ℤ) → r .word ≡ Scored kind points → Carries (S .order) (r .next) backoffs
 
 -- 11, then 16, then what 14 and 15 say
 abbrev pub earlyRefusal : Option Store → List ℤ → ℕ → ℕ

@@ -2,23 +2,24 @@
 use double_array::Child;
 use double_array::Marker;
 ghost use mathlib.Core.Path.{_≡_};
-ghost use mathlib.Core.Bool.{true};
-ghost use mathlib.Core.List.{_∷_, _++_, map};
-ghost use Prim.Native.Nat.{ℕ, _≤_, _<_};
-ghost use lib.ListN.{length, take, drop, set, replicate};
-ghost use lib.IntN.{pos, _+ℤ_};
+ghost use mathlib.Core.Bool.{true, cond};
+ghost use mathlib.Core.List.{[], _∷_, _++_, map};
+ghost use Prim.Native.Nat.{ℕ, _%_, _≤_, _<_};
+ghost use lib.ListN.{length, take, set, replicate};
+ghost use lib.IntN.{pos, natAbs};
+ghost use lib.Signed.{_≤ℤ_};
 ghost use Rattle.integer.specs.Integer.{between, sum};
-ghost use Rattle.backoff.specs.Limits.{unknownWord, runLimit};
-ghost use Rattle.backoff.specs.Words.{isWord};
-ghost use Rattle.backoff.specs.Model.{inProbability, inBackoff};
+ghost use Rattle.backoff.specs.Limits.{unknownWord, wordLimit, slotLimit, runLimit};
+ghost use Rattle.backoff.specs.Words.{isWord, radix, key};
+ghost use Rattle.backoff.specs.Model.{inBackoff};
 ghost use Rattle.backoff.specs.Rule.{lengthByte};
-ghost use Rattle.backoff.specs.Run.{Run, written};
-ghost use Rattle.backoff.specs.NineNumbers.{all, padded, nineZeros, stateIn, stateOk};
+ghost use Rattle.backoff.specs.Run.{Run, written, sizeRefusal};
+ghost use Rattle.backoff.specs.NineNumbers.{all, padded, nine, nineZeros, stateIn, stateOk};
 ghost use Rattle.backoff.specs.Store.{runOver, ranAnswer, runOutcome, startOutcome};
 ghost use Rattle.double_array.specs.DoubleArray.{childAt, isArray, orderIn, storeIn, opened};
 ghost use Rattle.score.specs.Answers.{numbersOf, byteOf, answerOf, startedOf};
 ghost use Rattle.score.specs.Meaning.{StartMeans, RunMeans};
-ghost use Rattle.score.specs.Inner.{partOk, firstOf, longestLive, WalkedOver, ScoredAs, SteppedTo, sizeRefusal, earlyRefusal};
+ghost use Rattle.score.specs.Inner.{partOk, rootChild, firstOf, packedAs, heldIn, Carries, longestLive, WalkedOver, ScoredAs, SteppedTo, earlyRefusal};
 
 // The paper's carried state as its nine signed numbers. A state of the caller's own making may hold any: check 16 decides.
 pub struct State {
@@ -60,20 +61,35 @@ enum First {
     Missing,
 }
 
-// A walk through a state's words: whether each node on it had a sound marker and, if so, the last node's p, how many of the state's words were
-// passed, the length of the longest live row that a state can hold, and each node's back-off.
-struct Walked {
-    sound: bool,
-    p: i32,
-    passed: usize,
-    kept: usize,
-    backoffs: [i32; 5],
+// A state while a run's words are scored. The words are the digits of one number, the newest the lowest; what lies past `count` is of no account.
+// The first `count` items of a lent array are its back-offs, and `owed` is their sum.
+struct Packed {
+    count: usize,
+    words: u64,
+    owed: i32,
+}
+
+// The number of a row's words, and the sum of the back-offs that a state of these words has.
+struct Kept {
+    count: usize,
+    owed: i32,
+}
+
+// A walk through a state's words: where each node on it had a sound marker, the word's points, how many of the state's words were passed, and the
+// longest live row that a state can hold.
+enum Walked {
+    Whole {
+        points: i32,
+        passed: usize,
+        kept: Kept,
+    },
+    Stuck,
 }
 
 // A word's answer and the state that it leaves.
 struct Stepped {
     word: Word,
-    next: State,
+    next: Packed,
 }
 
 // The empty state.
@@ -128,15 +144,28 @@ fn state_ok(state: State, order: usize) -> bool
     (count < order) & words_ok & backoffs_ok
 }
 
-// The root's child for the word or, where there is none, for word 1 in its place.
-fn first_node(base: &[i32], check: &[i32], w: u32) -> First
-    requires { ⌜ isArray (now base) (now check) ≡ true ⌝ }
-    ensures { λ r. ⌜ r ≡ firstOf w (childAt (now (base .entry)) (now (check .entry)) 0 w) (childAt (now (base .entry)) (now (check .entry)) 0 unknownWord) ⌝ }
+// The root's child for word w, without a look at BASE[0], which is 1 in every array.
+fn root_child(check: &[i32], w: u32) -> Child
+    ensures { λ r. ⌜ r ≡ rootChild (now (check .entry)) w ⌝ }
 {
-    if let Child::At(slot) = double_array::find_child(base, check, 0, w) {
+    if !((1 <= w) & (w <= backoff::WORD_LIMIT as u32)) {
+        return Child::Nothing;
+    }
+    let t = 1 + w as usize;
+    if t < check.len() && check[t] == 0 {
+        return Child::At(t);
+    }
+    Child::Nothing
+}
+
+// The root's child for the word or, where there is none, for word 1 in its place.
+fn first_node(check: &[i32], w: u32) -> First
+    ensures { λ r. ⌜ r ≡ firstOf w (rootChild (now (check .entry)) w) (rootChild (now (check .entry)) unknownWord) ⌝ }
+{
+    if let Child::At(slot) = root_child(check, w) {
         return First::From { slot, word: w };
     }
-    let Child::At(slot) = double_array::find_child(base, check, 0, backoff::UNKNOWN_WORD) else {
+    let Child::At(slot) = root_child(check, backoff::UNKNOWN_WORD) else {
         return First::Missing;
     };
     First::From {
@@ -145,96 +174,74 @@ fn first_node(base: &[i32], check: &[i32], w: u32) -> First
     }
 }
 
-// The length of the longest live row of fewer than `order` words, once the row of this length has been read too.
-fn longest_live(kept: usize, words: usize, order: usize, b: i32, f: bool) -> usize
-    ensures { λ r. ⌜ r ≡ longestLive kept words order b f ⌝ }
+// The longest live row of fewer than `order` words, once the row of `count` words has been read too. A row is live where BASE of its marker is not 0.
+fn longest_live(kept: Kept, count: usize, owed: i32, order: usize, b: i32, f: bool) -> Kept
+    requires { ⌜ inBackoff b ≡ true ⌝ }
+    ensures { λ r. ⌜ r ≡ longestLive kept (record { count = count; owed = owed }) order b f ⌝ }
 {
-    if (words < order) & ((b != 0) | f) {
-        words
+    let live = double_array::marker_base(b, f) != 0;
+    if (count < order) & live {
+        Kept { count, owed }
     } else {
         kept
     }
 }
 
-// The walk from the node in this slot, that of a word v, through the state's words.
-fn walk(base: &[i32], check: &[i32], order: usize, slot: usize, state: State) -> Walked
+// The child for the next older word of a state, where it has more words.
+fn next_node(base: &[i32], check: &[i32], s: usize, older: u64, more: bool) -> Child
+    requires { ⌜ s < length (now base) ⌝ }
+    requires { ⌜ length (now base) ≤ slotLimit ⌝ }
+    ensures child { λ r. ⌜ r ≡ cond more (childAt (now (base .entry)) (now (check .entry)) s (older % radix)) Child.Nothing ⌝ }
+    ensures inside { λ r. ⌜ ((t : ℕ) → r ≡ Child.At t → t < length (now (check .entry))) ⌝ }
+{
+    if !more {
+        return Child::Nothing;
+    }
+    double_array::find_child(base, check, s, (older % backoff::RADIX) as u32)
+}
+
+// The walk from the node in this slot, that of a word v, through the state's words. Each node's back-off takes the place of one of the state's.
+fn walk(
+    base: &[i32],
+    check: &[i32],
+    order: usize,
+    slot: usize,
+    carried: Packed,
+    backoffs: &mut [i32; 5],
+) -> Walked
     requires { ⌜ isArray (now base) (now check) ≡ true ⌝ }
     requires { ⌜ order ≡ orderIn (now check) ⌝ }
     requires { ⌜ slot < length (now base) ⌝ }
-    requires { ⌜ stateOk order (numbersOf state) ≡ true ⌝ }
-    ensures { λ r. ⌜ ((v : ℕ) → childAt (now (base .entry)) (now (check .entry)) 0 v ≡ Child.At slot → WalkedOver (storeIn (now (base .entry)) (now (check .entry))) (stateIn (numbersOf state) .words) v r) ⌝ }
+    requires { ⌜ Carries order carried (now backoffs) ⌝ }
+    ensures { λ r. ⌜ ((v : ℕ) → childAt (now (base .entry)) (now (check .entry)) 0 v ≡ Child.At slot → WalkedOver (storeIn (now (base .entry)) (now (check .entry))) (heldIn carried (now (backoffs .entry))) v r (now (backoffs .exit))) ⌝ }
 {
-    let words = state.words;
-    let count = state.count as usize;
+    let count = carried.count;
+    let mut older = carried.words;
+    let mut owed = carried.owed;
     let mut s = slot;
     let mut passed = 0;
-    let mut kept = 0;
-    let mut backoffs = [0i32; 5];
+    let mut sum = 0;
+    let mut kept = Kept { count: 0, owed: 0 };
     loop {
         let Marker::Sound { p, b, f } = double_array::read_marker(base, check, s) else {
-            return Walked {
-                sound: false,
-                p: 0,
-                passed,
-                kept,
-                backoffs,
-            };
+            return Walked::Stuck;
         };
+        let old = backoffs[passed];
         backoffs[passed] = b;
-        kept = longest_live(kept, passed + 1, order, b, f);
-        if passed == count {
-            return Walked {
-                sound: true,
-                p,
+        sum += b;
+        kept = longest_live(kept, passed + 1, sum, order, b, f);
+        let Child::At(t) = next_node(base, check, s, older, passed < count) else {
+            return Walked::Whole {
+                points: p + owed,
                 passed,
                 kept,
-                backoffs,
-            };
-        }
-        let Child::At(t) = double_array::find_child(base, check, s, words[passed] as u32) else {
-            return Walked {
-                sound: true,
-                p,
-                passed,
-                kept,
-                backoffs,
             };
         };
+        owed -= old;
+        older /= backoff::RADIX;
         s = t;
         passed += 1;
     }
-}
-
-// p and the back-offs that are owed, those of more words than the walk has passed.
-fn owed(p: i32, backoffs: [i32; 4], passed: usize) -> i32
-    requires { ⌜ inProbability p ≡ true ⌝ }
-    requires { ⌜ all (map inBackoff backoffs) ≡ true ⌝ }
-    ensures { λ r. ⌜ r ≡ p +ℤ sum (drop passed backoffs) ⌝ }
-{
-    let mut points = p;
-    let mut i = 0;
-    while i < 4 {
-        if passed <= i {
-            points += backoffs[i];
-        }
-        i += 1;
-    }
-    points
-}
-
-// The first `kept` of five items as a part of a state.
-fn cut(items: [i32; 5], kept: usize) -> [i32; 4]
-    ensures { λ r. ⌜ r ≡ padded 4 (take kept items) ⌝ }
-{
-    let mut part = [items[0], items[1], items[2], items[3]];
-    let mut i = 0;
-    while i < 4 {
-        if kept <= i {
-            part[i] = 0;
-        }
-        i += 1;
-    }
-    part
 }
 
 // The kind of a word that is scored as this one.
@@ -248,62 +255,55 @@ fn kind_of(word: u32, matched: u8) -> Kind
     }
 }
 
-// The state of the first `kept` words of a row that begins with `word` and goes on with `words`.
-fn next_state(word: u32, words: [i32; 4], backoffs: [i32; 5], kept: usize) -> State
-    requires { ⌜ isWord word ≡ true ⌝ }
-    requires { ⌜ kept ≤ 4 ⌝ }
-    ensures { λ r. ⌜ numbersOf r ≡ pos kept ∷ (padded 4 (take kept (pos word ∷ words)) ++ padded 4 (take kept backoffs)) ⌝ }
-{
-    let row = [word as i32, words[0], words[1], words[2], words[3]];
-    let words = cut(row, kept);
-    let backoffs = cut(backoffs, kept);
-    State {
-        count: kept as i32,
-        words,
-        backoffs,
-    }
-}
-
 // The answer of a word whose walk is done, and the state that it leaves.
-fn scored(state: State, word: u32, walked: Walked) -> Stepped
+fn scored(words: u64, word: u32, points: i32, passed: usize, kept: Kept) -> Stepped
     requires { ⌜ isWord word ≡ true ⌝ }
-    requires { ⌜ (walked .passed ≤ 4) × (walked .kept ≤ 4) ⌝ }
-    requires { ⌜ inProbability (walked .p) ≡ true ⌝ }
-    requires { ⌜ all (map inBackoff (state .backoffs)) ≡ true ⌝ }
-    ensures { λ r. ⌜ ScoredAs state word walked r ⌝ }
+    requires { ⌜ passed ≤ 4 ⌝ }
+    ensures { λ r. ⌜ ScoredAs words word points passed kept r ⌝ }
 {
-    let words = state.words;
-    let backoffs = state.backoffs;
-    let passed = walked.passed;
-    let read = walked.backoffs;
     let kind = kind_of(word, passed as u8 + 1);
-    let points = owed(walked.p, backoffs, passed);
-    let next = next_state(word, words, read, walked.kept);
+    let next = Packed {
+        count: kept.count,
+        words: words % backoff::THREE_DIGITS * backoff::RADIX + word as u64,
+        owed: kept.owed,
+    };
     let word = Word::Scored { kind, points };
     Stepped { word, next }
 }
 
 // One word from a state.
-fn step(base: &[i32], check: &[i32], order: usize, state: State, w: u32) -> Stepped
+fn step(
+    base: &[i32],
+    check: &[i32],
+    order: usize,
+    carried: Packed,
+    backoffs: &mut [i32; 5],
+    w: u32,
+) -> Stepped
     requires { ⌜ isArray (now base) (now check) ≡ true ⌝ }
     requires { ⌜ order ≡ orderIn (now check) ⌝ }
-    requires { ⌜ stateOk order (numbersOf state) ≡ true ⌝ }
-    ensures { λ r. ⌜ SteppedTo (storeIn (now (base .entry)) (now (check .entry))) state w r ⌝ }
+    requires { ⌜ Carries order carried (now backoffs) ⌝ }
+    ensures { λ r. ⌜ SteppedTo (storeIn (now (base .entry)) (now (check .entry))) (heldIn carried (now (backoffs .entry))) w r (now (backoffs .exit)) ⌝ }
 {
-    let First::From { slot, word } = first_node(base, check, w) else {
+    let First::From { slot, word } = first_node(check, w) else {
         return Stepped {
             word: Word::Refused,
-            next: state,
+            next: carried,
         };
     };
-    let walked = walk(base, check, order, slot, state);
-    if !walked.sound {
+    let walked = walk(base, check, order, slot, carried, backoffs);
+    let Walked::Whole {
+        points,
+        passed,
+        kept,
+    } = walked
+    else {
         return Stepped {
             word: Word::Refused,
-            next: state,
+            next: carried,
         };
-    }
-    scored(state, word, walked)
+    };
+    scored(carried.words, word, points, passed, kept)
 }
 
 // The paper's length byte.
@@ -350,6 +350,95 @@ fn clear(points: &mut [i32], lengths: &mut [u8], count: usize)
     }
 }
 
+// The sum of a state's back-offs.
+fn sum_of(backoffs: [i32; 4]) -> i32
+    requires { ⌜ all (map inBackoff backoffs) ≡ true ⌝ }
+    ensures { λ r. ⌜ r ≡ sum backoffs ⌝ }
+{
+    let mut owed = 0;
+    let mut i = 0;
+    while i < 4 {
+        owed += backoffs[i];
+        i += 1;
+    }
+    owed
+}
+
+// The words of a state as the digits of one number.
+fn key_of(words: [i32; 4]) -> u64
+    requires { ⌜ all (map (between (pos 0) (pos wordLimit)) words) ≡ true ⌝ }
+    ensures { λ r. ⌜ r ≡ key (map natAbs words) ⌝ }
+{
+    words[0] as u64
+        + backoff::RADIX
+            * (words[1] as u64
+                + backoff::RADIX * (words[2] as u64 + backoff::RADIX * words[3] as u64))
+}
+
+// A state's back-offs in an array to be lent, with room for one more.
+fn lent(state: State) -> [i32; 5]
+    ensures { λ r. ⌜ r ≡ state .backoffs ++ (pos 0 ∷ []) ⌝ }
+{
+    let backoffs = state.backoffs;
+    [backoffs[0], backoffs[1], backoffs[2], backoffs[3], 0]
+}
+
+// The state as it is carried; its back-offs are lent apart.
+fn pack(state: State) -> Packed
+    requires { ⌜ (pos 0 ≤ℤ state .count) × ((all (map (between (pos 0) (pos wordLimit)) (state .words)) ≡ true) × (all (map inBackoff (state .backoffs)) ≡ true)) ⌝ }
+    ensures { λ r. ⌜ r ≡ packedAs state ⌝ }
+{
+    let words = state.words;
+    let backoffs = state.backoffs;
+    let words = key_of(words);
+    let owed = sum_of(backoffs);
+    Packed {
+        count: state.count as usize,
+        words,
+        owed,
+    }
+}
+
+// The first `kept` of five items as a part of a state.
+fn cut(items: [i32; 5], kept: usize) -> [i32; 4]
+    ensures { λ r. ⌜ r ≡ padded 4 (take kept items) ⌝ }
+{
+    let mut part = [items[0], items[1], items[2], items[3]];
+    let mut i = 0;
+    while i < 4 {
+        if kept <= i {
+            part[i] = 0;
+        }
+        i += 1;
+    }
+    part
+}
+
+// The nine numbers of a carried state.
+fn unpack(carried: Packed, backoffs: [i32; 5]) -> State
+    requires { ⌜ carried .count ≤ 4 ⌝ }
+    ensures { λ r. ⌜ numbersOf r ≡ nine (heldIn carried backoffs) ⌝ }
+{
+    let first = carried.words;
+    let second = first / backoff::RADIX;
+    let third = second / backoff::RADIX;
+    let fourth = third / backoff::RADIX;
+    let row = [
+        (first % backoff::RADIX) as i32,
+        (second % backoff::RADIX) as i32,
+        (third % backoff::RADIX) as i32,
+        (fourth % backoff::RADIX) as i32,
+        0,
+    ];
+    let words = cut(row, carried.count);
+    let backoffs = cut(backoffs, carried.count);
+    State {
+        count: carried.count as i32,
+        words,
+        backoffs,
+    }
+}
+
 // The words of a run that no earlier check refuses.
 fn score_words(
     base: &[i32],
@@ -367,11 +456,12 @@ fn score_words(
     requires { ⌜ (length (now words) ≤ length (now points)) × (length (now words) ≤ length (now lengths)) ⌝ }
     ensures { λ r. ⌜ answerOf r (now (points .exit)) (now (lengths .exit)) ≡ ranAnswer (numbersOf state) (record { words = now (words .entry); points = now (points .entry); lengths = now (lengths .entry) }) (runOver (storeIn (now (base .entry)) (now (check .entry))) (now (words .entry)) (stateIn (numbersOf state)) 1) ⌝ }
 {
-    let mut carried = state;
+    let mut carried = pack(state);
+    let mut backoffs = lent(state);
     let mut total: i64 = 0;
     let mut i = 0;
     while i < words.len() {
-        let stepped = step(base, check, order, carried, words[i]);
+        let stepped = step(base, check, order, carried, &mut backoffs, words[i]);
         let word = stepped.word;
         let Word::Scored {
             kind,
@@ -392,11 +482,12 @@ fn score_words(
         carried = next;
         i += 1;
     }
+    let end = unpack(carried, backoffs);
     Ran {
         number: 0,
         place: 0,
         total,
-        end: carried,
+        end,
     }
 }
 
@@ -418,13 +509,7 @@ fn early_refusal(
     if !state_ok(state, order) {
         return backoff::BAD_STATE;
     }
-    if backoff::RUN_LIMIT < words {
-        return backoff::WORD_COUNT;
-    }
-    if (points < words) | (lengths < words) {
-        return backoff::SHORT_SLICE;
-    }
-    0
+    backoff::run_fault(words, points, lengths)
 }
 
 // The paper's start, the state after `<s>`: a run of this one word from the empty state leaves it.

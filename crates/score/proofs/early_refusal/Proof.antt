@@ -3,7 +3,7 @@ use mathlib.Core.Path.{_≡_, sym, ap, _∙_}
 use mathlib.Core.Bool.{Bool, true, false}
 use Prim.Native.Nat.{ℕ}
 use borrow.Author.Needs.{needs, sfits-of}
-use borrow.Author.Tests.{not-true, not-false, lt-ltb, le-ltb}
+use borrow.Author.Tests.{not-true, not-false}
 use lib.ListN.{getD}
 use lib.IntN.{pos}
 use mir.Syntax.{w32}
@@ -58,26 +58,15 @@ returns-2 c =
 state-passes : (c : tie.Else2) → stateOk (orderIn (c .before .before .before .before .before .args .check .now)) (numbersOf (c .before .before .before .before .before .args .state)) ≡ true
 state-passes c = state-is (c .before) true (not-false (c .before .state-ok .result) (c .if2 .left))
 
+run-fault-requires : tie.Need-run-fault-requires
+run-fault-requires c κs = search needs
+
 returns-3 : tie.Need-returns-3
 unfolding storeIn
 returns-3 c =
     let e = c .before in
     let s = e .before .before .before .before .before in
-    rw (opened-some (s .args .base .now) (s .args .check .now) (array (e .before .before .before)), state-passes e, lt-ltb _ _ (c .if3 .taken))
-
-returns-4 : tie.Need-returns-4
-unfolding storeIn
-returns-4 c =
-    let e = c .before .before in
-    let s = e .before .before .before .before .before in
-    rw (opened-some (s .args .base .now) (s .args .check .now) (array (e .before .before .before)), state-passes e, le-ltb _ _ (c .before .if3 .left), c .if4 .taken)
-
-returns-5 : tie.Need-returns-5
-unfolding storeIn
-returns-5 c =
-    let e = c .before .before in
-    let s = e .before .before .before .before .before in
-    rw (opened-some (s .args .base .now) (s .args .check .now) (array (e .before .before .before)), state-passes e, le-ltb _ _ (c .before .if3 .left), c .if4 .left)
+    rw (opened-some (s .args .base .now) (s .args .check .now) (array (e .before .before .before)), state-passes e) (c .run-fault .ensures)
 
 pub early-refusal-spec : {M : Type 1} → statement M
 early-refusal-spec =
@@ -89,6 +78,5 @@ early-refusal-spec =
     cast-order
     state-ok-requires
     returns-2
-    returns-3
-    returns-4
-    returns-5)
+    run-fault-requires
+    returns-3)

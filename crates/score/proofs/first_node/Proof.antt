@@ -1,28 +1,21 @@
 -- `score::first_node` meets its contract. Assumes nothing.
 use mathlib.Core.Path.{_≡_, sym, _∙_}
-use native.Mathlib.Omega.{arith}
-use Prim.Native.Nat.{_≤_, _<_}
-use lib.ListN.{length}
-use Rattle.backoff.specs.Limits.{unknownWord, slotLimit}
-use Rattle.double_array.specs.DoubleArray.{childAt}
-use Rattle.double_array.specs.declared.Child.{Child}
-use Rattle.double_array.proofs.DoubleArray.{opened-sizes}
 use borrow.Author.Needs.{needs}
+use Rattle.backoff.specs.Limits.{unknownWord}
+use Rattle.double_array.specs.declared.Child.{Child}
+use Rattle.score.specs.Inner.{rootChild}
 use Rattle.score.proofs.first_node.Statement.{statement}
 use Rattle.score.proofs.first_node.Tie as tie
 
-sizes : (s : tie.Start) → (0 < length (s .args .base .now)) × (length (s .args .base .now) ≤ slotLimit)
-sizes s = let z = opened-sizes (s .args .base .now) (s .args .check .now) (s .pre) in (omega arith, z .high)
-
 -- what the calls found
-own : (c : tie.After-find-child) (r : Child) → c .find-child .result ≡ r → childAt (c .before .args .base .now) (c .before .args .check .now) 0 (c .before .args .w) ≡ r
-own c r e = sym (c .find-child .ensures .0) ∙ e
+own : (c : tie.After-root-child) (r : Child) → c .root-child .result ≡ r → rootChild (c .before .args .check .now) (c .before .args .w) ≡ r
+own c r e = sym (c .root-child .ensures) ∙ e
 
-other : (c : tie.After-find-child2) (r : Child) → c .find-child2 .result ≡ r → childAt (c .before .before .before .before .args .base .now) (c .before .before .before .before .args .check .now) 0 unknownWord ≡ r
-other c r e = sym (c .find-child2 .ensures .0) ∙ e
+other : (c : tie.After-root-child2) (r : Child) → c .root-child2 .result ≡ r → rootChild (c .before .before .before .before .args .check .now) unknownWord ≡ r
+other c r e = sym (c .root-child2 .ensures) ∙ e
 
-find-child-requires : tie.Need-find-child-requires
-find-child-requires c κs = sizes c
+root-child-requires : tie.Need-root-child-requires
+root-child-requires c κs = search needs
 
 enum-known-slot : tie.Need-enum-known-slot
 enum-known-slot c = search needs
@@ -33,8 +26,8 @@ returns c = rw (own (c .before .before .before) _ (c .before .slot .given .1))
 enum-told : tie.Need-enum-told
 enum-told c = search needs
 
-find-child-requires-2 : tie.Need-find-child-requires-2
-find-child-requires-2 c κs = sizes (c .before .before .before)
+root-child-requires-2 : tie.Need-root-child-requires-2
+root-child-requires-2 c κs = search needs
 
 enum-known-slot-2 : tie.Need-enum-known-slot-2
 enum-known-slot-2 c = search needs
@@ -52,11 +45,11 @@ pub first-node-spec : {M : Type 1} → statement M
 first-node-spec =
     tie.close
     (tie.spec
-    find-child-requires
+    root-child-requires
     enum-known-slot
     returns
     enum-told
-    find-child-requires-2
+    root-child-requires-2
     enum-known-slot-2
     enum-told-2
     returns-2

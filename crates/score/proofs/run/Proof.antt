@@ -59,7 +59,7 @@ score-words-requires c κs =
     let p = passed (o .before) in
     let s = o .before .before .before .before .before in
     let e = order-read (s .args .base .now) (s .args .check .now) (p .array) (order-fits o) in
-    (p .array, (e, (rw e (p .state), (p .few, (p .points, p .lengths)))))
+    (p .array, (e, (rw e (p .state), (p .sizes .few, (p .sizes .points, p .sizes .lengths)))))
 
 same-length : tie.Need-same-length
 same-length c = search needs

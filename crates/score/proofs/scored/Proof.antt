@@ -1,15 +1,21 @@
 -- `score::scored` meets its contract. Assumes nothing.
-use mathlib.Core.Path.{ap₂, _∙_}
-use Prim.Native.Nat.{ℕ}
+use mathlib.Core.Path.{ap, ap₂, _∙_}
+use Prim.Native.Nat.{ℕ, _≤_}
 use native.Mathlib.Numerals.{add-one}
-use borrow.Author.Needs.{needs, sfits-of}
+use native.Mathlib.Omega.{arith}
+use borrow.Author.Needs.{needs}
+use borrow.Author.Tests.{leb-true}
+use lib.Dec.{leb}
 use lib.IntN.{ℤ}
 use mir.Syntax.{w32}
 use mir.Val.{SFits}
 use mir.Facts.{toZ-ofZ}
-use Rattle.backoff.specs.NineNumbers.{stateIn}
+use Rattle.integer.proofs.Ranges.{and-right}
+use Rattle.backoff.specs.Limits.{wordLimit}
+use Rattle.backoff.specs.Words.{isWord}
 use Rattle.backoff.specs.Store.{scored}
-use Rattle.score.specs.Answers.{numbersOf}
+use Rattle.score.specs.declared.Packed.{Packed}
+use Rattle.score.specs.Inner.{pushed}
 use Rattle.score.proofs.scored.Statement.{statement}
 use Rattle.score.proofs.scored.Tie as tie
 
@@ -22,24 +28,26 @@ add-kind-of c = search needs
 kind-of-requires : tie.Need-kind-of-requires
 kind-of-requires c κs = search needs
 
-owed-requires : tie.Need-owed-requires
-owed-requires c κs = search needs
+mul-t12 : tie.Need-mul-t12
+mul-t12 c = search needs
 
-next-state-requires : tie.Need-next-state-requires
-next-state-requires c κs = search needs
+word-high : (s : tie.Start) → s .args .word ≤ wordLimit
+unfolding isWord
+word-high s = leb-true (s .args .word) wordLimit (and-right (leb 1 (s .args .word)) (leb (s .args .word) wordLimit) (s .pre .0))
+
+add-t14 : tie.Need-add-t14
+add-t14 c = omega (arith, word-high (c .before))
 
 returns : tie.Need-returns
 returns c =
-    let k = c .before .before .before in
-    let s = k .before .before .before .before in
-    let p : SFits w32 (s .args .walked .p) = search needs in
-    let x : SFits w32 (c .before .owed .result) = sfits-of (c .before .owed .ok) in
+    let k = c .before in
+    let s = k .before in
+    let o : SFits w32 (s .args .kept .owed) = search needs in
     record {
-      word = ap₂ (λ (y : ℤ) (b : ℕ). scored y b (stateIn (numbersOf (c .next-state .result)))) (toZ-ofZ x ∙ c .before .owed .ensures ∙ rw (toZ-ofZ p)) (k .kind-of .ensures ∙ rw add-one);
-      next = c .next-state .ensures;
+      word = λ t. ap₂ (λ (y : ℤ) (b : ℕ). scored y b t) (toZ-ofZ (s .fits .points)) (k .kind-of .ensures ∙ rw add-one);
+      next = ap {B = Packed} (λ (z : ℤ). record { count = s .args .kept .count; words = pushed (s .args .word) (s .args .words); owed = z }) (toZ-ofZ o);
     }
 
 pub scored-spec : {M : Type 1} → statement M
 scored-spec =
-    tie.close
-    (tie.spec cast-kind-of add-kind-of kind-of-requires owed-requires next-state-requires returns)
+    tie.close (tie.spec cast-kind-of add-kind-of kind-of-requires mul-t12 add-t14 returns)

@@ -1,20 +1,28 @@
 -- `score::step` meets its contract. Assumes nothing.
-use mathlib.Core.Path.{_≡_, sym, _∙_}
-use mathlib.Core.Bool.{true}
+use mathlib.Core.Path.{_≡_, sym, ap₂, _∙_, subst}
+use mathlib.Core.List.{List}
 use Prim.Native.Nat.{ℕ}
 use native.Mathlib.Omega.{arith}
-use borrow.Author.Needs.{needs}
-use borrow.Author.Tests.{not-true, not-false}
-use Rattle.backoff.specs.NineNumbers.{stateIn, stateOk}
-use Rattle.backoff.specs.Store.{scored}
+use borrow.Author.Needs.{needs, sfits-of}
+use lib.IntN.{ℤ}
+use mir.Syntax.{w32}
+use mir.Val.{SFits}
+use mir.Facts.{toZ-ofZ}
+use Rattle.backoff.specs.Limits.{unknownWord}
+use Rattle.backoff.specs.State.{State as Carried}
+use Rattle.backoff.specs.Store.{Store, stuck, step}
 use Rattle.double_array.specs.DoubleArray.{childAt, orderIn, storeIn}
 use Rattle.double_array.specs.declared.Child.the-variants.{At}
-use Rattle.double_array.proofs.DoubleArray.{opened-sizes, opened-order, child-inside}
+use Rattle.double_array.proofs.DoubleArray.{opened-sizes, child-inside}
+use Rattle.score.specs.declared.First.{First}
 use Rattle.score.specs.declared.First.the-variants.{From}
-use Rattle.score.specs.Answers.{numbersOf}
-use Rattle.score.specs.Inner.{firstOf, Read, WalkedOver}
-use Rattle.score.proofs.Carried.{Four, all-in-backoff}
-use Rattle.score.proofs.Stepping.{first-child, first-missing, first-broken, passed-few, kept-few, p-in-range, word-is-word, stepped}
+use Rattle.score.specs.declared.Word.the-variants.{Refused}
+use Rattle.score.specs.declared.Packed.{Packed}
+use Rattle.score.specs.declared.Kept.{Kept}
+use Rattle.score.specs.declared.Walked.{Walked}
+use Rattle.score.specs.declared.Walked.the-variants.{Whole, Stuck}
+use Rattle.score.specs.Inner.{firstOf, heldIn, Carries, Read, WalkedOver, ScoredAs, SteppedTo}
+use Rattle.score.proofs.Stepping.{root-child, first-child, first-missing, first-broken, passed-few, word-is-word, stepped}
 use Rattle.score.proofs.step.Statement.{statement}
 use Rattle.score.proofs.step.Tie as tie
 
@@ -27,22 +35,21 @@ enum-known-slot c = search needs
 enum-told : tie.Need-enum-told
 enum-told c = search needs
 
-arrays : (s : tie.Start) → Four (s .args .state)
-arrays s = record { words = search needs; backoffs = search needs }
+-- a word that is refused
+refused : {S : Store} {s : Carried} {w : ℕ} {next : Packed} {backoffs : List ℤ} → step S s w ≡ stuck → SteppedTo S s w (record { word = Refused; next = next }) backoffs
+refused e = record { is = sym e; carries = λ kind points q. let z : _≡_ {A = ℕ} 0 1 = cc in absurd (omega arith) }
 
--- the given state passes check 16, by the array's own order
-given-ok : (s : tie.Start) → stateOk (orderIn (s .args .check .now)) (numbersOf (s .args .state)) ≡ true
-given-ok s = rw (s .pre .1 .0) at (s .pre .1 .1)
+-- the first node is what `first_node` answered
+first-told : (c : tie.After-first-node) (r : First) → c .first-node .result ≡ r → firstOf (c .before .args .w) (childAt (c .before .args .base .now) (c .before .args .check .now) 0 (c .before .args .w)) (childAt (c .before .args .base .now) (c .before .args .check .now) 0 unknownWord) ≡ r
+first-told c r e =
+    let s = c .before in
+    ap₂ (firstOf (s .args .w)) (sym (root-child (s .args .base .now) (s .args .check .now) (s .pre .0) (s .args .w))) (sym (root-child (s .args .base .now) (s .args .check .now) (s .pre .0) unknownWord)) ∙ sym (c .first-node .ensures) ∙ e
 
 returns : tie.Need-returns
-unfolding storeIn
 returns c =
     let f = c .before .before in
     let s = f .before in
-    record {
-      is = sym (first-missing (s .args .base .now) (s .args .check .now) (s .pre .0) (s .args .w) (stateIn (numbersOf (s .args .state))) (sym (f .first-node .ensures) ∙ c .enum-told .given .1));
-      ok = given-ok s;
-    }
+    refused (first-missing (s .args .base .now) (s .args .check .now) (s .pre .0) (s .args .w) (heldIn (s .args .carried) (s .args .backoffs .now)) (first-told f _ (c .enum-told .given .1)))
 
 -- the first node: the slot of the root's child for the word that is scored
 abbrev slot : tie.After-slot → ℕ
@@ -51,8 +58,8 @@ slot c = c .slot .given .0 .0
 abbrev word : tie.After-slot → ℕ
 word c = c .slot .given .0 .1 .0
 
-first-is : (c : tie.After-slot) → firstOf (c .before .before .before .args .w) (childAt (c .before .before .before .args .base .now) (c .before .before .before .args .check .now) 0 (c .before .before .before .args .w)) (childAt (c .before .before .before .args .base .now) (c .before .before .before .args .check .now) 0 1) ≡ From (slot c) (word c)
-first-is c = sym (c .before .before .first-node .ensures) ∙ c .slot .given .1
+first-is : (c : tie.After-slot) → firstOf (c .before .before .before .args .w) (childAt (c .before .before .before .args .base .now) (c .before .before .before .args .check .now) 0 (c .before .before .before .args .w)) (childAt (c .before .before .before .args .base .now) (c .before .before .before .args .check .now) 0 unknownWord) ≡ From (slot c) (word c)
+first-is c = first-told (c .before .before) _ (c .slot .given .1)
 
 child-is : (c : tie.After-slot) → childAt (c .before .before .before .args .base .now) (c .before .before .before .args .check .now) 0 (word c) ≡ At (slot c)
 child-is c =
@@ -61,53 +68,73 @@ child-is c =
 
 walk-requires : tie.Need-walk-requires
 walk-requires c κs =
-    let s = c .before .before .before .before in
+    let t = c .before .before in
+    let s = t .before .before .before in
     let z = opened-sizes (s .args .base .now) (s .args .check .now) (s .pre .0) in
-    (s .pre .0, (s .pre .1 .0, (omega (arith, child-inside (s .args .base .now) (s .args .check .now) 0 (word (c .before)) (slot (c .before)) (child-is (c .before))), s .pre .1 .1)))
+    (s .pre .0, (s .pre .1 .0, (omega (arith, child-inside (s .args .base .now) (s .args .check .now) 0 (word t) (slot t) (child-is t)), s .pre .1 .1)))
 
--- what the walk told
-walked : (c : tie.After-walk) → WalkedOver (storeIn (c .before .before .before .before .before .args .base .now) (c .before .before .before .before .before .args .check .now)) (stateIn (numbersOf (c .before .before .before .before .before .args .state)) .words) (word (c .before .before)) (c .walk .result)
-walked c = c .walk .ensures (word (c .before .before)) (child-is (c .before .before))
+-- the lent back-offs as the walk left them, and what it told
+abbrev backoffs : tie.After-walk → List ℤ
+backoffs c = c .walk .last .1 .1 .1 .1 .1 .0
+
+walked : (c : tie.After-walk) (r : Walked) → c .walk .result ≡ r → WalkedOver (storeIn (c .before .before .before .before .before .before .args .base .now) (c .before .before .before .before .before .before .args .check .now)) (heldIn (c .before .before .before .before .before .before .args .carried) (c .before .before .before .before .before .before .args .backoffs .now)) (word (c .before .before .before)) r (backoffs c)
+walked c r e =
+    let s = c .before .before .before .before .before .before in
+    subst (λ (k : Walked). WalkedOver (storeIn (s .args .base .now) (s .args .check .now)) (heldIn (s .args .carried) (s .args .backoffs .now)) (word (c .before .before .before)) k (backoffs c)) e (c .walk .ensures (word (c .before .before .before)) (child-is (c .before .before .before)))
+
+enum-known-walked : tie.Need-enum-known-walked
+enum-known-walked c = search needs
+
+enum-told-2 : tie.Need-enum-told-2
+enum-told-2 c = search needs
 
 returns-2 : tie.Need-returns-2
-unfolding storeIn
 returns-2 c =
     let k = c .before .before in
-    let t = k .before .before in
+    let t = k .before .before .before in
     let s = t .before .before .before in
-    record {
-      is = sym (first-broken (s .args .base .now) (s .args .check .now) (s .pre .0) (s .args .w) (slot t) (word t) (first-is t) (stateIn (numbersOf (s .args .state))) (walked k .broken (not-true (k .walk .result .sound) (c .if1 .taken))));
-      ok = given-ok s;
-    }
+    refused (first-broken (s .args .base .now) (s .args .check .now) (s .pre .0) (s .args .w) (slot t) (word t) (first-is t) (heldIn (s .args .carried) (s .args .backoffs .now)) (walked k Stuck (c .enum-told2 .given .1)))
 
-read : (c : tie.Else1) → Read (storeIn (c .before .before .before .before .before .before .before .args .base .now) (c .before .before .before .before .before .before .before .args .check .now)) (stateIn (numbersOf (c .before .before .before .before .before .before .before .args .state)) .words) (word (c .before .before .before .before)) (c .before .before .walk .result)
-read c = let k = c .before .before in walked k .whole (not-false (k .walk .result .sound) (c .if1 .left))
+-- what the walk has read
+abbrev points : tie.After-walked → ℤ
+points c = c .walked .given .0 .0
+
+abbrev passed : tie.After-walked → ℕ
+passed c = c .walked .given .0 .1 .0
+
+abbrev kept : tie.After-walked → Kept
+kept c = c .walked .given .0 .1 .1 .0
+
+points-fits : (c : tie.After-known-told2) → SFits w32 (points (c .before))
+points-fits c = sfits-of (c .known-told2 .given .0 .1)
+
+read : (c : tie.After-walked) → Read (storeIn (c .before .before .before .before .before .before .before .before .args .base .now) (c .before .before .before .before .before .before .before .before .args .check .now)) (heldIn (c .before .before .before .before .before .before .before .before .args .carried) (c .before .before .before .before .before .before .before .before .args .backoffs .now)) (word (c .before .before .before .before .before)) (points c) (passed c) (kept c) (backoffs (c .before .before))
+read c = walked (c .before .before) (Whole (points c) (passed c) (kept c)) (c .walked .given .1)
+
+-- the state that was given, by the array's own order
+held : (s : tie.Start) → Carries (orderIn (s .args .check .now)) (s .args .carried) (s .args .backoffs .now)
+held s = rw (s .pre .1 .0) at (s .pre .1 .1)
 
 scored-requires : tie.Need-scored-requires
 scored-requires c κs =
-    let t = c .before .before .before .before in
+    let m = c .before in
+    let k = m .before .before in
+    let t = k .before .before .before in
     let s = t .before .before .before in
-    let a = s .args in
-    let w = c .before .before .walk .result in (
-      word-is-word (a .base .now) (a .check .now) (s .pre .0) (a .state) (arrays s) (given-ok s) (word t) (slot t) (child-is t) w (read c),
-      (
-        (
-          passed-few (a .base .now) (a .check .now) (s .pre .0) (a .state) (arrays s) (given-ok s) (word t) (slot t) (child-is t) w (read c),
-          kept-few (a .base .now) (a .check .now) (s .pre .0) (a .state) (arrays s) (given-ok s) (word t) (slot t) (child-is t) w (read c),
-        ),
-        (
-          p-in-range (a .base .now) (a .check .now) (s .pre .0) (a .state) (arrays s) (given-ok s) (word t) (slot t) (child-is t) w (read c),
-          all-in-backoff (orderIn (a .check .now)) (a .state) (arrays s) (opened-order (a .base .now) (a .check .now) (s .pre .0) .1) (given-ok s),
-        ),
-      ),
+    let a = s .args in (
+      word-is-word (a .base .now) (a .check .now) (s .pre .0) (a .carried) (a .backoffs .now) (held s) (word t) (slot t) (child-is t) (points m) (passed m) (kept m) (backoffs k) (read m),
+      passed-few (a .base .now) (a .check .now) (s .pre .0) (a .carried) (a .backoffs .now) (held s) (word t) (slot t) (child-is t) (points m) (passed m) (kept m) (backoffs k) (read m),
     )
 
 returns-3 : tie.Need-returns-3
 returns-3 c =
-    let t = c .before .before .before .before .before in
+    let m = c .before .before in
+    let k = m .before .before in
+    let t = k .before .before .before in
     let s = t .before .before .before in
     let a = s .args in
-    stepped (a .base .now) (a .check .now) (s .pre .0) (a .state) (arrays s) (given-ok s) (word t) (slot t) (child-is t) (c .before .before .before .walk .result) (read (c .before)) (a .w) (first-is t) (c .scored .result) (c .scored .ensures)
+    stepped (a .base .now) (a .check .now) (s .pre .0) (a .carried) (a .backoffs .now) (held s) (word t) (slot t) (child-is t) (points m) (passed m) (kept m) (backoffs k) (read m) (a .w) (first-is t) (c .scored .result)
+    (subst (λ (x : ℤ). ScoredAs (a .carried .words) (word t) x (passed m) (kept m) (c .scored .result)) (toZ-ofZ (points-fits (c .before))) (c .scored .ensures))
 
 pub step-spec : {M : Type 1} → statement M
 step-spec =
@@ -118,6 +145,8 @@ step-spec =
     enum-told
     returns
     walk-requires
+    enum-known-walked
+    enum-told-2
     returns-2
     scored-requires
     returns-3)

@@ -1,47 +1,55 @@
--- `score::walk` meets its contract. The loop's invariant: the walk of each word v whose node is in the given slot has come to the node in slot s.
--- Assumes nothing.
-use mathlib.Core.Path.{_≡_, refl, sym, ap, ap₂, _∙_}
-use mathlib.Core.Bool.{Bool, true, true≢false, false≢true}
-use mathlib.Core.List.{List, map}
-use Prim.Native.Nat.{ℕ, _+_, _-_, _≤_, _<_}
+-- `score::walk` meets its contract. The loop's invariant: the walk of each word v whose node is in the given slot has come to the node in slot s,
+-- and the sums are those of the back-offs in the lent array. Assumes nothing.
+use mathlib.Core.Path.{_≡_, refl, sym, ap, _∙_}
+use mathlib.Core.Bool.{Bool, true, false, not, cond, _&&_, _||_}
+use mathlib.Core.List.{List}
+use Prim.Native.Nat.{ℕ, _+_, _*_, _-_, _/_, _%_, _≤_, _<_}
+use native.Mathlib.Numerals.{add-one}
 use native.Mathlib.Omega.{arith}
 use borrow.Author.Needs.{needs, sfits-of}
-use lib.ListN.{length, getD, set, take, length-map, length-set, List·getD-map}
+use borrow.Author.Tests.{ltb-true, lt-ltb}
+use lib.Dec.{ltb}
+use lib.ListN.{length, getD, set, take, drop}
 use lib.Seq.{length-take-le, getD-take}
-use lib.IntN.{ℤ, pos, natAbs}
+use lib.IntN.{ℤ, pos, natAbs, _+ℤ_, _-ℤ_}
 use mir.Syntax.{w32}
 use mir.Val.{SFits, toZ, ofZ}
 use mir.Facts.{toZ-ofZ}
-use Rattle.integer.proofs.Arithmetic.{zarith, to-nat}
-use Rattle.integer.proofs.Ranges.{between-low}
-use Rattle.backoff.specs.Limits.{orderLimit, wordLimit}
-use Rattle.backoff.specs.NineNumbers.{stateIn}
+use Rattle.integer.specs.Integer.{eqZ, sum}
+use Rattle.integer.proofs.Arithmetic.{zarith, abs, add, sub}
+use Rattle.integer.proofs.Ranges.{between-low, between-high}
+use Rattle.backoff.specs.Limits.{leastProbability, largestBackoff}
+use Rattle.backoff.specs.Words.{radix}
+use Rattle.backoff.specs.Model.{inProbability}
+use Rattle.backoff.specs.State.{State as Carried}
 use Rattle.backoff.specs.Store.{Store}
+use Rattle.backoff.proofs.Sizes.{backoffs-size}
 use Rattle.double_array.specs.DoubleArray.{childAt, markerAt, orderIn}
 use Rattle.double_array.specs.declared.Child.{Child}
 use Rattle.double_array.specs.declared.Child.the-variants.{At, Nothing}
 use Rattle.double_array.specs.declared.Marker.{Marker}
 use Rattle.double_array.specs.declared.Marker.the-variants.{Sound, Broken}
-use Rattle.double_array.proofs.DoubleArray.{Sizes, opened-sizes, opened-order}
-use Rattle.score.specs.Answers.{numbersOf}
-use Rattle.score.specs.Inner.{longestLive, Read, WalkedOver}
-use Rattle.score.proofs.Carried.{Four, count-low, count-high, held-words, word-between}
-use Rattle.score.proofs.Walking.{Walking, walking-begins, walking-broken, walking-on, walking-ends, walking-stops}
+use Rattle.double_array.proofs.DoubleArray.{IsMarker, marker-told, Sizes, opened-sizes, opened-order}
+use Rattle.score.specs.declared.Kept.{Kept}
+use Rattle.score.specs.Inner.{digits, longestLive, Read}
+use Rattle.score.proofs.Digits.{shifted, length-digits, digit-at}
+use Rattle.score.proofs.Owing.{Owing, owing-begins, owed-less, total-more, now-owed, owing-on}
+use Rattle.score.proofs.Walking.{Walking, walking-begins, walking-broken, walking-on, walking-ends}
 use Rattle.score.proofs.walk.Statement.{statement}
 use Rattle.score.proofs.walk.Tie as tie
 
-record Loop (base check : List ℤ) (slot : ℕ) (words : List ℤ) (count s passed kept : ℕ) (backoffs : List ℤ) : Type 0 where
+record Loop (base check : List ℤ) (slot count words : ℕ) (given backoffs : List ℤ) (older : ℕ) (owed : ℤ) (s passed : ℕ) (total : ℤ) (kept : Kept) : Type 0 where
   inside : s < length base
   few : passed ≤ count
-  four : count ≤ 4
-  five : length backoffs ≡ 5
-  walking : (v : ℕ) → childAt base check 0 v ≡ At slot → Walking base check v (map natAbs (take count words)) s passed kept backoffs
+  older-is : older ≡ shifted passed words
+  owing : Owing count given passed kept total owed backoffs
+  walking : (v : ℕ) → childAt base check 0 v ≡ At slot → Walking base check v (take count (digits 4 words)) s passed kept backoffs
 
 abbrev Inv-loop : tie.InvT-loop
-Inv-loop base check order slot words count s₀ passed₀ kept₀ backoffs₀ s passed kept backoffs = Loop base check slot words count s passed kept backoffs
+Inv-loop base check order slot backoffs₀ count older₀ owed₀ s₀ passed₀ sum₀ kept₀ backoffs older owed s passed sum kept = Loop base check slot count older₀ backoffs₀ backoffs older (toZ w32 owed) s passed (toZ w32 sum) kept
 
 abbrev μ-loop : tie.MeasureT-loop
-μ-loop base check order slot words count s₀ passed₀ kept₀ backoffs₀ s passed kept backoffs = count - passed
+μ-loop base check order slot backoffs₀ count older₀ owed₀ s₀ passed₀ sum₀ kept₀ backoffs older owed s passed sum kept = count - passed
 
 -- ---- what holds all along
 
@@ -51,54 +59,43 @@ Entry = tie.Start Inv-loop μ-loop
 sizes : (s : Entry) → Sizes (s .args .base .now) (s .args .check .now)
 sizes s = opened-sizes (s .args .base .now) (s .args .check .now) (s .pre .0)
 
-limit : (s : Entry) → s .args .order ≤ orderLimit
-limit s = omega (arith, opened-order (s .args .base .now) (s .args .check .now) (s .pre .0), s .pre .1 .0)
+five : (s : Entry) → length (s .args .backoffs .now) ≡ 5
+five s = s .pre .1 .1 .1 .five
 
-arrays : (s : Entry) → Four (s .args .state)
-arrays s = record { words = search needs; backoffs = search needs }
+count-few : (s : Entry) → s .args .carried .count ≤ 4
+count-few s = omega (arith, opened-order (s .args .base .now) (s .args .check .now) (s .pre .0), s .pre .1 .0, s .pre .1 .1 .1 .few)
 
--- the state's words, with the count as the code reads it
+-- the state's words and back-offs
 abbrev words : Entry → List ℕ
-words s = map natAbs (take (natAbs (toZ w32 (ofZ w32 (s .args .state .count)))) (s .args .state .words))
+words s = take (s .args .carried .count) (digits 4 (s .args .carried .words))
 
-count-fits : (c : tie.After-struct-told Inv-loop μ-loop) → SFits w32 (c .before .before .before .args .state .count)
-count-fits c = search needs
+abbrev left : Entry → List ℤ
+left s = take (s .args .carried .count) (s .args .backoffs .now)
 
-held : (c : tie.After-struct-told Inv-loop μ-loop) → stateIn (numbersOf (c .before .before .before .args .state)) .words ≡ words (c .before .before .before)
-held c =
-    let s = c .before .before .before in
-    rw (toZ-ofZ (count-fits c)) (held-words (s .args .order) (s .args .state) (arrays s) (limit s) (s .pre .1 .1 .1))
+length-words : (s : Entry) → length (words s) ≡ s .args .carried .count
+length-words s = length-take-le (s .args .carried .count) (digits 4 (s .args .carried .words)) (omega (arith, count-few s, length-digits 4 (s .args .carried .words)))
 
-count-few : (c : tie.After-struct-told Inv-loop μ-loop) → natAbs (toZ w32 (ofZ w32 (c .before .before .before .args .state .count))) ≤ 4
-count-few c =
-    let s = c .before .before .before in
-    rw (toZ-ofZ (count-fits c)) (omega (arith, count-high (s .args .order) (s .args .state) (arrays s) (limit s) (s .pre .1 .1 .1), limit s))
+owed-size : (s : Entry) (j : ℕ) → natAbs (sum (drop j (left s))) ≤ 4 * largestBackoff
+owed-size s j = omega (arith, backoffs-size (left s) j (s .pre .1 .1 .1 .in-backoffs), length-take-le (s .args .carried .count) (s .args .backoffs .now) (omega (arith, count-few s, five s)), count-few s)
 
-length-words : (c : tie.After-struct-told Inv-loop μ-loop) → length (words (c .before .before .before)) ≡ natAbs (toZ w32 (ofZ w32 (c .before .before .before .args .state .count)))
-length-words c =
-    let s = c .before .before .before in
-    length-map (take (natAbs (toZ w32 (ofZ w32 (s .args .state .count)))) (s .args .state .words)) natAbs ∙ length-take-le _ (s .args .state .words) (omega (arith, count-few c, arrays s .words))
+owed-fits : (c : tie.After-struct-told Inv-loop μ-loop) → SFits w32 (c .before .args .carried .owed)
+owed-fits c = search needs
 
 -- ---- the needs
 
-cast-count : tie.Need-cast-count Inv-loop μ-loop
-cast-count c =
-    let s = c .before .before .before in
-    to-nat tt (count-fits c) (count-low (s .args .order) (s .args .state) (arrays s) (limit s) (s .pre .1 .1 .1))
-
 loop-holds : tie.Need-loop-holds Inv-loop μ-loop
 loop-holds c =
-    let s = c .before .before .before in
+    let s = c .before in
     record {
       inside = s .pre .1 .1 .0;
       few = omega arith;
-      four = count-few c;
-      five = refl;
+      older-is = refl;
+      owing = owing-begins (s .args .carried .count) (s .args .backoffs .now) _ (toZ-ofZ (owed-fits c) ∙ s .pre .1 .1 .1 .owed);
       walking = λ v e. walking-begins (s .args .base .now) (s .args .check .now) v (words s) (s .args .slot) _ (s .pre .0) e;
     }
 
 read-marker-requires : tie.Need-read-marker-requires Inv-loop μ-loop
-read-marker-requires c κs = (sizes (c .before .before .before .before) .same, c .loop .inv .inside)
+read-marker-requires c κs = (sizes (c .before .before) .same, c .loop .inv .inside)
 
 enum-known-p : tie.Need-enum-known-p Inv-loop μ-loop
 enum-known-p c = search needs
@@ -107,32 +104,27 @@ enum-told : tie.Need-enum-told Inv-loop μ-loop
 enum-told c = search needs
 
 -- the node's marker is what `read_marker` answered
-marker-is : (c : tie.After-read-marker Inv-loop μ-loop) (m : Marker) → c .read-marker .result ≡ m → markerAt (c .before .before .before .before .before .args .base .now) (c .before .before .before .before .before .args .check .now) (c .before .loop .s) ≡ m
+marker-is : (c : tie.After-read-marker Inv-loop μ-loop) (m : Marker) → c .read-marker .result ≡ m → markerAt (c .before .before .before .args .base .now) (c .before .before .before .args .check .now) (c .before .loop .s) ≡ m
 marker-is c m e = sym (c .read-marker .ensures) ∙ e
 
 returns : tie.Need-returns Inv-loop μ-loop
 returns c = λ v e.
     let r = c .before .before in
     let l = r .before in
-    let s = l .before .before .before .before in
-    let k = length-words (l .before) in
-    rw (held (l .before))
-    (record {
-      whole = λ q. absurd (false≢true q);
-      broken = λ q. walking-broken (s .args .base .now) (s .args .check .now) v (words s) (l .loop .s) (l .loop .passed) (l .loop .kept) (l .loop .backoffs) (l .loop .inv .walking v e) (omega arith) (marker-is r Broken (c .enum-told .given .1));
-    })
+    let s = l .before .before in
+    walking-broken (s .args .base .now) (s .args .check .now) v (words s) (l .loop .s) (l .loop .passed) (l .loop .kept) (l .loop .backoffs) (l .loop .inv .walking v e) (omega (arith, length-words s, l .loop .inv .few)) (marker-is r Broken (c .enum-told .given .1))
 
-mul-backoffs : tie.Need-mul-backoffs Inv-loop μ-loop
-mul-backoffs c = search needs
+mul-old : tie.Need-mul-old Inv-loop μ-loop
+mul-old c = let l = c .before .before .before .before in omega (arith, l .loop .inv .few, count-few (l .before .before))
 
-array-set-from-backoffs : tie.Need-array-set-from-backoffs Inv-loop μ-loop
-array-set-from-backoffs c = search needs
+element-copy-out-old : tie.Need-element-copy-out-old Inv-loop μ-loop
+element-copy-out-old c = let l = c .before .before .before .before in omega (arith, l .loop .inv .few, count-few (l .before .before))
 
-add-longest-live : tie.Need-add-longest-live Inv-loop μ-loop
-add-longest-live c = search needs
+mul-b : tie.Need-mul-b Inv-loop μ-loop
+mul-b c = mul-old (c .before)
 
-longest-live-requires : tie.Need-longest-live-requires Inv-loop μ-loop
-longest-live-requires c κs = search needs
+element-set-from-b : tie.Need-element-set-from-b Inv-loop μ-loop
+element-set-from-b c = element-copy-out-old (c .before)
 
 -- what the node's marker holds
 abbrev p : tie.After-p Inv-loop μ-loop → ℤ
@@ -150,76 +142,43 @@ p-fits c = sfits-of (c .known-told .given .0 .1)
 b-fits : (c : tie.After-known-told Inv-loop μ-loop) → SFits w32 (b (c .before))
 b-fits c = sfits-of (c .known-told .given .1 .0 .1)
 
-marker-sound : (c : tie.After-p Inv-loop μ-loop) → markerAt (c .before .before .before .before .before .before .before .args .base .now) (c .before .before .before .before .before .before .before .args .check .now) (c .before .before .before .loop .s) ≡ Sound (p c) (b c) (f c)
+marker-sound : (c : tie.After-p Inv-loop μ-loop) → markerAt (c .before .before .before .before .before .args .base .now) (c .before .before .before .before .before .args .check .now) (c .before .before .before .loop .s) ≡ Sound (p c) (b c) (f c)
 marker-sound c = marker-is (c .before .before) _ (c .p .given .1)
 
-noted-is : (c : tie.After-longest-live Inv-loop μ-loop) → c .longest-live .result ≡ longestLive (c .before .before .before .before .before .loop .kept) (c .before .before .before .before .before .loop .passed + 1) (orderIn (c .before .before .before .before .before .before .before .before .before .args .check .now)) (b (c .before .before)) (f (c .before .before))
-noted-is c =
-    let l = c .before .before .before .before .before in
-    let s = l .before .before .before .before in
-    c .longest-live .ensures ∙ ap₂ (λ (o : ℕ) (x : ℤ). longestLive (l .loop .kept) (l .loop .passed + 1) o x (f (c .before .before))) (s .pre .1 .0) (toZ-ofZ (b-fits (c .before)))
+in-range : (c : tie.After-p Inv-loop μ-loop) → IsMarker (c .before .before .before .before .before .args .base .now) (c .before .before .before .before .before .args .check .now) (c .before .before .before .loop .s) (p c) (b c) (f c)
+in-range c =
+    let l = c .before .before .before in
+    let s = l .before .before in
+    marker-told (s .args .base .now) (s .args .check .now) (l .loop .s) (p c) (b c) (f c) (marker-sound c)
 
-read-is : (c : tie.After-known-told Inv-loop μ-loop) → set (c .before .before .before .before .loop .backoffs) (c .before .before .before .before .loop .passed) (toZ w32 (ofZ w32 (b (c .before)))) ≡ set (c .before .before .before .before .loop .backoffs) (c .before .before .before .before .loop .passed) (b (c .before))
-read-is c = let l = c .before .before .before .before .loop in ap (set (l .backoffs) (l .passed)) (toZ-ofZ (b-fits c))
+-- the sum of the back-offs up to the node
+abbrev total : tie.After-p Inv-loop μ-loop → ℤ
+total c = toZ w32 (c .before .before .before .loop .sum) +ℤ b c
 
--- a sound walk that ends at this node, as the code returns it
-told : {S : Store} {ws held : List ℕ} {v passed kept noted : ℕ} {p x : ℤ} {bs cs : List ℤ} → held ≡ ws → x ≡ p → noted ≡ kept → cs ≡ bs → Read S ws v (record { sound = true; p = p; passed = passed; kept = kept; backoffs = bs }) → WalkedOver S held v (record { sound = true; p = x; passed = passed; kept = noted; backoffs = cs })
-told d e g h r = rw (d, e, g, h) (record { whole = λ q. r; broken = λ q. absurd (true≢false q) })
+passed-inside : (c : tie.After-p Inv-loop μ-loop) → c .before .before .before .loop .passed < length (c .before .before .before .before .before .args .backoffs .now)
+passed-inside c =
+    let l = c .before .before .before in
+    omega (arith, l .loop .inv .few, count-few (l .before .before), five (l .before .before))
 
-returns-2 : tie.Need-returns-2 Inv-loop μ-loop
-returns-2 c = λ v e.
-    let k = c .before .before in
-    let m = k .before in
-    let l = m .before .before .before in
-    let s = l .before .before .before .before in
-    let n = length-words (l .before) in
-    told (held (l .before)) (toZ-ofZ (p-fits k)) (noted-is (c .before)) (read-is k)
-    (walking-ends (s .args .base .now) (s .args .check .now) v (words s) (l .loop .s) (l .loop .passed) (l .loop .kept) (l .loop .backoffs) (l .loop .inv .walking v e) (p m) (b m) (f m) (marker-sound m) (c .if1 .taken ∙ sym n) (omega arith))
+total-fits : (c : tie.After-p Inv-loop μ-loop) → SFits w32 (total c)
+total-fits c =
+    let l = c .before .before .before in
+    let s = l .before .before in
+    omega (zarith, total-more (s .args .carried .count) (s .args .backoffs .now) (l .loop .passed) (l .loop .kept) (toZ w32 (l .loop .sum)) (toZ w32 (l .loop .owed)) (l .loop .backoffs) (l .loop .inv .owing) (passed-inside c) (b c) (in-range c .b-in-range), abs (total c), add (toZ w32 (l .loop .sum)) (b c), l .loop .inv .few, count-few s)
 
-passed-few : (c : tie.Else1 Inv-loop μ-loop) → c .before .before .before .before .before .before .loop .passed < length (words (c .before .before .before .before .before .before .before .before .before .before))
-passed-few c =
+add-sum : tie.Need-add-sum Inv-loop μ-loop
+add-sum c = rw (toZ-ofZ (b-fits (c .before))) (total-fits (c .before .before))
+
+add-longest-live : tie.Need-add-longest-live Inv-loop μ-loop
+add-longest-live c = search needs
+
+longest-live-requires : tie.Need-longest-live-requires Inv-loop μ-loop
+longest-live-requires c κs = rw (toZ-ofZ (b-fits (c .before))) (in-range (c .before .before) .b-in-range)
+
+next-node-requires : tie.Need-next-node-requires Inv-loop μ-loop
+next-node-requires c κs =
     let l = c .before .before .before .before .before .before in
-    omega (arith, length-words (l .before), c .if1 .left)
-
-mul-find-child : tie.Need-mul-find-child Inv-loop μ-loop
-mul-find-child c = omega (arith, c .before .before .before .before .before .before .loop .inv)
-
-array-copy-out-find-child : tie.Need-array-copy-out-find-child Inv-loop μ-loop
-array-copy-out-find-child c =
-    let l = c .before .before .before .before .before .before in
-    omega (arith, passed-few c, length-words (l .before), l .loop .inv)
-
--- the state's next word
-word-fits : (c : tie.After-find-child-arg Inv-loop μ-loop) → SFits w32 (getD (c .before .before .before .before .before .before .before .before .before .before .before .args .state .words) (c .before .before .before .before .before .before .before .loop .passed) (pos 0))
-word-fits c = sfits-of (c .find-child-arg .given)
-
-cast-find-child : tie.Need-cast-find-child Inv-loop μ-loop
-cast-find-child c =
-    let s = c .before .before .before .before .before .before .before .before .before .before .before in
-    let l = c .before .before .before .before .before .before .before in
-    let few : l .loop .passed < natAbs (s .args .state .count) = rw (length-words (l .before), toZ-ofZ (count-fits (l .before))) at (passed-few (c .before)) in
-    let w = between-low (pos 1) (pos wordLimit) (getD (s .args .state .words) (l .loop .passed) (pos 0)) (word-between (s .args .order) (s .args .state) (arrays s) (limit s) (s .pre .1 .1 .1) (l .loop .passed) few) in
-    to-nat tt (word-fits c) (omega zarith)
-
--- as the laws have it
-word-is : (c : tie.After-find-child-arg Inv-loop μ-loop) → natAbs (toZ w32 (ofZ w32 (getD (c .before .before .before .before .before .before .before .before .before .before .before .args .state .words) (c .before .before .before .before .before .before .before .loop .passed) (pos 0)))) ≡ getD (words (c .before .before .before .before .before .before .before .before .before .before .before)) (c .before .before .before .before .before .before .before .loop .passed) 0
-word-is c =
-    let l = c .before .before .before .before .before .before .before in
-    let a = l .before .before .before .before .args .state in
-    let n = natAbs (toZ w32 (ofZ w32 (a .count))) in
-    ap natAbs (toZ-ofZ (word-fits c) ∙ sym (getD-take n (a .words) (l .loop .passed) (pos 0) (omega (arith, passed-few (c .before), length-words (l .before)))))
-    ∙ sym (List·getD-map natAbs (take n (a .words)) (l .loop .passed) (pos 0))
-
-child-is : (c : tie.After-find-child Inv-loop μ-loop) (r : Child) → c .find-child .result ≡ r → childAt (c .before .before .before .before .before .before .before .before .before .before .before .before .args .base .now) (c .before .before .before .before .before .before .before .before .before .before .before .before .args .check .now) (c .before .before .before .before .before .before .before .before .loop .s) (getD (words (c .before .before .before .before .before .before .before .before .before .before .before .before)) (c .before .before .before .before .before .before .before .before .loop .passed) 0) ≡ r
-child-is c r e =
-    let l = c .before .before .before .before .before .before .before .before in
-    let s = l .before .before .before .before in
-    ap (childAt (s .args .base .now) (s .args .check .now) (l .loop .s)) (sym (word-is (c .before))) ∙ sym (c .find-child .ensures .0) ∙ e
-
-find-child-requires : tie.Need-find-child-requires Inv-loop μ-loop
-find-child-requires c κs =
-    let l = c .before .before .before .before .before .before .before in
-    (l .loop .inv .inside, sizes (l .before .before .before .before) .high)
+    (l .loop .inv .inside, sizes (l .before .before) .high)
 
 enum-known-t : tie.Need-enum-known-t Inv-loop μ-loop
 enum-known-t c = search needs
@@ -227,48 +186,126 @@ enum-known-t c = search needs
 enum-told-2 : tie.Need-enum-told-2 Inv-loop μ-loop
 enum-told-2 c = search needs
 
-returns-3 : tie.Need-returns-3 Inv-loop μ-loop
-returns-3 c = λ v e.
+-- what was noted of the node
+sum-is : (c : tie.After-old Inv-loop μ-loop) → toZ w32 (ofZ w32 (toZ w32 (c .before .before .before .before .before .loop .sum) +ℤ toZ w32 (ofZ w32 (b (c .before .before))))) ≡ total (c .before .before)
+sum-is c = cc (toZ-ofZ (add-sum c), toZ-ofZ (b-fits (c .before)))
+
+abbrev live : tie.After-p Inv-loop μ-loop → Bool
+live c = ltb (c .before .before .before .loop .passed + 1) (orderIn (c .before .before .before .before .before .args .check .now)) && (not (eqZ (b c) (pos 0)) || f c)
+
+noted-same : (kept : Kept) (j : ℕ) (f : Bool) {n m : ℕ} {x y b d : ℤ} → n ≡ m → x ≡ y → d ≡ b → longestLive kept (record { count = j; owed = x }) n d f ≡ longestLive kept (record { count = j; owed = y }) m b f
+noted-same kept j f e g h = rw (e, g, h)
+
+noted-is : (c : tie.After-longest-live Inv-loop μ-loop) → c .longest-live .result ≡ cond (live (c .before .before .before)) (record { count = c .before .before .before .before .before .before .loop .passed + 1; owed = total (c .before .before .before) }) (c .before .before .before .before .before .before .loop .kept)
+noted-is c =
+    let l = c .before .before .before .before .before .before in
+    let s = l .before .before in
+    c .longest-live .ensures ∙ noted-same (l .loop .kept) (l .loop .passed + 1) (f (c .before .before .before)) (s .pre .1 .0) (sum-is (c .before)) (toZ-ofZ (b-fits (c .before .before)))
+
+read-is : (c : tie.After-known-told Inv-loop μ-loop) → set (c .before .before .before .before .loop .backoffs) (c .before .before .before .before .loop .passed) (toZ w32 (ofZ w32 (b (c .before)))) ≡ set (c .before .before .before .before .loop .backoffs) (c .before .before .before .before .loop .passed) (b (c .before))
+read-is c = let l = c .before .before .before .before .loop in ap (set (l .backoffs) (l .passed)) (toZ-ofZ (b-fits c))
+
+-- the state's next word, and the child for it
+word-is : (c : tie.At-loop Inv-loop μ-loop) → c .loop .passed < c .before .before .args .carried .count → c .loop .older % radix ≡ getD (words (c .before .before)) (c .loop .passed) 0
+word-is c h =
+    let s = c .before .before in
+    ap (λ (n : ℕ). n % radix) (c .loop .inv .older-is)
+    ∙ digit-at 4 (c .loop .passed) (s .args .carried .words) (omega (arith, count-few s))
+    ∙ sym (getD-take (s .args .carried .count) (digits 4 (s .args .carried .words)) (c .loop .passed) 0 h)
+
+found : (t : Bool) (x : Child) (u : ℕ) → cond t x Nothing ≡ At u → (t ≡ true) × (x ≡ At u)
+found true x u e = (refl, e)
+found false x u e = let z : _≡_ {A = ℕ} 0 1 = cc in absurd (omega arith)
+
+next-is : (c : tie.After-next-node Inv-loop μ-loop) (r : Child) → c .next-node .result ≡ r → cond (ltb (c .before .before .before .before .before .before .before .loop .passed) (c .before .before .before .before .before .before .before .before .before .args .carried .count)) (childAt (c .before .before .before .before .before .before .before .before .before .args .base .now) (c .before .before .before .before .before .before .before .before .before .args .check .now) (c .before .before .before .before .before .before .before .loop .s) (c .before .before .before .before .before .before .before .loop .older % radix)) Nothing ≡ r
+next-is c r e = sym (c .next-node .ensures .0) ∙ e
+
+add-t28 : tie.Need-add-t28 Inv-loop μ-loop
+unfolding inProbability
+add-t28 c =
+    let k = c .before .before .before .before .before in
+    let l = k .before .before .before .before in
+    let s = l .before .before in
+    let low = between-low leastProbability (pos 0) (p (k .before)) (in-range (k .before) .p-in-range) in
+    let high = between-high leastProbability (pos 0) (p (k .before)) (in-range (k .before) .p-in-range) in
+    let owed = l .loop .inv .owing .owed-is in
+    rw (toZ-ofZ (p-fits k)) (omega (zarith, low, high, owed, owed-size s (l .loop .passed), abs (sum (drop (l .loop .passed) (left s)))))
+
+-- a sound walk that ends at this node, as the code returns it
+told : {S : Store} {s : Carried} {v passed : ℕ} {points x : ℤ} {kept noted : Kept} {bs cs : List ℤ} → x ≡ points → noted ≡ kept → cs ≡ bs → Read S s v points passed kept bs → Read S s v x passed noted cs
+told e g h r = rw (e, g, h) r
+
+returns-2 : tie.Need-returns-2 Inv-loop μ-loop
+returns-2 c = λ v e.
     let d = c .before .before in
-    let g = d .before .before .before in
-    let k = g .before in
+    let g = d .before in
+    let k = g .before .before in
     let m = k .before in
     let l = m .before .before .before in
-    let s = l .before .before .before .before in
-    told (held (l .before)) (toZ-ofZ (p-fits k)) (noted-is g) (read-is k)
-    (walking-stops (s .args .base .now) (s .args .check .now) v (words s) (l .loop .s) (l .loop .passed) (l .loop .kept) (l .loop .backoffs) (l .loop .inv .walking v e) (p m) (b m) (f m) (marker-sound m) (passed-few (d .before .before)) (omega (arith, l .loop .inv)) (child-is d Nothing (c .enum-told2 .given .1)))
+    let s = l .before .before in
+    let o = l .loop .inv .owing in
+    told (cc (toZ-ofZ (add-t28 c), toZ-ofZ (p-fits k), o .owed-is)) (noted-is g) (read-is k)
+    (walking-ends (s .args .base .now) (s .args .check .now) v (words s) (l .loop .s) (l .loop .passed) (l .loop .kept) (l .loop .backoffs) (l .loop .inv .walking v e) (p m) (b m) (f m) (marker-sound m) (total m) (left s) (o .long ∙ five s) (omega (arith, passed-inside m, five s))
+    (now-owed (s .args .carried .count) (s .args .backoffs .now) (l .loop .passed) (l .loop .kept) (toZ w32 (l .loop .sum)) (toZ w32 (l .loop .owed)) (l .loop .backoffs) o (passed-inside m) (b m) (in-range m .b-in-range) (live m))
+    (omega (arith, length-words s, l .loop .inv .few))
+    (λ h. let n : l .loop .passed < s .args .carried .count = omega (arith, length-words s) in rw (sym (word-is l n)) (rw (lt-ltb (l .loop .passed) (s .args .carried .count) n) at (next-is d Nothing (c .enum-told2 .given .1)))))
+
+-- the walk goes on
+went-on : (c : tie.After-t Inv-loop μ-loop) → (ltb (c .before .before .before .before .before .before .before .before .before .loop .passed) (c .before .before .before .before .before .before .before .before .before .before .before .args .carried .count) ≡ true) × (childAt (c .before .before .before .before .before .before .before .before .before .before .before .args .base .now) (c .before .before .before .before .before .before .before .before .before .before .before .args .check .now) (c .before .before .before .before .before .before .before .before .before .loop .s) (c .before .before .before .before .before .before .before .before .before .loop .older % radix) ≡ At (c .t .given .0 .0))
+went-on c = found _ _ _ (next-is (c .before .before) _ (c .t .given .1))
+
+passed-few : (c : tie.After-t Inv-loop μ-loop) → c .before .before .before .before .before .before .before .before .before .loop .passed < c .before .before .before .before .before .before .before .before .before .before .before .args .carried .count
+passed-few c = ltb-true _ _ (went-on c .0)
+
+-- the back-off that was overwritten
+old-fits : (c : tie.After-old Inv-loop μ-loop) → SFits w32 (getD (c .before .before .before .before .before .loop .backoffs) (c .before .before .before .before .before .loop .passed) (pos 0))
+old-fits c = sfits-of (c .old .given)
+
+owed-next : (c : tie.After-t Inv-loop μ-loop) → toZ w32 (c .before .before .before .before .before .before .before .before .before .loop .owed) -ℤ getD (c .before .before .before .before .before .before .before .before .before .loop .backoffs) (c .before .before .before .before .before .before .before .before .before .loop .passed) (pos 0) ≡ sum (drop (c .before .before .before .before .before .before .before .before .before .loop .passed + 1) (left (c .before .before .before .before .before .before .before .before .before .before .before)))
+owed-next c =
+    let m = c .before .before .before .before .before .before in
+    let l = m .before .before .before in
+    let s = l .before .before in
+    owed-less (s .args .carried .count) (s .args .backoffs .now) (l .loop .passed) (l .loop .kept) (toZ w32 (l .loop .sum)) (toZ w32 (l .loop .owed)) (l .loop .backoffs) (l .loop .inv .owing) (passed-inside m) (omega (arith, count-few s, five s)) (passed-few c)
+
+sub-owed : tie.Need-sub-owed Inv-loop μ-loop
+sub-owed c =
+    let t = c .before in
+    let a = t .before .before .before .before in
+    let l = a .before .before .before .before .before in
+    let s = l .before .before in
+    let f = old-fits a in
+    omega (zarith, owed-next t, sub (toZ w32 (l .loop .owed)) (getD (l .loop .backoffs) (l .loop .passed) (pos 0)), owed-size s (l .loop .passed + 1), abs (sum (drop (l .loop .passed + 1) (left s))))
 
 add-passed : tie.Need-add-passed Inv-loop μ-loop
-add-passed c = search needs
+add-passed c = omega (arith, passed-few (c .before), count-few (c .before .before .before .before .before .before .before .before .before .before .before .before))
 
 loop-less : tie.Need-loop-less Inv-loop μ-loop
-loop-less c =
-    let e = c .before .before .before .before .before in
-    let l = e .before .before .before .before .before .before in
-    omega (arith, passed-few e, length-words (l .before))
+loop-less c = omega (arith, passed-few (c .before))
 
-again : {base check : List ℤ} {v : ℕ} {ws : List ℕ} {s passed kept noted : ℕ} {bs cs : List ℤ} → noted ≡ kept → cs ≡ bs → Walking base check v ws s passed kept bs → Walking base check v ws s passed noted cs
-again d e w = rw (d, e) w
+again : {base check : List ℤ} {slot count words : ℕ} {given bs cs : List ℤ} {older : ℕ} {owed x : ℤ} {s passed : ℕ} {total y : ℤ} {kept noted : Kept} → cs ≡ bs → x ≡ owed → y ≡ total → noted ≡ kept → Loop base check slot count words given bs older owed s passed total kept → Loop base check slot count words given cs older x s passed y noted
+again d e g h l = rw (d, e, g, h) l
 
 loop-again : tie.Need-loop-again Inv-loop μ-loop
 loop-again c =
     let t = c .before in
     let d = t .before .before in
-    let g = d .before .before .before in
-    let k = g .before in
+    let g = d .before in
+    let a = g .before in
+    let k = a .before in
     let m = k .before in
     let l = m .before .before .before in
-    let s = l .before .before .before .before in
-    let h = passed-few (d .before .before) in
-    let z = sizes s in
+    let s = l .before .before in
+    let o = l .loop .inv .owing in
     let u = t .t .given .0 .0 in
-    record {
-      inside = omega (arith, d .find-child .ensures .1 u (t .t .given .1));
-      few = omega (arith, length-words (l .before));
-      four = l .loop .inv .four;
-      five = simp length-set (l .loop .inv .five);
-      walking = λ v e. again (noted-is g) (read-is k) (walking-on (s .args .base .now) (s .args .check .now) v (words s) (l .loop .s) (l .loop .passed) (l .loop .kept) (l .loop .backoffs) (l .loop .inv .walking v e) (p m) (b m) (f m) (marker-sound m) u h (omega (arith, l .loop .inv)) (child-is d (At u) (t .t .given .1)));
-    }
+    again (read-is k) (cc (toZ-ofZ (sub-owed c), toZ-ofZ (old-fits a))) (sum-is a) (noted-is g)
+    (record {
+      inside = omega (arith, d .next-node .ensures .1 u (t .t .given .1), sizes s .same);
+      few = omega (arith, passed-few t);
+      older-is = rw add-one (ap (λ (n : ℕ). n / radix) (l .loop .inv .older-is));
+      owing = owing-on (s .args .carried .count) (s .args .backoffs .now) (l .loop .passed) (l .loop .kept) (toZ w32 (l .loop .sum)) (toZ w32 (l .loop .owed)) (l .loop .backoffs) o (passed-inside m) (b m) (in-range m .b-in-range) (omega (arith, count-few s, five s)) (passed-few t) (live m);
+      walking = λ v e. walking-on (s .args .base .now) (s .args .check .now) v (words s) (l .loop .s) (l .loop .passed) (l .loop .kept) (l .loop .backoffs) (l .loop .inv .walking v e) (p m) (b m) (f m) (marker-sound m) (total m) u (omega (arith, passed-few t, length-words s)) (omega (arith, passed-inside m, o .long)) (rw (sym (word-is l (passed-few t))) (went-on t .1));
+    })
 
 pub walk-spec : {M : Type 1} → statement M
 walk-spec =
@@ -276,24 +313,24 @@ walk-spec =
     (tie.spec
     Inv-loop
     μ-loop
-    cast-count
     loop-holds
     read-marker-requires
     enum-known-p
     enum-told
     returns
-    mul-backoffs
-    array-set-from-backoffs
+    mul-old
+    element-copy-out-old
+    mul-b
+    element-set-from-b
+    add-sum
     add-longest-live
     longest-live-requires
-    returns-2
-    mul-find-child
-    array-copy-out-find-child
-    cast-find-child
-    find-child-requires
+    next-node-requires
     enum-known-t
     enum-told-2
-    returns-3
+    add-t28
+    returns-2
+    sub-owed
     add-passed
     loop-less
     loop-again)
