@@ -1,3 +1,4 @@
+-- `plain::begin` meets its contract. Assumes nothing.
 use Rattle.plain.specs.Held.{begun}
 use Rattle.plain.proofs.begin.Statement.{statement}
 use Rattle.plain.proofs.begin.Tie as tie

@@ -1,3 +1,4 @@
+-- `plain::length_byte` meets its contract. Assumes nothing.
 use mathlib.Core.Path.{ap}
 use lib.IntN.{pos}
 use mir.Syntax.{w32}

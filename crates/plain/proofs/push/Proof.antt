@@ -1,3 +1,4 @@
+-- `plain::push` meets its contract. Assumes nothing.
 use mathlib.Core.Path.{_≡_, _∙_}
 use lib.IntN.{pos}
 use lib.ListN.{length, getD}

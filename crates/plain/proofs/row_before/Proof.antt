@@ -1,3 +1,4 @@
+-- `plain::row_before` meets its contract. Assumes nothing.
 use borrow.Author.Needs.{needs}
 use Rattle.plain.proofs.Newest.{words-before, part-before-fits}
 use Rattle.plain.proofs.row_before.Statement.{statement}

@@ -1,3 +1,4 @@
+-- `plain::row_of` meets its contract. Assumes nothing.
 use mathlib.Core.Path.{_≡_, sym, _∙_}
 use lib.Dec.{lit<}
 use denote.Ref.{now}

@@ -1,3 +1,4 @@
+-- `plain::row_with` meets its contract. Assumes nothing.
 use borrow.Author.Needs.{needs}
 use Rattle.plain.proofs.Newest.{words-with, part-with-fits}
 use Rattle.plain.proofs.row_with.Statement.{statement}
