@@ -17,7 +17,7 @@ use Rattle.backoff.specs.Limits.{orderLimit, rowLimit, slotLimit, unknownWord, 
 use Rattle.backoff.specs.Refusal.{numberOf, tableLength, arrayLength, noRoom}
 use Rattle.backoff.specs.Model.{Entry, isSome, listed}
 use Rattle.backoff.specs.Run.{written}
-use Rattle.backoff.specs.Store.{absent, here, entryOf, isBroken, lookEntry, modelIn}
+use Rattle.backoff.specs.Store.{entryOf, isBroken, lookEntry, modelIn}
 use Rattle.backoff.specs.declared.Verdict.{Verdict}
 use Rattle.backoff.specs.declared.Verdict.the-variants.{Accepted, Refused}
 use Rattle.backoff.proofs.Model.{model-ext}
@@ -31,7 +31,7 @@ use Rattle.list.specs.declared.Found.the-variants.{At, Nothing}
 use Rattle.list.proofs.Search.{found-words}
 use Rattle.list.proofs.Check.{accepted-size, number-accepted}
 use Rattle.list.proofs.ListModel.{accepted-model}
-use Rattle.double_array.specs.DoubleArray.{freeCheck, baseAt, checkAt, lookRow, sizesOk, headOk, isArray, orderIn, storeIn, opened}
+use Rattle.double_array.specs.DoubleArray.{freeCheck, headCheck, baseAt, checkAt, lookRow, sizesOk, orderOk, headOk, isArray, orderIn, storeIn, opened}
 use Rattle.double_array.proofs.DoubleArray.{Sizes, Head, sizes-told, sizes-shown, head-shown, opened-some}
 use Rattle.placing.specs.Placing.{slots}
 use Rattle.placing.proofs.NodeByNode.{placing-head}
@@ -102,7 +102,7 @@ module _ (t : List ℤ) (a : verdict t ≡ Accepted) where
         let c = length-slots N (placedList t .check) in
         record { same = omega arith; low = omega arith; high = omega arith }
 
-    order-read : checkAt B C 0 ≡ pos (orderOf t)
+    order-read : checkAt B C 0 ≡ headCheck (orderOf t)
     unfolding placedList
     order-read = getD-slots N (placedList t .check) 0 freeCheck (omega arith) ∙ placing-head (orderOf t) (nodesOf t) (nodes-ready t a) .check-0
 
@@ -113,7 +113,7 @@ module _ (t : List ℤ) (a : verdict t ≡ Accepted) where
         ∙ ap (λ n. n .load) (nodeAt-root t)
 
     pub built-head : Head B C
-    unfolding placedList rootOf modelOf
+    unfolding placedList rootOf modelOf orderOk
     built-head =
         let h = placing-head (orderOf t) (nodesOf t) (nodes-ready t a) in
         let m = accepted-model t a in
@@ -123,7 +123,7 @@ module _ (t : List ℤ) (a : verdict t ≡ Accepted) where
         let z = accepted-size t a .1 in
         record {
           root-base = getD-slots N (placedList t .base) 0 (pos 0) (omega arith) ∙ h .base-0;
-          order = rw order-read (between-yes (pos 1) (pos orderLimit) (pos (orderOf t)) (omega zarith) (omega zarith));
+          order = rw order-read (between-yes (headCheck 1) (headCheck orderLimit) (headCheck (orderOf t)) (omega zarith) (omega zarith));
           root-check = getD-slots N (placedList t .check) 1 freeCheck low ∙ h .check-1 ∙ ap (λ n. negsuc (n .cost)) (nodeAt-root t);
           rows = rw rows-read (between-yes (pos 3) (pos rowLimit) (pos (rowsOf t)) (omega zarith) (omega zarith));
         }
@@ -136,7 +136,7 @@ module _ (t : List ℤ) (a : verdict t ≡ Accepted) where
 
     pub built-order : orderIn C ≡ orderOf t
     unfolding orderIn
-    built-order = rw order-read
+    built-order = rw order-read (omega arith)
 
     pub built-look : (l : List ℕ) → lookRow B C l ≡ lookEntry (modelOf t .find l)
     unfolding placedList modelOf

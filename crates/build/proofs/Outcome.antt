@@ -13,7 +13,7 @@ use Rattle.backoff.specs.Refusal.{tableLength, arrayLength, noRoom}
 use Rattle.backoff.specs.Run.{written}
 use Rattle.backoff.specs.declared.Verdict.{Verdict}
 use Rattle.backoff.specs.declared.Verdict.the-variants.{Accepted, Refused}
-use Rattle.double_array.specs.DoubleArray.{freeCheck, sizesOk}
+use Rattle.double_array.specs.DoubleArray.{freeCheck, headCheck, sizesOk}
 use Rattle.double_array.proofs.DoubleArray.{opened-some}
 use Rattle.list.specs.Table.{rowsOf, orderOf, words}
 use Rattle.list.specs.Check.{verdict, tableFits}
@@ -35,13 +35,13 @@ same-slots zero v = refl
 same-slots (suc n) v = ap (λ (l : List ℤ). v ∷ l) (same-slots n v)
 
 pub filled-none : (t : List ℤ) {N : ℕ} {B C : List ℤ} {W : List ℕ} → 2 ≤ N → N ≤ slotLimit → B ≡ replicate N (pos 0)
-    → C ≡ set (replicate N freeCheck) 0 (pos (orderOf t)) → Flagged t (rowsOf t) W → Filled t N (placedNodes t 0) B C W
+    → C ≡ set (replicate N freeCheck) 0 (headCheck (orderOf t)) → Flagged t (rowsOf t) W → Filled t N (placedNodes t 0) B C W
 unfolding placeAll unplaced continuedIn
 filled-none t {N} low high b c F = record {
   size = (low, high);
   room = omega arith;
   base-slots = b ∙ sym (same-slots N (pos 0));
-  check-slots = c ∙ ap (λ (l : List ℤ). set l 0 (pos (orderOf t))) (sym (same-slots N freeCheck)) ∙ set-slots N (λ t. freeCheck) 0 (pos (orderOf t));
+  check-slots = c ∙ ap (λ (l : List ℤ). set l 0 (headCheck (orderOf t))) (sym (same-slots N freeCheck)) ∙ set-slots N (λ t. freeCheck) 0 (headCheck (orderOf t));
   each = F .each;
   item = F .item;
 }

@@ -319,7 +319,7 @@ fn prepare(table: &[i32], base: &mut [i32], check: &mut [i32], work: &mut [u32])
     ensures { λ _. ⌜ Filled (now (table .entry)) (length (now (check .entry))) (placedNodes (now (table .entry)) 0) (now (base .exit)) (now (check .exit)) (now (work .exit)) ⌝ }
 {
     wipe(base, check, work);
-    check[0] = list::length_of(table, work.len() - 1) as i32;
+    check[0] = double_array::head_check(list::length_of(table, work.len() - 1));
     mark_continued(table, work);
 }
 

@@ -19,7 +19,7 @@ use Rattle.backoff.specs.Limits.{largestBackoff, orderLimit, rowLimit, slotLimi
 use Rattle.backoff.specs.Words.{isWord}
 use Rattle.backoff.specs.Model.{inProbability, inBackoff}
 use Rattle.backoff.specs.Store.{broken, here, Store}
-use Rattle.double_array.specs.DoubleArray.{markerCheck, markerBase, markerOf, childSlot, baseAt, checkAt, markerAt, childAt, downTo, lookFrom, sizesOk, headOk, isArray, orderIn, lookRow, storeIn, opened}
+use Rattle.double_array.specs.DoubleArray.{freeCheck, headCheck, markerCheck, markerBase, markerOf, childSlot, baseAt, checkAt, markerAt, childAt, downTo, lookFrom, sizesOk, orderOk, headOk, isArray, orderIn, lookRow, storeIn, opened}
 use Rattle.double_array.specs.declared.Marker.{Marker}
 use Rattle.double_array.specs.declared.Marker.the-variants.{Sound, Broken}
 use Rattle.double_array.specs.declared.Child.the-variants.{At, Nothing}
@@ -169,9 +169,21 @@ pub record Sizes (base check : List ℤ) : Type 0 where
 -- "BASE[0] is 1 and CHECK[0] is n. CHECK[1] is −1 and BASE[1] is the number of rows"
 pub record Head (base check : List ℤ) : Type 0 where
   pub root-base : baseAt base check 0 ≡ pos 1
-  pub order : between (pos 1) (pos orderLimit) (checkAt base check 0) ≡ true
+  pub order : orderOk check ≡ true
   pub root-check : checkAt base check 1 ≡ negsuc 0
   pub rows : between (pos 3) (pos rowLimit) (baseAt base check 1) ≡ true
+
+-- CHECK[0] is there and in range: what is free is not
+pub record OrderHead (check : List ℤ) : Type 0 where
+  pub inside : 0 < length check
+  pub low : headCheck 1 ≤ℤ getD check 0 freeCheck
+  pub high : getD check 0 freeCheck ≤ℤ headCheck orderLimit
+
+pub order-told : (check : List ℤ) → orderOk check ≡ true → OrderHead check
+unfolding orderOk
+order-told [] h = absurd (false≢true (unfold between in h))
+order-told (k ∷ ks) h =
+    record { inside = omega arith; low = between-low (headCheck 1) (headCheck orderLimit) k h; high = between-high (headCheck 1) (headCheck orderLimit) k h }
 
 module _ (base check : List ℤ) where
   pub sizes-told : sizesOk base check ≡ true → Sizes base check
@@ -192,7 +204,7 @@ module _ (base check : List ℤ) where
   pub head-told : headOk base check ≡ true → Head base check
   unfolding headOk
   head-told h =
-      let tests = all-four (eqZ (baseAt base check 0) (pos 1)) (between (pos 1) (pos orderLimit) (checkAt base check 0)) (eqZ (checkAt base check 1) (negsuc 0)) (between (pos 3) (pos rowLimit) (baseAt base check 1)) h in
+      let tests = all-four (eqZ (baseAt base check 0) (pos 1)) (orderOk check) (eqZ (checkAt base check 1) (negsuc 0)) (between (pos 3) (pos rowLimit) (baseAt base check 1)) h in
       record { root-base = omega zarith; order = tests .1; root-check = omega zarith; rows = tests .3 }
 
   pub head-shown : Head base check → headOk base check ≡ true
@@ -213,11 +225,7 @@ module _ (base check : List ℤ) (h : isArray base check ≡ true) where
 
   pub opened-order : (1 ≤ orderIn check) × (orderIn check ≤ orderLimit)
   unfolding orderIn
-  opened-order =
-      let n = checkAt base check 0 in
-      let l = between-low (pos 1) (pos orderLimit) n (opened-head .order) in
-      let u = between-high (pos 1) (pos orderLimit) n (opened-head .order) in
-      omega (zarith, abs n)
+  opened-order = let o = order-told check (opened-head .order) in omega (zarith, abs (getD check 0 freeCheck))
 
   -- the marker of the root is slot 1
   pub root-sound : markerAt base check 0 ≡ Sound (pos 0) (half (baseAt base check 1)) (odd (baseAt base check 1))

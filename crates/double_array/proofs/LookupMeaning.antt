@@ -1,7 +1,7 @@
 -- Laws of specs/Lookup.antt: what each answer means. Assumes nothing.
 use mathlib.Core.Path.{_≡_, refl, ap}
 use mathlib.Core.Logic.{inl, inr}
-use mathlib.Core.Bool.{Bool, true, false, cond, _&&_, false≢true}
+use mathlib.Core.Bool.{Bool, true, false, cond, _&&_}
 use mathlib.Core.List.{List, [], _∷_, reverse, reverse-append}
 use mathlib.Core.Option.{Option, none, some}
 use Prim.Native.Nat.{ℕ, suc, _≤_, _<_}
@@ -15,7 +15,8 @@ use Rattle.backoff.specs.Limits.{orderLimit}
 use Rattle.backoff.specs.Refusal.{arrayHead, brokenNode, wordCount}
 use Rattle.backoff.specs.Store.{Look, absent, broken, here, Store, modelIn}
 use Rattle.double_array.specs.DoubleArray.{lookFrom, isArray, orderIn, storeIn, opened}
-use Rattle.double_array.specs.Lookup.{lookupOf, lookupIn, lookupOutcome, IsRow, IsNoRow, RefusedBy, no-array, word-count, broken-node, LookupMeans}
+use Rattle.double_array.specs.Lookup.{lookupOf, lookupIn, lookupOutcome, numberOf, placeOf, foundOf, pOf, bOf, IsRow, IsNoRow, RefusedBy, no-array, word-count, broken-node, LookupMeans}
+use Rattle.double_array.specs.declared.Lookup.{Lookup}
 use Rattle.double_array.specs.declared.Lookup.the-variants.{Found, NotFound, Refused}
 use Rattle.double_array.proofs.DoubleArray.{opened-some, opened-none, opened-order, look-row}
 
@@ -24,56 +25,42 @@ pub reverse-take : {A : Type 0} (l : List A) (k : ℕ) (d : A) → k < length l 
 reverse-take l k d h = rw (take-suc l k d h, reverse-append (take k l) (getD l k d ∷ []))
 
 module _ (base check : List ℤ) (ws : List ℕ) where
+  -- what an answer means, by the numbers that the caller reads
+  abbrev pub AnswerMeans : Lookup → Type 0
+  AnswerMeans r = LookupMeans base check ws (numberOf r) (placeOf r) (foundOf r) (pOf r) (bOf r)
+
   -- an answer of one kind means nothing of the other two
-  found-means : (p b : ℤ) → IsRow base check ws p b → LookupMeans base check ws (Found p b)
-  found-means p b h =
-      record {
-        found = λ q d e. let eq : p ≡ q = cc in let ed : b ≡ d = cc in rw (eq, ed) at h;
-        not-found = λ e. absurd (false≢true (cc));
-        refused = λ n k e. absurd (false≢true (cc));
-        no-place = λ n k e. absurd (false≢true (cc));
-      }
+  found-means : (p b : ℤ) → IsRow base check ws p b → AnswerMeans (Found p b)
+  found-means p b h = record { yes = λ e. h; no = λ e. absurd (omega arith); refused = λ n. absurd (n refl); no-place = refl }
 
-  not-found-means : IsNoRow base check ws → LookupMeans base check ws NotFound
-  not-found-means h =
-      record {
-        found = λ p b e. absurd (false≢true (cc));
-        not-found = λ e. h;
-        refused = λ n k e. absurd (false≢true (cc));
-        no-place = λ n k e. absurd (false≢true (cc));
-      }
+  not-found-means : IsNoRow base check ws → AnswerMeans NotFound
+  not-found-means h = record { yes = λ e. absurd (omega arith); no = λ e f. h; refused = λ n. absurd (n refl); no-place = refl }
 
-  refused-means : (n : ℕ) → RefusedBy base check ws n → LookupMeans base check ws (Refused n 0)
-  refused-means n h =
-      record {
-        found = λ p b e. absurd (false≢true (cc));
-        not-found = λ e. absurd (false≢true (cc));
-        refused = λ m k e. let s : n ≡ m = cc in rw s at h;
-        no-place = λ m k e. cc;
-      }
+  refused-means : (n : ℕ) → (n ≡ 0 → ⊥) → RefusedBy base check ws n → AnswerMeans (Refused n 0)
+  refused-means n z h = record { yes = λ e. absurd (omega arith); no = λ e f. absurd (z f); refused = λ y. h; no-place = refl }
 
   -- the walk's answer
-  look-means : (S : Store) → opened base check ≡ some S → length ws ≤ S .order → (l : Look) → S .look (reverse ws) ≡ l → LookupMeans base check ws (lookupOf l)
+  look-means : (S : Store) → opened base check ≡ some S → length ws ≤ S .order → (l : Look) → S .look (reverse ws) ≡ l → AnswerMeans (lookupOf l)
   unfolding modelIn
   look-means S o h absent e = not-found-means (record { store = S; opens = o; no-row = inr (rw e (refl, refl)) })
-  look-means S o h broken e = refused-means brokenNode (broken-node S o h (rw e))
+  look-means S o h broken e = refused-means brokenNode (λ z. omega arith) (broken-node S o h (rw e))
   look-means S o h (here x) e = found-means (x .p) (x .b) (record { store = S; opens = o; short = h; f = x .f; row = rw e })
 
-  store-means : (S : Store) → opened base check ≡ some S → LookupMeans base check ws (lookupIn (some S) ws)
+  store-means : (S : Store) → opened base check ≡ some S → AnswerMeans (lookupIn (some S) ws)
   store-means S o = counted (leb 1 (length ws)) (leb (length ws) orderLimit) (leb (length ws) (S .order)) refl refl refl
     where
-      counted : (t u v : Bool) → leb 1 (length ws) ≡ t → leb (length ws) orderLimit ≡ u → leb (length ws) (S .order) ≡ v → LookupMeans base check ws (cond (t && u) (cond v (lookupOf (S .look (reverse ws))) NotFound) (Refused wordCount 0))
+      counted : (t u v : Bool) → leb 1 (length ws) ≡ t → leb (length ws) orderLimit ≡ u → leb (length ws) (S .order) ≡ v → AnswerMeans (cond (t && u) (cond v (lookupOf (S .look (reverse ws))) NotFound) (Refused wordCount 0))
       counted true true true e f g = look-means S o (leb-true (length ws) (S .order) g) (S .look (reverse ws)) refl
       counted true true false e f g = not-found-means (record { store = S; opens = o; no-row = inl (leb-false (length ws) (S .order) g) })
-      counted true false v e f g = refused-means wordCount (word-count S o (inr (leb-false (length ws) orderLimit f)))
-      counted false u v e f g = refused-means wordCount (word-count S o (inl (leb-false 1 (length ws) e)))
+      counted true false v e f g = refused-means wordCount (λ z. omega arith) (word-count S o (inr (leb-false (length ws) orderLimit f)))
+      counted false u v e f g = refused-means wordCount (λ z. omega arith) (word-count S o (inl (leb-false 1 (length ws) e)))
 
-  pub lookup-means : LookupMeans base check ws (lookupOutcome base check ws)
+  pub lookup-means : AnswerMeans (lookupOutcome base check ws)
   unfolding lookupOutcome
   lookup-means = go (opened base check) refl
     where
-      go : (o : Option Store) → opened base check ≡ o → LookupMeans base check ws (lookupIn o ws)
-      go none e = refused-means arrayHead (no-array e)
+      go : (o : Option Store) → opened base check ≡ o → AnswerMeans (lookupIn o ws)
+      go none e = refused-means arrayHead (λ z. omega arith) (no-array e)
       go (some S) e = store-means S e
 
   -- the outcome, case by case

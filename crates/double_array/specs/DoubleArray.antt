@@ -3,7 +3,7 @@
 use mathlib.Core.Bool.{Bool, cond, _&&_}
 use mathlib.Core.List.{List, [], _∷_}
 use mathlib.Core.Option.{Option, none, some}
-use Prim.Native.Nat.{ℕ, _+_}
+use Prim.Native.Nat.{ℕ, _+_, _-_}
 use lib.Dec.{eqb, leb, ltb}
 use lib.ListN.{length, getD}
 use lib.IntN.{ℤ, pos, negsuc, natAbs, _+ℤ_, _-ℤ_}
@@ -21,6 +21,13 @@ use Rattle.double_array.specs.declared.Child.the-variants.{At, Nothing}
 -- "A free slot has BASE 0 and CHECK −2,147,483,648."
 abbrev pub freeCheck : ℤ
 freeCheck = negsuc 2147483647
+
+-- "CHECK[0] is n": the order, and what is added to it there
+abbrev pub headOffset : ℕ
+headOffset = 0
+
+abbrev pub headCheck : ℕ → ℤ
+headCheck n = pos (n + headOffset)
 
 -- "A row's marker has CHECK = p − 1 and BASE = 2 × b + f"
 abbrev pub markerCheck : ℤ → ℤ
@@ -78,11 +85,15 @@ lookFrom base check s (w ∷ ws) = past (markerAt base check s) (downTo (childAt
 unfoldable pub sizesOk : List ℤ → List ℤ → Bool
 sizesOk base check = eqb (length base) (length check) && (leb 2 (length base) && leb (length base) slotLimit)
 
+-- CHECK[0] "with n 1..5"
+unfoldable pub orderOk : List ℤ → Bool
+orderOk check = between (headCheck 1) (headCheck orderLimit) (getD check 0 freeCheck)
+
 -- "BASE[0] is 1 and CHECK[0] is n. CHECK[1] is −1 and BASE[1] is the number of rows", "with n 1..5 and 3..65,535 rows"
 unfoldable pub headOk : List ℤ → List ℤ → Bool
 headOk base check =
     eqZ (baseAt base check 0) (pos 1)
-    && (between (pos 1) (pos orderLimit) (checkAt base check 0)
+    && (orderOk check
     && (eqZ (checkAt base check 1) (negsuc 0) && between (pos 3) (pos rowLimit) (baseAt base check 1)))
 
 -- what 11 asks of the two slices
@@ -90,7 +101,7 @@ abbrev pub isArray : List ℤ → List ℤ → Bool
 isArray base check = sizesOk base check && headOk base check
 
 unfoldable pub orderIn : List ℤ → ℕ
-orderIn check = natAbs (getD check 0 freeCheck)
+orderIn check = natAbs (getD check 0 freeCheck) - headOffset
 
 -- what the array has for words, newest first: what the walk from the root comes to, but nothing for the empty sequence, as the root is no row
 abbrev pub lookRow : List ℤ → List ℤ → List ℕ → Look

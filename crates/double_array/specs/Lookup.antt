@@ -79,8 +79,9 @@ pub data RefusedBy (base check : List ℤ) (ws : List ℕ) : ℕ → Type 0 wher
   word-count : (S : Store) → opened base check ≡ some S → (length ws < 1) ⊎ (orderLimit < length ws) → RefusedBy base check ws wordCount
   broken-node : (S : Store) → opened base check ≡ some S → length ws ≤ S .order → isBroken (S .look (reverse ws)) ≡ true → RefusedBy base check ws brokenNode
 
-pub record LookupMeans (base check : List ℤ) (ws : List ℕ) (r : Lookup) : Type 0 where
-  pub found : (p b : ℤ) → r ≡ Found p b → IsRow base check ws p b
-  pub not-found : r ≡ NotFound → IsNoRow base check ws
-  pub refused : (number place : ℕ) → r ≡ Refused number place → RefusedBy base check ws number
-  pub no-place : (number place : ℕ) → r ≡ Refused number place → place ≡ 0
+-- The numbers that were returned: `found` is 1 or 0, and 0 where the lookup is refused.
+pub record LookupMeans (base check : List ℤ) (ws : List ℕ) (number place found : ℕ) (p b : ℤ) : Type 0 where
+  pub yes : found ≡ 1 → IsRow base check ws p b
+  pub no : found ≡ 0 → number ≡ 0 → IsNoRow base check ws
+  pub refused : (number ≡ 0 → ⊥) → RefusedBy base check ws number
+  pub no-place : place ≡ 0

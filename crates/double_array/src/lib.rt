@@ -4,13 +4,20 @@ ghost use mathlib.Core.Bool.{true};
 ghost use mathlib.Core.List.{reverse};
 ghost use Prim.Native.Nat.{ℕ, _≤_, _<_};
 ghost use lib.ListN.{length, replicate};
-ghost use Rattle.backoff.specs.Limits.{slotLimit};
+ghost use Rattle.backoff.specs.Limits.{orderLimit, slotLimit};
 ghost use Rattle.backoff.specs.Model.{inProbability, inBackoff};
-ghost use Rattle.double_array.specs.DoubleArray.{markerCheck, markerBase, markerOf, markerAt, childAt, lookFrom, sizesOk, headOk, isArray};
-ghost use Rattle.double_array.specs.Lookup.{lookupOf, lookupOutcome, LookupMeans};
+ghost use Rattle.double_array.specs.DoubleArray.{headCheck, markerCheck, markerBase, markerOf, markerAt, childAt, lookFrom, sizesOk, orderOk, headOk, isArray, orderIn};
+ghost use Rattle.double_array.specs.Lookup.{lookupOf, lookupOutcome, numberOf, placeOf, foundOf, pOf, bOf, LookupMeans};
 
 // CHECK of a free slot; its BASE is 0.
 pub const FREE: i32 = -2147483648;
+
+// CHECK[0] is the order and this.
+const HEAD_OFFSET: i32 = 0;
+
+const LEAST_HEAD: i32 = 1 + HEAD_OFFSET;
+
+const LARGEST_HEAD: i32 = backoff::ORDER_LIMIT + HEAD_OFFSET;
 
 // What a marker says. The paper's "sound" marker holds a p and a b in range; `f` is set where some row is this row followed by one more word.
 pub enum Marker {
@@ -29,6 +36,14 @@ pub enum Lookup {
     Found { p: i32, b: i32 },
     NotFound,
     Refused { number: u32, place: u32 },
+}
+
+// CHECK[0] of an array of this order.
+pub fn head_check(order: usize) -> i32
+    requires { ⌜ order ≤ orderLimit ⌝ }
+    ensures { λ r. ⌜ r ≡ headCheck order ⌝ }
+{
+    order as i32 + HEAD_OFFSET
 }
 
 // CHECK of the marker of a row with this p.
@@ -118,11 +133,11 @@ fn head_ok(base: &[i32], check: &[i32]) -> bool
     requires { ⌜ 2 ≤ length (now check) ⌝ }
     ensures { λ r. ⌜ r ≡ headOk (now (base .entry)) (now (check .entry)) ⌝ }
 {
-    let order = check[0];
+    let head = check[0];
     let rows = base[1];
     (base[0] == 1)
-        & (1 <= order)
-        & (order <= backoff::ORDER_LIMIT)
+        & (LEAST_HEAD <= head)
+        & (head <= LARGEST_HEAD)
         & (check[1] == -1)
         & (3 <= rows)
         & (rows <= backoff::ROW_LIMIT as i32)
@@ -133,6 +148,14 @@ pub fn is_array(base: &[i32], check: &[i32]) -> bool
     ensures { λ r. ⌜ r ≡ isArray (now (base .entry)) (now (check .entry)) ⌝ }
 {
     sizes_ok(base, check) && head_ok(base, check)
+}
+
+// The order of an array.
+pub fn order_of(check: &[i32]) -> usize
+    requires { ⌜ orderOk (now check) ≡ true ⌝ }
+    ensures { λ r. ⌜ r ≡ orderIn (now (check .entry)) ⌝ }
+{
+    (check[0] - HEAD_OFFSET) as usize
 }
 
 // The answer of the walk from the root over the words, newest first. The root's marker is sound in every array.
@@ -164,7 +187,7 @@ fn walk(base: &[i32], check: &[i32], words: &[u32]) -> Lookup
 // The paper's lookup: the p and b of the row that the words are, oldest first.
 pub fn look_up(base: &[i32], check: &[i32], words: &[u32]) -> Lookup
     ensures outcome { λ r. ⌜ r ≡ lookupOutcome (now (base .entry)) (now (check .entry)) (now (words .entry)) ⌝ }
-    ensures meaning { λ r. ⌜ LookupMeans (now (base .entry)) (now (check .entry)) (now (words .entry)) r ⌝ }
+    ensures meaning { λ r. ⌜ LookupMeans (now (base .entry)) (now (check .entry)) (now (words .entry)) (numberOf r) (placeOf r) (foundOf r) (pOf r) (bOf r) ⌝ }
 {
     if !is_array(base, check) {
         return Lookup::Refused {
@@ -179,8 +202,7 @@ pub fn look_up(base: &[i32], check: &[i32], words: &[u32]) -> Lookup
             place: 0,
         };
     }
-    let order = check[0];
-    if (order as usize) < count {
+    if order_of(check) < count {
         return Lookup::NotFound;
     }
     walk(base, check, words)

@@ -1,5 +1,5 @@
 -- How start and run cross: a slice of another length than nine, and answers whose state is nine numbers. Assumes nothing.
-use mathlib.Core.Path.{_≡_, refl, ap, subst, _∙_}
+use mathlib.Core.Path.{_≡_, refl, ap, _∙_}
 use mathlib.Core.List.{List}
 use mathlib.Core.Option.{Option}
 use Prim.Native.Nat.{ℕ}
@@ -9,7 +9,10 @@ use borrow.Author.Tests.{eq-eqb, ne-eqb}
 use Rattle.backoff.specs.Run.{Run, Answer, refusedRun}
 use Rattle.backoff.specs.NineNumbers.{nineZeros}
 use Rattle.backoff.specs.Store.{Store, Started, runOutcome, startOutcome}
-use Rattle.score.specs.Meaning.{StartMeans, RunMeans}
+use Rattle.double_array.specs.DoubleArray.{opened}
+use Rattle.score.specs.Meaning.{RunMeans}
+use Rattle.score.proofs.Outcomes.{run-means as outcome-means}
+use Rattle.grader.specs.declared.Total.{Total}
 use Rattle.grader.specs.Exports.{StartedIs, RanIs}
 
 module _ (o : Option Store) (l : List ℤ) (n : length l ≡ 9 → ⊥) where
@@ -42,8 +45,9 @@ module _ {number place : ℕ} where
     end-is = g ∙ ap (λ (x : Answer (List ℤ)). x .end) e;
   }
 
-pub start-means : {base check : List ℤ} {a b : Started} → a ≡ b → StartMeans base check a → StartMeans base check b
-start-means {base} {check} e m = subst (λ (x : Started). StartMeans base check x) e m
+-- a run's answer as it crossed
+abbrev crossed : Total → List ℤ → List ℤ → List ℕ → Answer (List ℤ)
+crossed r state points lengths = record { number = r .number; place = r .place; total = r .total; end = state; points = points; lengths = lengths }
 
-pub run-means : {base check l k : List ℤ} {r : Run} {a b : Answer (List ℤ)} → l ≡ k → a ≡ b → RunMeans base check l r a → RunMeans base check k r b
-run-means {base} {check} {l} {k} {r} {a} {b} e f m = subst (λ (x : Answer (List ℤ)). RunMeans base check k r x) f (subst (λ (x : List ℤ). RunMeans base check x r a) e m)
+pub run-means : (base check l : List ℤ) (r : Run) {answer : Total} {state points : List ℤ} {lengths : List ℕ} → RanIs (runOutcome (opened base check) l r) answer state points lengths → RunMeans base check l r (crossed answer state points lengths)
+run-means base check l r {answer} {state} {points} {lengths} is = rw (is .total .number, is .total .place, is .total .total, is .end-is, is .total .points-are, is .total .lengths-are) (outcome-means base check l r)

@@ -1,25 +1,21 @@
 -- Over an array that unload accepts, a lookup finds exactly the rows of the unloaded list, each with its own p and b. Assumes nothing.
 use mathlib.Core.Path.{_≡_, refl, sym, ap, _∙_}
 use mathlib.Core.Bool.{Bool, true, false, cond, _&&_}
-use mathlib.Core.List.{List, reverse, reverse-reverse}
+use mathlib.Core.List.{List, reverse-reverse}
 use mathlib.Core.Option.{some}
-use Prim.Native.Nat.{ℕ, _<_}
-use native.Mathlib.Omega.{arith}
+use Prim.Native.Nat.{ℕ}
 use borrow.Author.Tests.{leb-false}
 use lib.Dec.{leb}
 use lib.IntN.{ℤ}
-use lib.ListN.{length, length-reverse}
+use lib.ListN.{length}
 use Rattle.backoff.specs.Limits.{orderLimit}
-use Rattle.backoff.specs.Refusal.{wordCount}
+use Rattle.backoff.specs.Refusal.{numberOf, wordCount}
 use Rattle.backoff.specs.Store.{lookEntry, storeOf}
 use Rattle.backoff.specs.declared.Verdict.the-variants.{Accepted}
 use Rattle.list.specs.Table.{orderOf}
 use Rattle.list.specs.Search.{findIn}
 use Rattle.list.specs.Check.{verdict}
 use Rattle.list.specs.ListModel.{entryAt, modelOf}
-use Rattle.list.specs.declared.Found.{Found as Row}
-use Rattle.list.specs.declared.Found.the-variants.{At, Nothing}
-use Rattle.list.proofs.ListModel.{accepted-model}
 use Rattle.double_array.specs.Lookup.{lookupOf, lookupIn, lookupOutcome}
 use Rattle.double_array.specs.declared.Lookup.the-variants.{NotFound, Refused}
 use Rattle.build.specs.Listed.{answerAt, listedAnswer}
@@ -42,7 +38,7 @@ module _ (t : List ℤ) (a : verdict t ≡ Accepted) (ws : List ℕ) where
 
 -- for any words, those outside 1..65,535 too, and any number of them
 pub unloaded-lookup : (base check table : List ℤ) (work ws : List ℕ) → unloadOutcome base check table work .answer ≡ Accepted
-    → lookupOutcome base check ws ≡ listedAnswer (rowsPart base (unloadOutcome base check table work)) ws
+    → lookupOutcome base check ws ≡ listedAnswer (rowsPart base (unloadOutcome base check table work .table)) ws
 unloaded-lookup base check table work ws e =
-    let t = rowsPart base (unloadOutcome base check table work) in
-    unloaded-says base check table work e .lookups ws ∙ said-lookup t (unload-means base check table work .holds e .list) ws
+    let t = rowsPart base (unloadOutcome base check table work .table) in
+    unloaded-says base check table work e .lookups ws ∙ said-lookup t (unload-means base check table work .holds (ap numberOf e) .list) ws

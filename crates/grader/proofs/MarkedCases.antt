@@ -13,7 +13,7 @@ use Rattle.list.specs.Order.{lastLess, precedes}
 use Rattle.list.specs.Search.{findBelow, findIn}
 use Rattle.list.specs.Check.{tableFits, placeFits, placesFit, backoffFits, fieldFault, isAfter, shorterListed, orderFault, rowFault, reservedListed, scan, verdict}
 use Rattle.list.specs.ListModel.{continuedBelow, continuedIn, modelOf}
-use Rattle.double_array.specs.DoubleArray.{markerOf, markerAt, childAt, lookFrom, sizesOk, headOk, orderIn, storeIn, opened}
+use Rattle.double_array.specs.DoubleArray.{markerOf, markerAt, childAt, lookFrom, sizesOk, orderOk, headOk, orderIn, storeIn, opened}
 use Rattle.double_array.specs.Lookup.{lookupOutcome}
 use Rattle.placing.specs.Trie.{children}
 use Rattle.placing.specs.Placing.{isFree, update, allFree, fits, search, firstFit, own, reach as reachSlots, give, settle, place, placeAll, unplaced, placing, slots}
@@ -24,7 +24,7 @@ use Rattle.grader.specs.RunsInARow.{arrayOf}
 use Rattle.grader.specs.MarkedCases.{MarkedCases}
 
 pub marked-cases : MarkedCases
-unfolding between upTo sameWords isWord inProbability inBackoff listed probability backoff continued live reach addPoints lengthByte replaced scoreAfter historyLength rule ruleByte grow rulePoints ruleBytes largest climb backoffsOf newest liveLength walk matchedFrom pointsFrom nextFrom refusal accepted written refusedRun acceptedRun front plain all padded nine countOf stateIn stateOk modelIn walkedWord endsBroken stepFrom step runOver runOutcome startOutcome rowsOf field lengthOf orderOf wordsOf words withoutFirst withoutLast lastLess precedes findBelow findIn tableFits placeFits placesFit backoffFits fieldFault isAfter shorterListed orderFault rowFault reservedListed scan verdict continuedBelow continuedIn modelOf markerOf markerAt childAt lookFrom sizesOk headOk orderIn storeIn opened lookupOutcome children isFree update allFree fits search firstFit own reachSlots give settle place placeAll unplaced placing slots nodeOf rootOf nodesFrom nodesOf placedList slotsFrom rowSlots untouched emptied filled buildOutcome plainOutcome arrayOf
+unfolding between upTo sameWords isWord inProbability inBackoff listed probability backoff continued live reach addPoints lengthByte replaced scoreAfter historyLength rule ruleByte grow rulePoints ruleBytes largest climb backoffsOf newest liveLength walk matchedFrom pointsFrom nextFrom refusal accepted written refusedRun acceptedRun front plain all padded nine countOf stateIn stateOk modelIn walkedWord endsBroken stepFrom step runOver runOutcome startOutcome rowsOf field lengthOf orderOf wordsOf words withoutFirst withoutLast lastLess precedes findBelow findIn tableFits placeFits placesFit backoffFits fieldFault isAfter shorterListed orderFault rowFault reservedListed scan verdict continuedBelow continuedIn modelOf markerOf markerAt childAt lookFrom sizesOk orderOk headOk orderIn storeIn opened lookupOutcome children isFree update allFree fits search firstFit own reachSlots give settle place placeAll unplaced placing slots nodeOf rootOf nodesFrom nodesOf placedList slotsFrom rowSlots untouched emptied filled buildOutcome plainOutcome arrayOf
 marked-cases = record {
   k1 = record { run = refl; plain = refl };
   k2 = record { run = refl; plain = refl };

@@ -145,7 +145,7 @@ pub extern "C" fn backoff_build(
 #[no_mangle]
 pub extern "C" fn backoff_lookup(base: &[i32], check: &[i32], words: &[u32]) -> Found
     ensures outcome { λ r. ⌜ FoundIs (lookupOutcome (now (base .entry)) (now (check .entry)) (now (words .entry))) r ⌝ }
-    ensures meaning { λ _. ⌜ LookupMeans (now (base .entry)) (now (check .entry)) (now (words .entry)) (lookupOutcome (now (base .entry)) (now (check .entry)) (now (words .entry))) ⌝ }
+    ensures meaning { λ r. ⌜ LookupMeans (now (base .entry)) (now (check .entry)) (now (words .entry)) (r .number) (r .place) (r .found) (r .p) (r .b) ⌝ }
 {
     found_of(double_array::look_up(base, check, words))
 }
@@ -154,7 +154,7 @@ pub extern "C" fn backoff_lookup(base: &[i32], check: &[i32], words: &[u32]) -> 
 #[no_mangle]
 pub extern "C" fn backoff_start(base: &[i32], check: &[i32], state: &mut [i32]) -> Status
     ensures outcome { λ r. ⌜ StartedIs (startOutcome (opened (now (base .entry)) (now (check .entry))) (now (state .entry))) r (now (state .exit)) ⌝ }
-    ensures meaning { λ _. ⌜ (length (now (state .entry)) ≡ 9 → StartMeans (now (base .entry)) (now (check .entry)) (startOutcome (opened (now (base .entry)) (now (check .entry))) (now (state .entry)))) ⌝ }
+    ensures meaning { λ r. ⌜ (length (now (state .entry)) ≡ 9 → StartMeans (now (base .entry)) (now (check .entry)) (r .number) (now (state .exit))) ⌝ }
 {
     if state.len() != STATE_LENGTH {
         return Status {
@@ -182,7 +182,7 @@ pub extern "C" fn backoff_run(
     lengths: &mut [u8],
 ) -> Total
     ensures outcome { λ r. ⌜ RanIs (runOutcome (opened (now (base .entry)) (now (check .entry))) (now (state .entry)) (runOf (now (words .entry)) (now (points .entry)) (now (lengths .entry)))) r (now (state .exit)) (now (points .exit)) (now (lengths .exit)) ⌝ }
-    ensures meaning { λ _. ⌜ (length (now (state .entry)) ≡ 9 → RunMeans (now (base .entry)) (now (check .entry)) (now (state .entry)) (runOf (now (words .entry)) (now (points .entry)) (now (lengths .entry))) (runOutcome (opened (now (base .entry)) (now (check .entry))) (now (state .entry)) (runOf (now (words .entry)) (now (points .entry)) (now (lengths .entry))))) ⌝ }
+    ensures meaning { λ r. ⌜ RunMeans (now (base .entry)) (now (check .entry)) (now (state .entry)) (runOf (now (words .entry)) (now (points .entry)) (now (lengths .entry))) (record { number = r .number; place = r .place; total = r .total; end = now (state .exit); points = now (points .exit); lengths = now (lengths .exit) }) ⌝ }
 {
     if state.len() != STATE_LENGTH {
         return Total {
@@ -230,7 +230,7 @@ pub extern "C" fn backoff_unload(
     work: &mut [u32],
 ) -> Status
     ensures outcome { λ r. ⌜ UnloadedIs (unloadOutcome (now (base .entry)) (now (check .entry)) (now (table .entry)) (now (work .entry))) r (now (table .exit)) (now (work .exit)) ⌝ }
-    ensures meaning { λ _. ⌜ UnloadMeans (now (base .entry)) (now (check .entry)) (now (table .entry)) (now (work .entry)) (unloadOutcome (now (base .entry)) (now (check .entry)) (now (table .entry)) (now (work .entry))) ⌝ }
+    ensures meaning { λ r. ⌜ UnloadMeans (now (base .entry)) (now (check .entry)) (now (table .entry)) (now (work .entry)) (r .number) (r .place) (now (table .exit)) (now (work .exit)) ⌝ }
 {
     status_of(unload::unload(base, check, table, work))
 }

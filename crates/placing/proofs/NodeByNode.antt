@@ -8,7 +8,7 @@ use native.Mathlib.Omega.{arith}
 use lib.IntN.{pos, negsuc, pos-ne-negsuc}
 use lib.ListN.{length, take, drop, take-append-drop}
 use lib.Seq.{take-suc, take-length}
-use Rattle.double_array.specs.DoubleArray.{freeCheck}
+use Rattle.double_array.specs.DoubleArray.{freeCheck, headCheck}
 use Rattle.placing.specs.Trie.{Node, children, nodeAt, Ready}
 use Rattle.placing.specs.Placing.{Room, Placed, update, settle, place, firstFit, placeAll, unplaced, placing}
 use Rattle.placing.proofs.Members.{getD-in, getD-in-take, in-take-getD}
@@ -20,12 +20,12 @@ use Rattle.placing.proofs.Placing.{Slotted, Inv, Next, base-n, root-sta
 pub unplaced-inv : (order : ℕ) (all : List Node) → Inv order all [] (unplaced order)
 unfolding unplaced
 unplaced-inv order all = record {
-  head = update-same (λ t. freeCheck) 0 (pos order) 0 refl;
+  head = update-same (λ t. freeCheck) 0 (headCheck order) 0 refl;
   root = refl;
   closed = λ m h. absurd (List·Memᴰ·not-nil h);
   lies = λ m h. absurd (List·Memᴰ·not-nil h);
-  holds = λ t s l e. absurd (pos-ne-negsuc _ _ (sym e ∙ update-other (λ t. freeCheck) 0 (pos order) t (λ q. absurd (omega arith))));
-  past = λ t l. update-other (λ t. freeCheck) 0 (pos order) t (λ q. absurd (omega arith));
+  holds = λ t s l e. absurd (pos-ne-negsuc _ _ (sym e ∙ update-other (λ t. freeCheck) 0 (headCheck order) t (λ q. absurd (omega arith))));
+  past = λ t l. update-other (λ t. freeCheck) 0 (headCheck order) t (λ q. absurd (omega arith));
   blank = λ t e. refl;
 }
 
@@ -50,7 +50,7 @@ over-stays-over all ms ns P N h = rw (placeAll-append all ms ns P) (omega (arith
 -- slots 0 and 1 of an array whose root is r
 pub record Head (order : ℕ) (r : Node) (P : Placed) : Type 0 where
   pub base-0 : P .base 0 ≡ pos 1
-  pub check-0 : P .check 0 ≡ pos order
+  pub check-0 : P .check 0 ≡ headCheck order
   pub base-1 : P .base 1 ≡ r .load
   pub check-1 : P .check 1 ≡ negsuc (r .cost)
 
@@ -60,10 +60,10 @@ unfolding unplaced
 root-fit order ws = sym (fit-only c ws 1 past 1 (omega arith) (past-top c ws 1 1 past (omega arith)) (λ e l h. absurd (omega arith)))
   where
     c : Room
-    c = update (λ t. freeCheck) 0 (pos order)
+    c = update (λ t. freeCheck) 0 (headCheck order)
 
     past : (t : ℕ) → 1 ≤ t → c t ≡ freeCheck
-    past t l = update-other (λ t. freeCheck) 0 (pos order) t (λ q. absurd (omega arith))
+    past t l = update-other (λ t. freeCheck) 0 (headCheck order) t (λ q. absurd (omega arith))
 
 -- the first i nodes are placed
 abbrev pub placedFirst : ℕ → List Node → ℕ → Placed

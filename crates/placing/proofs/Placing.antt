@@ -7,7 +7,7 @@ use Prim.Native.Nat.{ℕ, _≤_, _<_}
 use native.Mathlib.Omega.{arith}
 use native.Mathlib.Decide.{ℕ-discrete, decLt}
 use lib.IntN.{pos, negsuc, pos-ne-negsuc}
-use Rattle.double_array.specs.DoubleArray.{freeCheck, childSlot}
+use Rattle.double_array.specs.DoubleArray.{freeCheck, headCheck, childSlot}
 use Rattle.placing.specs.Trie.{Node, children}
 use Rattle.placing.specs.Placing.{Placed, update, own, give, settle}
 use Rattle.backoff.proofs.Words.{same-refl, same-ne}
@@ -54,7 +54,7 @@ pub record Holds (all done : List Node) (P : Placed) (t s : ℕ) : Type 0 where
 
 -- what holds once the nodes `done` of all have taken their d
 pub record Inv (order : ℕ) (all done : List Node) (P : Placed) : Type 0 where
-  pub head : P .check 0 ≡ pos order
+  pub head : P .check 0 ≡ headCheck order
   pub root : P .slot [] ≡ 0
   pub closed : (m : Node) → List·Memᴰ m done → Slotted all done (m .words)
   pub lies : (m : Node) → List·Memᴰ m done → Lies all P m

@@ -8,7 +8,7 @@ use lib.ListN.{getD, set}
 use lib.IntN.{ℤ, pos, negsuc}
 use Rattle.integer.specs.Integer.{eqZ}
 use Rattle.backoff.specs.Words.{sameWords}
-use Rattle.double_array.specs.DoubleArray.{freeCheck, childSlot}
+use Rattle.double_array.specs.DoubleArray.{freeCheck, headCheck, childSlot}
 use Rattle.placing.specs.Trie.{Node, children}
 
 abbrev pub Room : Type 0
@@ -79,9 +79,9 @@ unfoldable pub placeAll : List Node → List Node → Placed → Placed
 placeAll all [] P = P
 placeAll all (n ∷ ns) P = placeAll all ns (place n (children all (n .words)) P)
 
--- the root lies in slot 0, and CHECK[0] is the order
+-- the root lies in slot 0, and CHECK[0] tells the order
 unfoldable pub unplaced : ℕ → Placed
-unplaced order = record { base = λ t. pos 0; check = update (λ t. freeCheck) 0 (pos order); slot = λ us. 0; top = 1 }
+unplaced order = record { base = λ t. pos 0; check = update (λ t. freeCheck) 0 (headCheck order); slot = λ us. 0; top = 1 }
 
 -- the whole array for an order and the nodes, the root first
 unfoldable pub placing : ℕ → List Node → Placed

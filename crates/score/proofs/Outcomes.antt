@@ -8,6 +8,7 @@ use Prim.Native.Nat.{ℕ}
 use native.Mathlib.Omega.{arith}
 use lib.ListN.{length, replicate, length-replicate}
 use lib.Seq.{take-at, drop-at}
+use lib.Dec.{eqb}
 use lib.IntN.{ℤ, pos}
 use borrow.Author.Tests.{eqb-true, eqb-false, eq-eqb}
 use Rattle.backoff.specs.Limits.{startWord}
@@ -106,14 +107,14 @@ module _ (base check : List ℤ) where
 -- ---- what the outcomes mean
 
 module _ (base check : List ℤ) where
-  refused-start : (number : ℕ) → (number ≡ 0 → ⊥) → StartMeans base check (refusedStart number)
+  refused-start : (number : ℕ) → (number ≡ 0 → ⊥) → StartMeans base check number (refusedStart number .state)
   refused-start number n = record { accepted = λ e. absurd (n e); refused = λ e. refl }
 
-  pub start-means : (l : List ℤ) → length l ≡ 9 → StartMeans base check (startOutcome (opened base check) l)
+  pub start-means : (l : List ℤ) → length l ≡ 9 → StartMeans base check (startOutcome (opened base check) l .number) (startOutcome (opened base check) l .state)
   unfolding startOutcome
   start-means l e = rw (eq-eqb (length l) 9 e) (go (isArray base check) refl (stuckAt (storeIn base check) empty startWord) refl)
     where
-      go : (t : Bool) → isArray base check ≡ t → (u : Bool) → stuckAt (storeIn base check) empty startWord ≡ u → StartMeans base check (startIn (opened base check))
+      go : (t : Bool) → isArray base check ≡ t → (u : Bool) → stuckAt (storeIn base check) empty startWord ≡ u → StartMeans base check (startIn (opened base check) .number) (startIn (opened base check) .state)
       go false q u p = rw (opened-none base check q) (refused-start arrayHead (λ z. omega arith))
       go true q true p = rw (opened-some base check q, step-is (storeIn base check) empty startWord, p) (refused-start brokenNode (λ z. omega arith))
       go true q false p = rw (opened-some base check q, step-is (storeIn base check) empty startWord, p) (record { accepted = λ e. unfold stepNext start in refl; refused = λ n. absurd (n refl) })
@@ -153,9 +154,9 @@ module _ (base check : List ℤ) where
         long-lengths : length lengths ≡ length (r .words)
         long-lengths = length-runBytes (rowsIn base check) (stateIn l) (r .words)
 
-    pub run-means : length l ≡ 9 → RunMeans base check l r (runOutcome (opened base check) l r)
+    pub run-means : RunMeans base check l r (runOutcome (opened base check) l r)
     unfolding runOutcome
-    run-means e = rw (eq-eqb (length l) 9 e) (go (isArray base check) refl (stateOk (storeIn base check .order) l) refl (accepted r) refl (runOver-cases (storeIn base check) (r .words) (stateIn l) 1))
+    run-means = nine-or-not (eqb (length l) 9)
       where
         go : (t : Bool) → isArray base check ≡ t → (u : Bool) → stateOk (storeIn base check .order) l ≡ u → (v : Bool) → accepted r ≡ v → ((j : ℕ) × (runOver (storeIn base check) (r .words) (stateIn l) 1 ≡ refusedAt j)) ⊎ (runOver (storeIn base check) (r .words) (stateIn l) 1 ≡ modelRan (rowsIn base check) (stateIn l) (r .words)) → RunMeans base check l r (runIn (opened base check) l r)
         go false p u q v k o = rw (opened-none base check p) (refused-run arrayHead (λ z. omega arith))
@@ -163,3 +164,7 @@ module _ (base check : List ℤ) where
         go true p true q false k o = rw (opened-some base check p, q, k) (refused-run (refusal r) (eqb-false (refusal r) 0 (unfold accepted in k)))
         go true p true q true k (inl (j, o)) = rw (opened-some base check p, q, k, o) (broken-run j)
         go true p true q true k (inr o) = rw (opened-some base check p, q, k, o) scored-run
+
+        nine-or-not : (t : Bool) → RunMeans base check l r (cond t (runIn (opened base check) l r) (refusedRun badState 0 l r))
+        nine-or-not false = refused-run badState (λ z. omega arith)
+        nine-or-not true = go (isArray base check) refl (stateOk (storeIn base check .order) l) refl (accepted r) refl (runOver-cases (storeIn base check) (r .words) (stateIn l) 1)

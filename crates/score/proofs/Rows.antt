@@ -1,28 +1,19 @@
 -- A store's rows from what a look at them comes to; the rows of a double array are in range; its order. Assumes nothing.
-use mathlib.Core.Path.{_≡_, refl, sym, ap, _∙_}
+use mathlib.Core.Path.{_≡_, refl, sym, _∙_}
 use mathlib.Core.Bool.{Bool, true, false, not, cond, _&&_, _||_, true≢false}
 use mathlib.Core.List.{List, [], _∷_}
-use Prim.Native.Nat.{ℕ, _<_}
-use native.Mathlib.Omega.{arith}
-use lib.Dec.{T}
-use lib.ListN.{length, getD}
+use Prim.Native.Nat.{ℕ}
+use lib.ListN.{length}
 use lib.IntN.{ℤ, pos, natAbs, _+ℤ_}
-use lib.Signed.{leZ, ltZ, nonNeg}
-use mir.Syntax.{w32, w64}
-use mir.Val.{Fits, SFits, toZ, ofZ}
-use mir.Facts.{toZ-ofZ}
+use lib.Signed.{leZ, ltZ}
 use Rattle.integer.specs.Integer.{eqZ, between, half, odd}
-use Rattle.integer.proofs.Arithmetic.{zarith, to-nat}
-use Rattle.integer.proofs.Ranges.{between-low}
-use Rattle.backoff.specs.Limits.{orderLimit}
 use Rattle.backoff.specs.Model.{Entry, listed, probability, backoff, continued, live, inProbability, inBackoff, probabilityOf, backoffOf}
 use Rattle.backoff.specs.Store.{Look, absent, broken, here, Store, entryOf, isBroken, modelIn}
-use Rattle.double_array.specs.DoubleArray.{freeCheck, baseAt, checkAt, markerOf, markerAt, childAt, lookMarker, past, downTo, lookFrom, isArray, orderIn, storeIn, lookRow}
+use Rattle.double_array.specs.DoubleArray.{baseAt, checkAt, markerOf, markerAt, childAt, lookMarker, past, downTo, lookFrom, storeIn, lookRow}
 use Rattle.double_array.specs.declared.Marker.{Marker}
 use Rattle.double_array.specs.declared.Marker.the-variants.{Sound, Broken}
 use Rattle.double_array.specs.declared.Child.{Child}
 use Rattle.double_array.specs.declared.Child.the-variants.{At, Nothing}
-use Rattle.double_array.proofs.DoubleArray.{getD-inside, opened-sizes, opened-head}
 use Rattle.score.specs.Meaning.{rowsIn}
 
 module _ (S : Store) (l : List ℕ) where
@@ -115,19 +106,3 @@ module _ (base check : List ℤ) where
       go absent r = unfold inBackoff between in refl
       go broken r = unfold inBackoff between in refl
       go (here e) r = r .1
-
--- ---- the order, as the code reads it from CHECK[0]
-
-module _ (base check : List ℤ) (h : isArray base check ≡ true) where
-  pub order-inside : 0 < length check
-  order-inside = let z = opened-sizes base check h in omega arith
-
-  pub order-cast : SFits w32 (getD check 0 (pos 0)) → T (nonNeg (toZ w32 (ofZ w32 (getD check 0 (pos 0))))) × Fits w64 (natAbs (toZ w32 (ofZ w32 (getD check 0 (pos 0)))))
-  order-cast f =
-      let l = between-low (pos 1) (pos orderLimit) (getD check 0 freeCheck) (opened-head base check h .order) in
-      let e = getD-inside check 0 freeCheck (pos 0) order-inside in
-      to-nat tt f (omega zarith)
-
-  pub order-read : SFits w32 (getD check 0 (pos 0)) → natAbs (toZ w32 (ofZ w32 (getD check 0 (pos 0)))) ≡ orderIn check
-  unfolding orderIn
-  order-read f = ap natAbs (toZ-ofZ f ∙ getD-inside check 0 (pos 0) freeCheck order-inside)

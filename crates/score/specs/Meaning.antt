@@ -1,6 +1,7 @@
 -- What the answers of start and run mean over the rows that the lent array holds. Assumes nothing.
 use mathlib.Core.Path.{_≡_}
 use mathlib.Core.List.{List}
+use Prim.Native.Nat.{ℕ}
 use lib.ListN.{length, take, drop}
 use lib.IntN.{ℤ, pos}
 use Rattle.integer.specs.Integer.{sum}
@@ -8,17 +9,17 @@ use Rattle.backoff.specs.Model.{Model}
 use Rattle.backoff.specs.State.{start}
 use Rattle.backoff.specs.Run.{Run, Answer, runPoints, runBytes, runEnd}
 use Rattle.backoff.specs.NineNumbers.{nine, nineZeros, stateIn}
-use Rattle.backoff.specs.Store.{Started, modelIn}
+use Rattle.backoff.specs.Store.{modelIn}
 use Rattle.double_array.specs.DoubleArray.{storeIn}
 
 -- the rows with a sound marker that are found in the array
 abbrev pub rowsIn : List ℤ → List ℤ → Model
 rowsIn base check = modelIn (storeIn base check)
 
--- An accepted start gives the state after `<s>`, a refused one the empty state.
-pub record StartMeans (base check : List ℤ) (a : Started) : Type 0 where
-  pub accepted : a .number ≡ 0 → a .state ≡ nine (start (rowsIn base check))
-  pub refused : (a .number ≡ 0 → ⊥) → a .state ≡ nineZeros
+-- The number that was returned, and the state: an accepted start gives the state after `<s>`, a refused one the empty state.
+pub record StartMeans (base check : List ℤ) (number : ℕ) (state : List ℤ) : Type 0 where
+  pub accepted : number ≡ 0 → state ≡ nine (start (rowsIn base check))
+  pub refused : (number ≡ 0 → ⊥) → state ≡ nineZeros
 
 -- the words of the run r, all scored from the state in the nine numbers l
 pub record AllScored (M : Model) (l : List ℤ) (r : Run) (a : Answer (List ℤ)) : Type 0 where

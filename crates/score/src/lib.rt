@@ -505,7 +505,7 @@ fn early_refusal(
     if !double_array::is_array(base, check) {
         return backoff::ARRAY_HEAD;
     }
-    let order = check[0] as usize;
+    let order = double_array::order_of(check);
     if !state_ok(state, order) {
         return backoff::BAD_STATE;
     }
@@ -515,7 +515,7 @@ fn early_refusal(
 // The paper's start, the state after `<s>`: a run of this one word from the empty state leaves it.
 pub fn start(base: &[i32], check: &[i32]) -> Started
     ensures outcome { λ r. ⌜ startedOf r ≡ startOutcome (opened (now (base .entry)) (now (check .entry))) nineZeros ⌝ }
-    ensures meaning { λ r. ⌜ StartMeans (now (base .entry)) (now (check .entry)) (startedOf r) ⌝ }
+    ensures meaning { λ r. ⌜ StartMeans (now (base .entry)) (now (check .entry)) (r .number) (numbersOf (r .state)) ⌝ }
 {
     let none = empty();
     if !double_array::is_array(base, check) {
@@ -525,7 +525,7 @@ pub fn start(base: &[i32], check: &[i32]) -> Started
             state: none,
         };
     }
-    let order = check[0] as usize;
+    let order = double_array::order_of(check);
     let words = [backoff::START_WORD];
     let mut points = [0i32];
     let mut lengths = [0u8];
@@ -559,6 +559,6 @@ pub fn run(
             end: state,
         };
     }
-    let order = check[0] as usize;
+    let order = double_array::order_of(check);
     score_words(base, check, order, state, words, points, lengths)
 }

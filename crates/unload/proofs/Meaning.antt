@@ -13,7 +13,7 @@ use lib.ListN.{length, getD, length-reverse, List·getD-append}
 use lib.Seq.{take-at}
 use lib.IntN.{ℤ}
 use Rattle.integer.proofs.Ranges.{and-left, and-right, and-both}
-use Rattle.backoff.specs.Refusal.{numberOf, arrayHead, brokenNode, shortSlice}
+use Rattle.backoff.specs.Refusal.{numberOf, placeOf, arrayHead, brokenNode, shortSlice}
 use Rattle.backoff.specs.Run.{Run, written, run, first}
 use Rattle.backoff.specs.Runs.{answers}
 use Rattle.backoff.specs.Store.{absent, entryOf, isBroken, lookEntry, modelIn, runOutcome}
@@ -162,6 +162,9 @@ module _ (base check table : List ℤ) (work : List ℕ) where
   abbrev outcome : Unloaded
   outcome = unloadOutcome base check table work
 
+  abbrev OutcomeMeans : Type 0
+  OutcomeMeans = UnloadMeans base check table work (numberOf (outcome .answer)) (placeOf (outcome .answer)) (outcome .table) (outcome .work)
+
   too-short-told : longEnough ≡ false → (length table < 8 * rowsIn base) ⊎ (length work < rowsIn base)
   too-short-told e = go (leb (8 * rowsIn base) (length table)) (leb (rowsIn base) (length work)) refl refl e
     where
@@ -176,7 +179,7 @@ module _ (base check table : List ℤ) (work : List ℕ) where
     unfolding unloadOutcome
     outcome-filled = rw (array, long, ok)
 
-    rows-left : rowsPart base outcome ≡ tableOf base check nodes
+    rows-left : rowsPart base (outcome .table) ≡ tableOf base check nodes
     unfolding filled written
     rows-left = rw outcome-filled (take-at (tableOf base check nodes) _ (8 * rowsIn base) (omega (arith, length-tableOf base check nodes, rows-tableOf base check nodes, rows base check array ok)))
 
@@ -184,52 +187,53 @@ module _ (base check table : List ℤ) (work : List ℕ) where
     unfolding filled written
     slot-left i h = rw outcome-filled (List·getD-append (slotsOf nodes) _ 0 i (omega (arith, length-slotsOf nodes, rows-tableOf base check nodes, rows base check array ok)))
 
-    filled-means : UnloadMeans base check table work outcome
+    answer-accepted : outcome .answer ≡ Accepted
+    unfolding filled
+    answer-accepted = rw outcome-filled
+
+    filled-means : OutcomeMeans
     filled-means = record {
       holds = λ e. rw rows-left (list-held base check array ok);
       only = λ e u H. rows-left ∙ held-table base check u H;
       slots = λ e i h. rw (rows-left, slot-left i h) (row-slot base check array ok i (omega (arith, rows base check array ok)));
-      refused = λ number place e. absurd (never number place e);
-      no-place = λ number place e. absurd (never number place e);
+      refused = λ n. absurd (n (ap numberOf answer-accepted));
+      no-place = ap placeOf answer-accepted;
     }
-      where
-        never : (number place : ℕ) → outcome .answer ≡ Refused number place → ⊥
-        never number place e = let f : Accepted ≡ Refused number place = (unfold filled in rw outcome-filled at e) in let z : _≡_ {A = ℕ} 0 1 = cc in omega arith
 
   -- refused by a number, with what it says
-  refused-means : (k : ℕ) → outcome .answer ≡ Refused k 0 → RefusedBy base check table work k → UnloadMeans base check table work outcome
-  refused-means k q r = record {
+  refused-means : (k : ℕ) → (k ≡ 0 → ⊥) → outcome .answer ≡ Refused k 0 → RefusedBy base check table work k → OutcomeMeans
+  refused-means k n q r = record {
     holds = λ e. absurd (never e);
     only = λ e. absurd (never e);
     slots = λ e. absurd (never e);
-    refused = λ number place e. let z : k ≡ number = cc in rw z at r;
-    no-place = λ number place e. let z : 0 ≡ place = cc in sym z;
+    refused = λ z. rw q r;
+    no-place = ap placeOf q;
   }
     where
-      never : outcome .answer ≡ Accepted → ⊥
-      never e = let z : _≡_ {A = ℕ} 0 1 = cc in omega arith
+      never : numberOf (outcome .answer) ≡ 0 → ⊥
+      never e = n (sym (ap numberOf q) ∙ e)
 
-  pub unload-means : UnloadMeans base check table work outcome
+  pub unload-means : OutcomeMeans
   unload-means = go (isArray base check) refl longEnough refl (isList base check nodes) refl
     where
-      go : (a : Bool) → isArray base check ≡ a → (b : Bool) → longEnough ≡ b → (c : Bool) → isList base check nodes ≡ c → UnloadMeans base check table work outcome
-      go false e b f c g = refused-means arrayHead (unfold unloadOutcome untouched in rw e) (no-array (opened-none base check e))
-      go true e false f c g = refused-means shortSlice (unfold unloadOutcome untouched in rw (e, f)) (too-short e (too-short-told f))
+      go : (a : Bool) → isArray base check ≡ a → (b : Bool) → longEnough ≡ b → (c : Bool) → isList base check nodes ≡ c → OutcomeMeans
+      go false e b f c g = refused-means arrayHead (λ z. omega arith) (unfold unloadOutcome untouched in rw e) (no-array (opened-none base check e))
+      go true e false f c g = refused-means shortSlice (λ z. omega arith) (unfold unloadOutcome untouched in rw (e, f)) (too-short e (too-short-told f))
       go true e true f false g =
-          refused-means brokenNode (unfold unloadOutcome emptied in rw (e, f, g)) (no-list e (λ u H. false≢true (sym g ∙ held-is-list base check u H)))
+          refused-means brokenNode (λ z. omega arith) (unfold unloadOutcome emptied in rw (e, f, g)) (no-list e (λ u H. false≢true (sym g ∙ held-is-list base check u H)))
       go true e true f true g = filled-means e f g
 
 -- Where unload accepts an array, every lookup, start and run over it is what the unloaded list says.
 module _ (base check table : List ℤ) (work : List ℕ) (e : unloadOutcome base check table work .answer ≡ Accepted) where
   abbrev unloaded : List ℤ
-  unloaded = rowsPart base (unloadOutcome base check table work)
+  unloaded = rowsPart base (unloadOutcome base check table work .table)
 
   pub unloaded-says : Says base check unloaded
-  unloaded-says = held-says base check unloaded (unload-means base check table work .holds e)
+  unloaded-says = held-says base check unloaded (unload-means base check table work .holds (ap numberOf e))
 
   -- a whole list of runs too, from the state of start or the empty one
   pub unloaded-runs-in-a-row : (b : Bool) (qs : List Run) → answers (runOutcome (opened base check)) (nine (first (modelOf unloaded) b)) qs ≡ map packed (answers (run (modelOf unloaded)) (first (modelOf unloaded) b) qs)
-  unloaded-runs-in-a-row b qs = held-runs-in-a-row base check unloaded (unload-means base check table work .holds e) b qs
+  unloaded-runs-in-a-row b qs = held-runs-in-a-row base check unloaded (unload-means base check table work .holds (ap numberOf e)) b qs
 
 -- ---- over an array that holds a list
 

@@ -3,22 +3,21 @@ use mathlib.Core.Path.{_≡_}
 use mathlib.Core.Logic.{_⊎_}
 use mathlib.Core.Bool.{true, false}
 use mathlib.Core.List.{List}
-use mathlib.Core.Option.{Option, none, some}
+use mathlib.Core.Option.{none, some}
 use Prim.Native.Nat.{ℕ, _*_, _≤_, _<_}
 use lib.ListN.{length, getD, take}
 use lib.IntN.{ℤ}
 use Rattle.backoff.specs.Refusal.{arrayHead, brokenNode, shortSlice}
-use Rattle.backoff.specs.Model.{Entry, Model}
 use Rattle.backoff.specs.Run.{Run}
 use Rattle.backoff.specs.Store.{isBroken, storeOf, modelIn, runOutcome, startOutcome}
-use Rattle.backoff.specs.declared.Verdict.the-variants.{Accepted, Refused}
+use Rattle.backoff.specs.declared.Verdict.the-variants.{Accepted}
 use Rattle.list.specs.Table.{rowsOf, orderOf, words}
 use Rattle.list.specs.Check.{verdict}
 use Rattle.list.specs.ListModel.{modelOf}
 use Rattle.double_array.specs.DoubleArray.{isArray, orderIn, storeIn, opened}
 use Rattle.double_array.specs.Lookup.{lookupIn, lookupOutcome}
 use Rattle.double_array.specs.declared.Child.the-variants.{At}
-use Rattle.unload.specs.Unload.{walkTo, rowsIn, Unloaded}
+use Rattle.unload.specs.Unload.{walkTo, rowsIn}
 
 -- The array holds the list t: t has the array's order n and number of rows, and of at most n words the array has what t has, on sound nodes. Of nodes
 -- of more than n words, which no lookup, start or run comes to, nothing is said.
@@ -43,13 +42,14 @@ pub data RefusedBy (base check table : List ℤ) (work : List ℕ) : ℕ → Typ
   no-list : isArray base check ≡ true → ((t : List ℤ) → Holds base check t → ⊥) → RefusedBy base check table work brokenNode
 
 -- "the rows' part of table"
-abbrev pub rowsPart : List ℤ → Unloaded → List ℤ
-rowsPart base u = take (8 * rowsIn base) (u .table)
+abbrev pub rowsPart : List ℤ → List ℤ → List ℤ
+rowsPart base table = take (8 * rowsIn base) table
 
-pub record UnloadMeans (base check table : List ℤ) (work : List ℕ) (u : Unloaded) : Type 0 where
+-- The number and the place that were returned, and table and work as they are left.
+pub record UnloadMeans (base check table : List ℤ) (work : List ℕ) (number place : ℕ) (table′ : List ℤ) (work′ : List ℕ) : Type 0 where
   -- accepted: the rows' part of table is the one list that the array holds, and work has the slots of its nodes
-  pub holds : u .answer ≡ Accepted → Holds base check (rowsPart base u)
-  pub only : u .answer ≡ Accepted → (t : List ℤ) → Holds base check t → rowsPart base u ≡ t
-  pub slots : u .answer ≡ Accepted → (i : ℕ) → i < rowsIn base → walkTo base check (words (rowsPart base u) i) ≡ At (getD (u .work) i 0)
-  pub refused : (number place : ℕ) → u .answer ≡ Refused number place → RefusedBy base check table work number
-  pub no-place : (number place : ℕ) → u .answer ≡ Refused number place → place ≡ 0
+  pub holds : number ≡ 0 → Holds base check (rowsPart base table′)
+  pub only : number ≡ 0 → (t : List ℤ) → Holds base check t → rowsPart base table′ ≡ t
+  pub slots : number ≡ 0 → (i : ℕ) → i < rowsIn base → walkTo base check (words (rowsPart base table′) i) ≡ At (getD work′ i 0)
+  pub refused : (number ≡ 0 → ⊥) → RefusedBy base check table work number
+  pub no-place : place ≡ 0

@@ -1,4 +1,4 @@
--- The slices are wiped, CHECK[0] is the order, and the items are the rows' f: nothing is placed.
+-- The slices are wiped, CHECK[0] tells the order, and the items are the rows' f: nothing is placed.
 use mathlib.Core.Path.{_≡_, ap, _∙_}
 use Prim.Native.Nat.{ℕ, _-_, _<_}
 use native.Mathlib.Omega.{arith}
@@ -6,9 +6,11 @@ use lib.IntN.{pos}
 use lib.ListN.{length, set, replicate}
 use denote.Ref.{now}
 use mir.Syntax.{w32}
-use mir.Facts.{toZ-pos}
-use borrow.Author.Needs.{needs}
+use mir.Val.{SFits}
+use mir.Facts.{toZ-ofZ}
+use borrow.Author.Needs.{needs, sfits-of}
 use Rattle.double_array.proofs.DoubleArray.{Sizes, sizes-told}
+use Rattle.double_array.specs.DoubleArray.{headCheck}
 use Rattle.list.specs.Table.{rowsOf, lengthOf, orderOf}
 use Rattle.list.proofs.Check.{accepted-size}
 use Rattle.build.proofs.Outcome.{filled-none}
@@ -38,14 +40,14 @@ length-of-requires : tie.Need-length-of-requires
 unfolding rowsOf
 length-of-requires c κs = let w = c .before .before .before .before in omega (arith, some w, kept w)
 
-cast-check : tie.Need-cast-check
-cast-check c = search needs
+head-check-requires : tie.Need-head-check-requires
+head-check-requires c κs = search needs
 
 slice-set-from-check : tie.Need-slice-set-from-check
-slice-set-from-check c = let w = c .before .before .before .before .before in omega (arith, sizes w .low, sizes w .same, w .wipe .kept .1 .0)
+slice-set-from-check c = let w = c .before .before .before .before .before .before in omega (arith, sizes w .low, sizes w .same, w .wipe .kept .1 .0)
 
 mark-continued-requires : tie.Need-mark-continued-requires
-mark-continued-requires c κs = let w = c .before .before .before .before .before .before in (start w .pre .accepted, w .wipe .ensures .items-zero ∙ ap (λ (n : ℕ). replicate n 0) (start w .pre .each))
+mark-continued-requires c κs = let w = c .before .before .before .before .before .before .before in (start w .pre .accepted, w .wipe .ensures .items-zero ∙ ap (λ (n : ℕ). replicate n 0) (start w .pre .each))
 
 same-length : tie.Need-same-length
 same-length c = search needs
@@ -56,17 +58,21 @@ same-length-2 c = search needs
 same-length-3 : tie.Need-same-length-3
 same-length-3 c = search needs
 
+head-fits : (c : tie.After-head-check) → SFits w32 (c .head-check .result)
+head-fits c = sfits-of (c .head-check .ok)
+
 returns : tie.Need-returns
 unfolding orderOf
 returns c =
     let m = c .before .before in
-    let l = m .before .before in
+    let k = m .before .before in
+    let l = k .before in
     let w = l .before .before .before .before .before in
     let t = now (start w .args .table) in
     let order : l .length-of .result ≡ lengthOf t (rowsOf t - 1) = l .length-of .ensures .0 ∙ ap (λ (n : ℕ). lengthOf t (n - 1)) (kept w) in
     filled-none t (omega (arith, sizes w .low, sizes w .same)) (omega (arith, sizes w .high, sizes w .same))
     (w .wipe .ensures .base-free ∙ ap (λ (n : ℕ). replicate n (pos 0)) (sizes w .same))
-    (λ i. set (w .wipe .ensures .check-free i) 0 ((toZ-pos w32 (omega (arith, l .length-of .ensures .1)) ∙ ap pos order) i))
+    (λ i. set (w .wipe .ensures .check-free i) 0 ((toZ-ofZ (head-fits k) ∙ k .head-check .ensures ∙ ap headCheck order) i))
     (m .mark-continued .ensures)
 
 pub prepare-spec : {M : Type 1} → statement M
@@ -76,7 +82,7 @@ prepare-spec =
     wipe-requires
     sub-length-of
     length-of-requires
-    cast-check
+    head-check-requires
     slice-set-from-check
     mark-continued-requires
     same-length

@@ -2,7 +2,6 @@
 use borrow.Author.Needs.{needs}
 use mathlib.Core.Path.{subst}
 use Rattle.double_array.specs.declared.Lookup.{Lookup}
-use Rattle.double_array.proofs.LookupMeaning.{lookup-means}
 use Rattle.grader.specs.Exports.{FoundIs}
 use Rattle.grader.proofs.backoff_lookup.Statement.{statement}
 use Rattle.grader.proofs.backoff_lookup.Tie as tie
@@ -14,7 +13,9 @@ found-of-requires : tie.Need-found-of-requires
 found-of-requires c κs = search needs
 
 returns : tie.Need-returns
-returns c = (subst (λ (l : Lookup). FoundIs l (c .found-of .result)) (c .before .look-up .ensures .0) (c .found-of .ensures), lookup-means _ _ _)
+returns c =
+    let found = c .found-of .ensures in
+    (subst (λ (l : Lookup). FoundIs l (c .found-of .result)) (c .before .look-up .ensures .0) found, rw (found .number, found .place, found .found, found .p, found .b) (c .before .look-up .ensures .1))
 
 pub backoff-lookup-spec : {M : Type 1} → statement M
 backoff-lookup-spec = tie.close (tie.spec look-up-requires found-of-requires returns)

@@ -15,7 +15,7 @@ use Rattle.grader.proofs.backoff_run.Statement.{statement}
 use Rattle.grader.proofs.backoff_run.Tie as tie
 
 returns : tie.Need-returns
-returns c = (run-wrong-length _ _ (c .if1 .taken) _, λ h. absurd (c .if1 .taken h))
+returns c = let is = run-wrong-length _ _ (c .if1 .taken) _ in (is, run-means _ _ _ _ is)
 
 load-requires : tie.Need-load-requires
 load-requires c κs = search needs
@@ -43,7 +43,8 @@ returns-2 c =
     let run = runOf (now (s .args .words)) (now (s .args .points)) (now (s .args .lengths)) in
     let back : toZ w64 (ofZ w64 (ran .result .total)) ≡ ran .result .total = toZ-ofZ (sfits-of (c .struct-told .given .1 .1 .0 .1)) in
     let e = ran .ensures .0 ∙ ap (λ (l : List ℤ). runOutcome (opened (now (s .args .base)) (now (s .args .check))) l run) loaded in
-    (run-crosses e back (c .before .before .store .ensures), λ h. run-means loaded e (ran .ensures .1))
+    let is = run-crosses e back (c .before .before .store .ensures) in
+    (is, run-means _ _ _ _ is)
 
 pub backoff-run-spec : {M : Type 1} → statement M
 backoff-run-spec =

@@ -2,7 +2,7 @@
 use mathlib.Core.Path.{_∙_}
 use denote.Ref.{now}
 use Rattle.double_array.specs.DoubleArray.{opened}
-use Rattle.grader.proofs.Crossing.{start-wrong-length, start-any, start-crosses, start-means}
+use Rattle.grader.proofs.Crossing.{start-wrong-length, start-any, start-crosses}
 use borrow.Author.Needs.{needs}
 use Rattle.grader.proofs.backoff_start.Statement.{statement}
 use Rattle.grader.proofs.backoff_start.Tie as tie
@@ -24,7 +24,7 @@ returns-2 c =
     let s = c .before .before .before .before .before .before in
     let started = c .before .before .before .before .start .ensures in
     let same = start-any (opened (now (s .args .base)) (now (s .args .check))) (now (s .args .state)) (search needs) in
-    (start-crosses (started .0 ∙ same) (c .before .store .ensures), λ h. start-means (started .0 ∙ same) (started .1))
+    (start-crosses (started .0 ∙ same) (c .before .store .ensures), λ h. rw (c .before .store .ensures) (started .1))
 
 pub backoff-start-spec : {M : Type 1} → statement M
 backoff-start-spec =

@@ -1,9 +1,8 @@
 -- `grader::backoff_unload` meets its contract: its numbers are those of unload's outcome. Assumes nothing.
 use borrow.Author.Needs.{needs}
-use mathlib.Core.Path.{_≡_, ap, _∙_}
+use mathlib.Core.Path.{ap, _∙_}
 use Rattle.backoff.specs.Refusal.{numberOf, placeOf}
 use Rattle.unload.specs.Unload.{Unloaded}
-use Rattle.unload.proofs.Meaning.{unload-means}
 use Rattle.grader.proofs.backoff_unload.Statement.{statement}
 use Rattle.grader.proofs.backoff_unload.Tie as tie
 
@@ -22,6 +21,7 @@ same-length-2 c = search needs
 returns : tie.Need-returns
 returns c =
     let e = c .before .before .before .before .unload .ensures .0 in
+    let means = c .before .before .before .before .unload .ensures .1 in
     let status = c .status-of .ensures in (
       record {
         status = record {
@@ -31,7 +31,7 @@ returns c =
         table-is = ap (λ (u : Unloaded). u .table) e;
         work-is = ap (λ (u : Unloaded). u .work) e;
       },
-      unload-means _ _ _ _,
+      rw (status .number, status .place) means,
     )
 
 pub backoff-unload-spec : {M : Type 1} → statement M

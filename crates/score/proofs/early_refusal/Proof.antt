@@ -2,17 +2,12 @@
 use mathlib.Core.Path.{_≡_, sym, ap, _∙_}
 use mathlib.Core.Bool.{Bool, true, false}
 use Prim.Native.Nat.{ℕ}
-use borrow.Author.Needs.{needs, sfits-of}
+use borrow.Author.Needs.{needs}
 use borrow.Author.Tests.{not-true, not-false}
-use lib.ListN.{getD}
-use lib.IntN.{pos}
-use mir.Syntax.{w32}
-use mir.Val.{SFits}
 use Rattle.backoff.specs.NineNumbers.{stateOk}
 use Rattle.double_array.specs.DoubleArray.{isArray, orderIn, storeIn}
-use Rattle.double_array.proofs.DoubleArray.{opened-order, opened-some, opened-none}
+use Rattle.double_array.proofs.DoubleArray.{opened-head, opened-order, opened-some, opened-none}
 use Rattle.score.specs.Answers.{numbersOf}
-use Rattle.score.proofs.Rows.{order-inside, order-cast, order-read}
 use Rattle.score.proofs.early_refusal.Statement.{statement}
 use Rattle.score.proofs.early_refusal.Tie as tie
 
@@ -28,25 +23,19 @@ returns c =
 array : (c : tie.Else1) → isArray (c .before .before .args .base .now) (c .before .before .args .check .now) ≡ true
 array c = sym (c .before .is-array .ensures) ∙ not-false (c .before .is-array .result) (c .if1 .left)
 
-shared-slice-copy-out-order : tie.Need-shared-slice-copy-out-order
-shared-slice-copy-out-order c = let s = c .before .before in order-inside (s .args .base .now) (s .args .check .now) (array c)
-
-order-fits : (c : tie.After-order) → SFits w32 (getD (c .before .before .before .args .check .now) 0 (pos 0))
-order-fits c = sfits-of (c .order .given)
-
-cast-order : tie.Need-cast-order
-cast-order c = let s = c .before .before .before in order-cast (s .args .base .now) (s .args .check .now) (array (c .before)) (order-fits c)
+order-of-requires : tie.Need-order-of-requires
+order-of-requires c κs = let s = c .before .before in opened-head (s .args .base .now) (s .args .check .now) (array c) .order
 
 state-ok-requires : tie.Need-state-ok-requires
 state-ok-requires c κs =
     let s = c .before .before .before in
-    rw (order-read (s .args .base .now) (s .args .check .now) (array (c .before)) (order-fits c)) (opened-order (s .args .base .now) (s .args .check .now) (array (c .before)) .0)
+    rw (c .order-of .ensures) (opened-order (s .args .base .now) (s .args .check .now) (array (c .before)) .0)
 
 -- check 16 of the state
 state-is : (c : tie.After-state-ok) (t : Bool) → c .state-ok .result ≡ t → stateOk (orderIn (c .before .before .before .before .args .check .now)) (numbersOf (c .before .before .before .before .args .state)) ≡ t
 state-is c t e =
     let s = c .before .before .before .before in
-    ap (λ (n : ℕ). stateOk n (numbersOf (s .args .state))) (sym (order-read (s .args .base .now) (s .args .check .now) (array (c .before .before)) (order-fits (c .before)))) ∙ sym (c .state-ok .ensures) ∙ e
+    ap (λ (n : ℕ). stateOk n (numbersOf (s .args .state))) (sym (c .before .order-of .ensures)) ∙ sym (c .state-ok .ensures) ∙ e
 
 returns-2 : tie.Need-returns-2
 unfolding storeIn
@@ -74,8 +63,7 @@ early-refusal-spec =
     (tie.spec
     is-array-requires
     returns
-    shared-slice-copy-out-order
-    cast-order
+    order-of-requires
     state-ok-requires
     returns-2
     run-fault-requires

@@ -1,18 +1,15 @@
 -- `score::run` meets its contract. Assumes nothing.
 use mathlib.Core.Path.{_≡_, sym, _∙_}
 use mathlib.Core.List.{List}
-use borrow.Author.Needs.{needs, sfits-of}
-use lib.ListN.{getD}
-use lib.IntN.{ℤ, pos}
-use mir.Syntax.{w32}
-use mir.Val.{SFits}
+use borrow.Author.Needs.{needs}
+use lib.IntN.{ℤ}
 use Rattle.backoff.specs.Run.{Run, Answer, refusedRun}
 use Rattle.backoff.specs.Store.{runOutcome}
 use Rattle.double_array.specs.DoubleArray.{opened}
 use Rattle.score.specs.Answers.{numbersOf}
 use Rattle.score.specs.Meaning.{RunMeans}
 use Rattle.score.proofs.Carried.{Four, length-numbers}
-use Rattle.score.proofs.Rows.{order-inside, order-cast, order-read}
+use Rattle.double_array.proofs.DoubleArray.{opened-head}
 use Rattle.score.proofs.Outcomes.{refused-early, Passed, passed-all, scored-late, run-means}
 use Rattle.score.proofs.run.Statement.{statement}
 use Rattle.score.proofs.run.Tie as tie
@@ -26,7 +23,7 @@ asked s = record { words = s .args .words .now; points = s .args .points .now; l
 
 -- an answer that is the outcome also means what it should
 answers : (s : tie.Start) (a : Answer (List ℤ)) → a ≡ runOutcome (opened (s .args .base .now) (s .args .check .now)) (numbersOf (s .args .state)) (asked s) → (a ≡ runOutcome (opened (s .args .base .now) (s .args .check .now)) (numbersOf (s .args .state)) (asked s)) × RunMeans (s .args .base .now) (s .args .check .now) (numbersOf (s .args .state)) (asked s) a
-answers s a e = (e, rw e (run-means (s .args .base .now) (s .args .check .now) (numbersOf (s .args .state)) (asked s) (length-numbers (s .args .state) (arrays s))))
+answers s a e = (e, rw e (run-means (s .args .base .now) (s .args .check .now) (numbersOf (s .args .state)) (asked s)))
 
 early-refusal-requires : tie.Need-early-refusal-requires
 early-refusal-requires c κs = search needs
@@ -44,22 +41,14 @@ passed c =
     let s = c .before .before .before .before in
     passed-all (s .args .base .now) (s .args .check .now) (numbersOf (s .args .state)) (asked s) (sym (c .before .early-refusal .ensures) ∙ c .if1 .left)
 
-shared-slice-copy-out-order : tie.Need-shared-slice-copy-out-order
-shared-slice-copy-out-order c = let s = c .before .before .before .before in order-inside (s .args .base .now) (s .args .check .now) (passed c .array)
-
-order-fits : (c : tie.After-order) → SFits w32 (getD (c .before .before .before .before .before .args .check .now) 0 (pos 0))
-order-fits c = sfits-of (c .order .given)
-
-cast-order : tie.Need-cast-order
-cast-order c = let s = c .before .before .before .before .before in order-cast (s .args .base .now) (s .args .check .now) (passed (c .before) .array) (order-fits c)
+order-of-requires : tie.Need-order-of-requires
+order-of-requires c κs = let s = c .before .before .before .before in opened-head (s .args .base .now) (s .args .check .now) (passed c .array) .order
 
 score-words-requires : tie.Need-score-words-requires
 score-words-requires c κs =
     let o = c .before .before in
     let p = passed (o .before) in
-    let s = o .before .before .before .before .before in
-    let e = order-read (s .args .base .now) (s .args .check .now) (p .array) (order-fits o) in
-    (p .array, (e, (rw e (p .state), (p .sizes .few, (p .sizes .points, p .sizes .lengths)))))
+    (p .array, (o .order-of .ensures, (rw (o .order-of .ensures) (p .state), (p .sizes .few, (p .sizes .points, p .sizes .lengths)))))
 
 same-length : tie.Need-same-length
 same-length c = search needs
@@ -80,8 +69,7 @@ run-spec =
     (tie.spec
     early-refusal-requires
     returns
-    shared-slice-copy-out-order
-    cast-order
+    order-of-requires
     score-words-requires
     same-length
     same-length-2

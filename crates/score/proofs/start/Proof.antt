@@ -4,19 +4,16 @@ use mathlib.Core.Bool.{true}
 use mathlib.Core.List.{List}
 use Prim.Native.Nat.{ℕ}
 use native.Mathlib.Omega.{arith}
-use borrow.Author.Needs.{needs, sfits-of}
+use borrow.Author.Needs.{needs}
 use borrow.Author.Tests.{not-true, not-false}
-use lib.ListN.{getD}
-use lib.IntN.{ℤ, pos}
-use mir.Syntax.{w32}
-use mir.Val.{SFits}
+use lib.IntN.{ℤ}
 use Rattle.backoff.specs.Refusal.{arrayHead}
 use Rattle.backoff.specs.NineNumbers.{nineZeros}
 use Rattle.backoff.specs.Store.{Started, startOutcome}
 use Rattle.double_array.specs.DoubleArray.{isArray, opened}
 use Rattle.score.specs.Meaning.{StartMeans}
 use Rattle.score.proofs.Carried.{zeros-ok}
-use Rattle.score.proofs.Rows.{order-inside, order-cast, order-read}
+use Rattle.double_array.proofs.DoubleArray.{opened-head}
 use Rattle.score.proofs.Outcomes.{startedBy, start-refused, start-runs, start-means}
 use Rattle.score.proofs.start.Statement.{statement}
 use Rattle.score.proofs.start.Tie as tie
@@ -25,7 +22,7 @@ abbrev started : ℕ → List ℤ → Started
 started number l = record { number = number; place = 0; state = l }
 
 -- an answer that is the outcome also means what it should
-answers : (base check : List ℤ) (a : Started) → a ≡ startOutcome (opened base check) nineZeros → (a ≡ startOutcome (opened base check) nineZeros) × StartMeans base check a
+answers : (base check : List ℤ) (a : Started) → a ≡ startOutcome (opened base check) nineZeros → (a ≡ startOutcome (opened base check) nineZeros) × StartMeans base check (a .number) (a .state)
 answers base check a e = (e, rw e (start-means base check nineZeros refl))
 
 empty-requires : tie.Need-empty-requires
@@ -42,14 +39,8 @@ returns c =
 array : (c : tie.Else1) → isArray (c .before .before .before .args .base .now) (c .before .before .before .args .check .now) ≡ true
 array c = sym (c .before .is-array .ensures) ∙ not-false (c .before .is-array .result) (c .if1 .left)
 
-shared-slice-copy-out-order : tie.Need-shared-slice-copy-out-order
-shared-slice-copy-out-order c = let s = c .before .before .before in order-inside (s .args .base .now) (s .args .check .now) (array c)
-
-order-fits : (c : tie.After-order) → SFits w32 (getD (c .before .before .before .before .args .check .now) 0 (pos 0))
-order-fits c = sfits-of (c .order .given)
-
-cast-order : tie.Need-cast-order
-cast-order c = let s = c .before .before .before .before in order-cast (s .args .base .now) (s .args .check .now) (array (c .before)) (order-fits c)
+order-of-requires : tie.Need-order-of-requires
+order-of-requires c κs = let s = c .before .before .before in opened-head (s .args .base .now) (s .args .check .now) (array c) .order
 
 slice-aggregate-score-words : tie.Need-slice-aggregate-score-words
 slice-aggregate-score-words c = search needs
@@ -63,8 +54,7 @@ slice-aggregate-score-words-3 c = search needs
 score-words-requires : tie.Need-score-words-requires
 score-words-requires c κs =
     let k = c .before .before .before in
-    let s = k .before .before .before .before in
-    (array (k .before), (order-read (s .args .base .now) (s .args .check .now) (array (k .before)) (order-fits k), (rw (k .before .before .before .empty .ensures) (zeros-ok _), (omega arith, (omega arith, omega arith)))))
+    (array (k .before), (k .order-of .ensures, (rw (k .before .before .before .empty .ensures) (zeros-ok _), (omega arith, (omega arith, omega arith)))))
 
 returns-2 : tie.Need-returns-2
 returns-2 c =
@@ -80,8 +70,7 @@ start-spec =
     empty-requires
     is-array-requires
     returns
-    shared-slice-copy-out-order
-    cast-order
+    order-of-requires
     slice-aggregate-score-words
     slice-aggregate-score-words-2
     slice-aggregate-score-words-3
