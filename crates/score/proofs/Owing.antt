@@ -15,6 +15,7 @@ use Rattle.backoff.specs.Limits.{largestBackoff}
 use Rattle.backoff.specs.Model.{inBackoff}
 use Rattle.backoff.proofs.Sizes.{backoff-size}
 use Rattle.score.specs.declared.Kept.{Kept}
+use Rattle.score.specs.Inner.{Owes}
 use Rattle.score.proofs.Written.{drop-more}
 
 -- `given` is the array as the walk found it, the first `count` of it the state's back-offs; `backoffs` is the array now
@@ -22,12 +23,12 @@ pub record Owing (count : ℕ) (given : List ℤ) (passed : ℕ) (kept : Kept) (
   pub long : length backoffs ≡ length given
   pub rest : drop passed backoffs ≡ drop passed given
   pub owed-is : owed ≡ sum (drop passed (take count given))
-  pub total-is : total ≡ sum (take passed backoffs)
+  pub total-is : Owes passed total backoffs
   pub total-small : natAbs total ≤ passed * largestBackoff
   pub kept-few : kept .count ≤ passed
-  pub kept-owed : kept .owed ≡ sum (take (kept .count) backoffs)
+  pub kept-owed : Owes (kept .count) (kept .owed) backoffs
 
-pub owing-begins : (count : ℕ) (given : List ℤ) (owed : ℤ) → owed ≡ sum (take count given) → Owing count given 0 (record { count = 0; owed = pos 0 }) (pos 0) owed given
+pub owing-begins : (count : ℕ) (given : List ℤ) (owed : ℤ) → Owes count owed given → Owing count given 0 (record { count = 0; owed = pos 0 }) (pos 0) owed given
 owing-begins count given owed e = record {
   long = refl;
   rest = refl;
@@ -53,7 +54,7 @@ module _ (count : ℕ) (given : List ℤ) (passed : ℕ) (kept : Kept) (total ow
     pub total-more : natAbs (total +ℤ b) ≤ (passed + 1) * largestBackoff
     total-more = let s = backoff-size b in-backoff in omega (arith, add total b, abs total, abs b, abs (total +ℤ b), o .total-small)
 
-    taken : total +ℤ b ≡ sum (take (passed + 1) (set backoffs passed b))
+    taken : Owes (passed + 1) (total +ℤ b) (set backoffs passed b)
     taken = rw (add-one, take-suc-set backoffs passed b (omega (arith, o .long)), o .total-is) (ap (λ (z : ℤ). sum (take passed backoffs) +ℤ z) (sym (+ℤ-idr b)) ∙ sym (sum-append (take passed backoffs) (b ∷ [])))
 
     -- the row that ends here, or what was kept before it
@@ -64,7 +65,7 @@ module _ (count : ℕ) (given : List ℤ) (passed : ℕ) (kept : Kept) (total ow
     now-few true = omega arith
     now-few false = omega (arith, o .kept-few)
 
-    pub now-owed : (t : Bool) → kept-now t .owed ≡ sum (take (kept-now t .count) (set backoffs passed b))
+    pub now-owed : (t : Bool) → Owes (kept-now t .count) (kept-now t .owed) (set backoffs passed b)
     now-owed true = taken
     now-owed false = o .kept-owed ∙ ap sum (sym (take-set-le (kept .count) backoffs passed b (o .kept-few)))
 

@@ -25,7 +25,7 @@ use Rattle.double_array.specs.declared.Child.the-variants.{At, Nothing}
 use Rattle.double_array.proofs.DoubleArray.{root-sound, look-here, look-down, look-broken}
 use Rattle.score.specs.declared.Kept.{Kept}
 use Rattle.score.specs.Meaning.{rowsIn}
-use Rattle.score.specs.Inner.{longestLive, meetsBroken, Read}
+use Rattle.score.specs.Inner.{Owes, longestLive, meetsBroken, Read}
 use Rattle.score.proofs.Rows.{here-listed, here-probability, here-backoff, here-live, absent-unlisted, broken-unlisted, listed-sound}
 
 -- where the walk passes j words, it would go on at the next
@@ -135,7 +135,7 @@ module _ (base check : List ℤ) (v : ℕ) (ws : List ℕ) where
         }
 
         -- it ends here where the node at which it would go on is none, or there are no more words; `left` are the state's back-offs
-        module _ (left : List ℤ) (five : length backoffs ≡ 5) (inside : passed < 5) (owed : noted .owed ≡ sum (take (noted .count) (set backoffs passed b))) where
+        module _ (left : List ℤ) (five : length backoffs ≡ 5) (inside : passed < 5) (owed : Owes (noted .count) (noted .owed) (set backoffs passed b)) where
           ended : passed ≤ length ws → (passed ≡ length ws) ⊎ (listed (rowsIn base check) (v ∷ take (suc passed) ws) ≡ false) → isBroken (storeIn base check .look (v ∷ take (suc passed) ws)) ≡ false → Read (storeIn base check) (record { words = ws; backoffs = left }) v (p +ℤ sum (drop passed left)) passed noted (set backoffs passed b)
           unfolding pointsFrom
           ended h o n =

@@ -62,12 +62,16 @@ packedAs s = record { count = natAbs (s .count); words = key (map natAbs (s .wor
 abbrev pub heldIn : Packed → List ℤ → Carried
 heldIn c backoffs = record { words = take (c .count) (digits 4 (c .words)); backoffs = take (c .count) backoffs }
 
+-- the sum of the first `count` back-offs of a lent array is owed
+abbrev pub Owes : ℕ → ℤ → List ℤ → Type 0
+Owes count owed backoffs = owed ≡ sum (take count backoffs)
+
 -- what holds of it where the order is n
 pub record Carries (n : ℕ) (c : Packed) (backoffs : List ℤ) : Type 0 where
   pub five : length backoffs ≡ 5
   pub few : c .count ≤ n - 1
   pub in-backoffs : all (map inBackoff (take (c .count) backoffs)) ≡ true
-  pub owed : c .owed ≡ sum (take (c .count) backoffs)
+  pub owed : Owes (c .count) (c .owed) backoffs
 
 -- the longest live row of fewer than n words: `kept` so far, and now a row with b and f has been read
 abbrev pub longestLive : Kept → Kept → ℕ → ℤ → Bool → Kept
@@ -83,7 +87,7 @@ pub record Read (S : Store) (s : Carried) (v : ℕ) (points : ℤ) (passed : ℕ
   pub passed-is : passed ≡ walk (modelIn S) v (s .words)
   pub points-are : points ≡ pointsFrom (modelIn S) s v
   pub kept-is : kept .count ≡ liveLength (modelIn S) (min (reach (modelIn S)) (suc passed)) (v ∷ s .words)
-  pub owed : kept .owed ≡ sum (take (kept .count) backoffs)
+  pub owed : Owes (kept .count) (kept .owed) backoffs
   pub five : length backoffs ≡ 5
   pub read : take (suc passed) backoffs ≡ backoffsOf (modelIn S) (suc passed) (v ∷ s .words)
 
