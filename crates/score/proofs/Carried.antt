@@ -12,22 +12,21 @@ use lib.Signed.{leZ, ltZ, _≤ℤ_}
 use lib.Dec.{ltb}
 use native.Mathlib.Decide.{decLe}
 use borrow.Author.Tests.{lt-ltb, le-ltb}
-use Rattle.integer.specs.Integer.{eqZ, between}
+use Rattle.integer.specs.Integer.{between, sum}
 use Rattle.integer.proofs.Arithmetic.{zarith, abs}
-use Rattle.integer.proofs.Ranges.{and-left, and-right, between-low, between-high, between-rest, between-yes}
+use Rattle.integer.proofs.Ranges.{between-rest, between-yes}
 use Rattle.backoff.specs.Limits.{wordLimit, orderLimit}
 use Rattle.backoff.specs.Words.{key}
 use Rattle.backoff.specs.Model.{inBackoff}
 use Rattle.backoff.specs.State.{empty}
 use Rattle.backoff.specs.NineNumbers.{all, nineZeros, countOf, stateIn, stateOk}
 use Rattle.backoff.proofs.Rule.{take-map}
-use Rattle.backoff.proofs.NineNumbers.{Bounded}
+use Rattle.backoff.proofs.NineNumbers.{Bounded, count-is, stateOk-bounded, four-in-backoff, four-in-words, four-sum}
 use Rattle.score.specs.declared.State.{State}
 use Rattle.score.specs.declared.Packed.{Packed}
 use Rattle.score.specs.Answers.{numbersOf}
 use Rattle.score.specs.Inner.{partOk, digits, packedAs, heldIn, Carries}
 use Rattle.score.proofs.Digits.{length-digits, digits-key}
-use Rattle.score.proofs.Parts.{sum-used, all-used}
 
 -- a state's two arrays have four items each
 pub record Four (s : State) : Type 0 where
@@ -39,6 +38,15 @@ module _ (s : State) (four : Four s) where
   unfolding numbersOf
   length-numbers = omega (arith, length-append (s .words) (s .backoffs))
 
+  -- the words and the back-offs among the nine
+  words-among : take 4 (drop 1 (numbersOf s)) ≡ s .words
+  unfolding numbersOf
+  words-among = take-at (s .words) (s .backoffs) 4 (four .words)
+
+  backoffs-among : take 4 (drop 5 (numbersOf s)) ≡ s .backoffs
+  unfolding numbersOf
+  backoffs-among = ap (take 4) (drop-at (s .words) (s .backoffs) 4 (four .words)) ∙ take-all 4 (s .backoffs) (omega arith)
+
   five-tests : (a b c d e : Bool) → all (a ∷ b ∷ c ∷ d ∷ e ∷ []) ≡ (a && ((b && c) && (d && e)))
   unfolding all
   five-tests a b c d e = simp (and-assoc, and-true)
@@ -46,7 +54,7 @@ module _ (s : State) (four : Four s) where
   -- check 16: the count, the words, the back-offs
   pub stateOk-parts : (n : ℕ) → stateOk n (numbersOf s) ≡ (between (pos 0) (pos (n - 1)) (s .count) && (partOk (between (pos 1) (pos wordLimit)) (natAbs (s .count)) (s .words) && partOk inBackoff (natAbs (s .count)) (s .backoffs)))
   unfolding stateOk numbersOf countOf partOk
-  stateOk-parts n = rw (take-at (s .words) (s .backoffs) 4 (four .words), drop-at (s .words) (s .backoffs) 4 (four .words), take-all 4 (s .backoffs) (omega arith)) (five-tests _ _ _ _ _)
+  stateOk-parts n = rw (words-among, backoffs-among) (five-tests _ _ _ _ _)
 
 -- the code's test of a count that is not negative
 pub between-count : (n : ℕ) (z : ℤ) → pos 0 ≤ℤ z → 1 ≤ n → between (pos 0) (pos (n - 1)) z ≡ ltb (natAbs z) n
@@ -64,50 +72,32 @@ module _ (n : ℕ) (s : State) (four : Four s) (o : n ≤ orderLimit) (ok : stat
   abbrev count : ℕ
   count = natAbs (s .count)
 
-  parts : (between (pos 0) (pos (n - 1)) (s .count) && (partOk (between (pos 1) (pos wordLimit)) count (s .words) && partOk inBackoff count (s .backoffs))) ≡ true
-  parts = sym (stateOk-parts s four n) ∙ ok
-
-  words-ok : partOk (between (pos 1) (pos wordLimit)) count (s .words) ≡ true
-  words-ok = and-left _ (partOk inBackoff count (s .backoffs)) (and-right (between (pos 0) (pos (n - 1)) (s .count)) _ parts)
-
-  backoffs-ok : partOk inBackoff count (s .backoffs) ≡ true
-  backoffs-ok = and-right (partOk (between (pos 1) (pos wordLimit)) count (s .words)) _ (and-right (between (pos 0) (pos (n - 1)) (s .count)) _ parts)
+  counted : (s .count ≡ pos count) × (count ≤ n - 1)
+  unfolding numbersOf countOf
+  counted = count-is n (numbersOf s) (length-numbers s four) o ok
 
   pub count-low : pos 0 ≤ℤ s .count
-  count-low = between-low (pos 0) (pos (n - 1)) (s .count) (and-left _ (partOk (between (pos 1) (pos wordLimit)) count (s .words) && partOk inBackoff count (s .backoffs)) parts)
-
-  count-high : count ≤ n - 1
-  count-high =
-      let h = between-high (pos 0) (pos (n - 1)) (s .count) (and-left _ (partOk (between (pos 1) (pos wordLimit)) count (s .words) && partOk inBackoff count (s .backoffs)) parts) in
-      let l = count-low in
-      omega (zarith, abs (s .count))
+  count-low = omega (zarith, counted)
 
   held-words : stateIn (numbersOf s) .words ≡ map natAbs (take count (s .words))
   unfolding stateIn numbersOf countOf
-  held-words = ap (map natAbs) (take-append-le count (s .words) (s .backoffs) (omega (arith, count-high, four .words)))
+  held-words = ap (map natAbs) (take-append-le count (s .words) (s .backoffs) (omega (arith, counted, four .words)))
 
   held-backoffs : stateIn (numbersOf s) .backoffs ≡ take count (s .backoffs)
   unfolding stateIn numbersOf countOf
   held-backoffs = ap (take count) (drop-at (s .words) (s .backoffs) 4 (four .words))
 
-  -- each back-off is in range, the unused ones too
   pub all-in-backoff : all (map inBackoff (s .backoffs)) ≡ true
-  all-in-backoff = all-used inBackoff inBackoff (λ x e. e) (unfold inBackoff between in refl) count (s .backoffs) backoffs-ok
+  all-in-backoff = ap (λ (l : List ℤ). all (map inBackoff l)) (sym (backoffs-among s four)) ∙ four-in-backoff n (numbersOf s) (length-numbers s four) o ok
 
-  -- and each word is one or 0
   pub all-in-words : all (map (between (pos 0) (pos wordLimit)) (s .words)) ≡ true
-  all-in-words = all-used (between (pos 1) (pos wordLimit)) (between (pos 0) (pos wordLimit)) wider (unfold between in refl) count (s .words) words-ok
-    where
-      wider : (x : ℤ) → between (pos 1) (pos wordLimit) x ≡ true → between (pos 0) (pos wordLimit) x ≡ true
-      wider x e =
-          let l = between-low (pos 1) (pos wordLimit) x e in
-          between-yes (pos 0) (pos wordLimit) x (omega zarith) (between-high (pos 1) (pos wordLimit) x e)
+  all-in-words = ap (λ (l : List ℤ). all (map (between (pos 0) (pos wordLimit)) l)) (sym (words-among s four)) ∙ four-in-words n (numbersOf s) (length-numbers s four) o ok
 
   abbrev lent : List ℤ
   lent = s .backoffs ++ (pos 0 ∷ [])
 
   lent-used : take count lent ≡ take count (s .backoffs)
-  lent-used = take-append-le count (s .backoffs) (pos 0 ∷ []) (omega (arith, count-high, four .backoffs))
+  lent-used = take-append-le count (s .backoffs) (pos 0 ∷ []) (omega (arith, counted, four .backoffs))
 
   -- packed and lent, it is the same state
   pub packed-held : heldIn (packedAs s) lent ≡ stateIn (numbersOf s)
@@ -120,12 +110,11 @@ module _ (n : ℕ) (s : State) (four : Four s) (o : n ≤ orderLimit) (ok : stat
           ∙ sym held-words
 
   pub packed-carries : Carries n (packedAs s) lent
-  unfolding partOk
   packed-carries = record {
     five = omega (arith, length-append (s .backoffs) (pos 0 ∷ []), four .backoffs);
-    few = count-high;
-    in-backoffs = rw lent-used (and-left _ (all (map (eqZ (pos 0)) (drop count (s .backoffs)))) backoffs-ok);
-    owed = rw lent-used (sym (sum-used count (s .backoffs) (and-right (all (map inBackoff (take count (s .backoffs)))) _ backoffs-ok)));
+    few = counted .1;
+    in-backoffs = rw (lent-used, ← held-backoffs) (stateOk-bounded n (numbersOf s) (length-numbers s four) o ok .in-backoffs);
+    owed = ap sum (sym (backoffs-among s four)) ∙ four-sum n (numbersOf s) (length-numbers s four) o ok ∙ ap sum (held-backoffs ∙ sym lent-used);
   }
 
 -- a state that is carried is no larger than one that check 16 lets pass

@@ -1,6 +1,6 @@
 -- One part of a state, its four words or its four back-offs, as the loops over it have it: the part's check, and a part cut after its first items.
 -- Assumes nothing.
-use mathlib.Core.Path.{_≡_, refl, sym, ap, _∙_}
+use mathlib.Core.Path.{_≡_, refl, ap}
 use mathlib.Core.Bool.{Bool, true, false, _&&_, and-assoc}
 use mathlib.Core.List.{List, [], _∷_, map}
 use Prim.Native.Nat.{ℕ, zero, suc, _+_, _-_, _≤_, _<_}
@@ -9,10 +9,9 @@ use native.Mathlib.Numerals.{add-one}
 use native.Mathlib.Omega.{arith}
 use lib.ListN.{length, take, drop, getD, set, drop-of-length-le}
 use lib.Seq.{drop-cons}
-use lib.IntN.{ℤ, pos, _+ℤ_}
-use Rattle.integer.specs.Integer.{eqZ, sum}
+use lib.IntN.{ℤ, pos}
+use Rattle.integer.specs.Integer.{eqZ}
 use Rattle.integer.proofs.Arithmetic.{zarith}
-use Rattle.integer.proofs.Ranges.{and-left, and-right}
 use Rattle.backoff.specs.NineNumbers.{all, padded}
 use Rattle.score.specs.Inner.{partOk}
 
@@ -101,32 +100,3 @@ first-four (a ∷ []) h = absurd (omega arith)
 first-four (a ∷ b ∷ []) h = absurd (omega arith)
 first-four (a ∷ b ∷ c ∷ []) h = absurd (omega arith)
 first-four (a ∷ b ∷ c ∷ d ∷ xs) h = refl
-
--- ---- a part whose items from the c-th on are 0
-
-zeros-sum : (xs : List ℤ) → all (map (eqZ (pos 0)) xs) ≡ true → sum xs ≡ pos 0
-unfolding all
-zeros-sum [] e = refl
-zeros-sum (x ∷ xs) e =
-    let z = and-left (eqZ (pos 0) x) (all (map (eqZ (pos 0)) xs)) e in
-    let f : x ≡ pos 0 = omega zarith in
-    rw (f, zeros-sum xs (and-right (eqZ (pos 0) x) (all (map (eqZ (pos 0)) xs)) e))
-
--- adds up to what its first c items do
-pub sum-used : (c : ℕ) (xs : List ℤ) → all (map (eqZ (pos 0)) (drop c xs)) ≡ true → sum (take c xs) ≡ sum xs
-sum-used zero xs e = sym (zeros-sum xs e)
-sum-used (suc c) [] e = refl
-sum-used (suc c) (x ∷ xs) e = ap (λ (z : ℤ). x +ℤ z) (sum-used c xs e)
-
--- and passes a test that 0 passes and its first c items do
-pub all-used : (P Q : ℤ → Bool) → ((x : ℤ) → P x ≡ true → Q x ≡ true) → Q (pos 0) ≡ true → (c : ℕ) (xs : List ℤ) → partOk P c xs ≡ true → all (map Q xs) ≡ true
-unfolding all
-all-used P Q f z c [] e = refl
-all-used P Q f z zero (x ∷ xs) e =
-    let q = part-unused P x xs in
-    let u = and-left (eqZ (pos 0) x) (partOk P 0 xs) (sym q ∙ e) in
-    let g : x ≡ pos 0 = omega zarith in
-    rw (g, z) (all-used P Q f z zero xs (and-right (eqZ (pos 0) x) (partOk P 0 xs) (sym q ∙ e)))
-all-used P Q f z (suc c) (x ∷ xs) e =
-    let q = sym (part-used P c x xs) ∙ e in
-    rw (f x (and-left (P x) (partOk P c xs) q)) (all-used P Q f z c xs (and-right (P x) (partOk P c xs) q))
