@@ -7,6 +7,7 @@ use native.Mathlib.Omega.{arith}
 use native.Mathlib.Numerals.{add-one}
 use lib.ListN.{length, take, drop, getD, set, length-append, length-set, drop-of-length-le}
 use lib.Seq.{drop-cons, length-take-le, take-suc-set, append-snoc}
+use Rattle.bytes.specs.Bytes.{indexOf}
 use Rattle.backoff.specs.Refusal.{textLine}
 use Rattle.backoff.specs.Model.{Model}
 use Rattle.totals_text.specs.Lines.{isTextLine, textWords, refusedLine}
@@ -57,7 +58,7 @@ module _ {M : Model} {piece : List ℕ} {number₀ count₀ : ℕ} {line₀ line
 
     module _ (e : getD piece i 0 ≡ 10) {r : Printed} {out′ : List ℕ} (P : PrintedAs M number begun r (take written out) (written + r .length) out′) where
       pub feeding-line : isTextLine begun ≡ true → length out′ ≡ length out → Feeding M piece number₀ count₀ line₀ line out′ (number + 1) 0 (written + r .length) (i + 1)
-      unfolding lineEnd
+      unfolding indexOf
       feeding-line t l = record {
         within = omega arith;
         buffer = F .buffer;

@@ -2,13 +2,12 @@
 use mathlib.Core.Path.{_≡_, refl, ap, _∙_}
 use mathlib.Core.Bool.{Bool, true, false}
 use mathlib.Core.List.{List, [], _∷_, _++_}
-use Prim.Native.Nat.{ℕ, suc, _+_, _≤_, _<_}
+use Prim.Native.Nat.{ℕ, suc, _≤_, _<_}
 use native.Mathlib.Omega.{arith}
-use native.Mathlib.Numerals.{add-one}
-use borrow.Author.Tests.{eq-eqb, ne-eqb, lt-leb}
+use borrow.Author.Tests.{ne-eqb, lt-leb}
 use lib.Dec.{eqb}
-use lib.ListN.{length, take, drop, getD, drop-of-length-le}
-use lib.Seq.{drop-cons}
+use lib.ListN.{length, take, drop}
+use Rattle.bytes.specs.Bytes.{indexOf, indexAfter}
 use Rattle.backoff.specs.Refusal.{textLine}
 use Rattle.backoff.specs.Model.{Model}
 use Rattle.totals_text.specs.Lines.{isTextLine, refusedLine}
@@ -17,20 +16,8 @@ use Rattle.totals.specs.Steps.{lineEnd, finished}
 
 -- ---- where a line ends
 
-pub end-here : (text : List ℕ) (i : ℕ) → i < length text → getD text i 0 ≡ 10 → lineEnd (drop i text) ≡ 0
-unfolding lineEnd
-end-here text i h e = rw (drop-cons text i 0 h, eq-eqb (getD text i 0) 10 e) refl
-
-pub end-later : (text : List ℕ) (i : ℕ) → i < length text → (getD text i 0 ≡ 10 → ⊥) → lineEnd (drop i text) ≡ suc (lineEnd (drop (i + 1) text))
-unfolding lineEnd
-end-later text i h n = rw (add-one, drop-cons text i 0 h, ne-eqb (getD text i 0) 10 n) refl
-
-pub end-none : (text : List ℕ) (i : ℕ) → length text ≤ i → lineEnd (drop i text) ≡ 0
-unfolding lineEnd
-end-none text i h = rw (drop-of-length-le text h) refl
-
 pub lineEnd-le : (text : List ℕ) → lineEnd text ≤ length text
-unfolding lineEnd
+unfolding indexOf indexAfter
 lineEnd-le [] = omega arith
 lineEnd-le (c ∷ text) = go (lineEnd-le text) (eqb c 10) refl
   where
@@ -41,7 +28,7 @@ lineEnd-le (c ∷ text) = go (lineEnd-le text) (eqb c 10) refl
 -- ---- the first line
 
 pub line-ended : (text : List ℕ) → lineEnd text < length text → linesOf text ≡ ended (take (lineEnd text) text) ∷ linesOf (drop (suc (lineEnd text)) text)
-unfolding lineEnd linesOf
+unfolding indexOf indexAfter linesOf
 line-ended [] h = absurd (omega arith)
 line-ended (c ∷ text) h = go (line-ended text) (eqb c 10) refl
   where
@@ -50,7 +37,7 @@ line-ended (c ∷ text) h = go (line-ended text) (eqb c 10) refl
     go ih false e = let k : suc (lineEnd text) < suc (length text) = rw e at h in rw e (ap (longer c) (ih (omega arith)) ∙ (unfold longer in refl))
 
 pub line-unended : (text : List ℕ) → lineEnd text ≡ length text → 0 < length text → linesOf text ≡ unended text ∷ []
-unfolding lineEnd linesOf
+unfolding indexOf indexAfter linesOf
 line-unended [] e h = absurd (omega arith)
 line-unended (c ∷ []) e h = go (eqb c 10) refl
   where
@@ -67,7 +54,7 @@ line-unended (c ∷ d ∷ text) e h = go (line-unended (d ∷ text)) (eqb c 10) 
 
 -- its characters without the first
 begun-rest : (c : ℕ) (l : List ℕ) → lineEnd (c ∷ l) ≡ suc (length l) → (eqb c 10 ≡ false) × (lineEnd l ≡ length l)
-unfolding lineEnd
+unfolding indexOf indexAfter
 begun-rest c l e = go (eqb c 10) refl
   where
     go : (b : Bool) → eqb c 10 ≡ b → (eqb c 10 ≡ false) × (lineEnd l ≡ length l)
@@ -75,7 +62,7 @@ begun-rest c l e = go (eqb c 10) refl
     go false q = let k : suc (lineEnd l) ≡ suc (length l) = rw q at e in (q, omega arith)
 
 pub begun-more : (l : List ℕ) (c : ℕ) → lineEnd l ≡ length l → (c ≡ 10 → ⊥) → lineEnd (l ++ (c ∷ [])) ≡ suc (length l)
-unfolding lineEnd
+unfolding indexOf indexAfter
 begun-more [] c e n = rw (ne-eqb c 10 n) refl
 begun-more (d ∷ l) c e n = let k = begun-rest d l e in rw (k .0) (ap suc (begun-more l c (k .1) n))
 

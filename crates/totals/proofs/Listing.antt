@@ -10,8 +10,8 @@ use lib.Dec.{leb}
 use lib.IntN.{ℤ}
 use lib.ListN.{length, take, drop, length-drop, drop-of-length-le}
 use lib.Seq.{paste, take-paste, take-all, length-paste, drop-drop}
+use Rattle.bytes.specs.Bytes.{slice}
 use Rattle.totals_text.specs.Lines.{isListLine, listRow}
-use Rattle.totals_text.proofs.Scans.{rest-is}
 use Rattle.totals_text.proofs.Lines.{list-line-length}
 use Rattle.totals.specs.Totals.{Line, ListText, ended, linesOf, rows, notInForm, behind, readList}
 use Rattle.totals.specs.declared.ListText.{ListText as Read}
@@ -60,35 +60,36 @@ read-good k l ls e = rw e (go (leb k 512))
     go false = refl
 
 -- the line that begins here; `end` is where the code found its end
-module _ (text : List ℕ) (table : List ℤ) (at i end : ℕ) (R : Reading text table at i) (more : at < length text) (e : end ≡ lineEnd (take (length text - at) (drop at text))) where
+module _ (text : List ℕ) (table : List ℤ) (at i end : ℕ) (R : Reading text table at i) (more : at < length text) (e : end ≡ at + lineEnd (slice at (length text) text)) where
   abbrev here : List ℕ
   here = drop at text
 
   long : length here ≡ length text - at
   long = length-drop at text
 
-  end-is : end ≡ lineEnd here
-  end-is = e ∙ ap lineEnd (rest-is text at)
+  end-is : end ≡ at + lineEnd here
+  unfolding slice
+  end-is = e ∙ ap (λ (l : List ℕ). at + lineEnd (drop at l)) (take-all (length text) text (omega arith))
 
-  pub end-within : at + end ≤ length text
+  end-within : end ≤ length text
   end-within = omega (arith, end-is, long, lineEnd-le here)
 
   refuses : rest text at i ≡ notInForm (i + 1) → readList 1 (linesOf text) ≡ notInForm (i + 1)
   refuses q = R .list ∙ rw q refl
 
-  pub reading-unended : at + end ≡ length text → readList 1 (linesOf text) ≡ notInForm (i + 1)
+  pub reading-unended : end ≡ length text → readList 1 (linesOf text) ≡ notInForm (i + 1)
   unfolding rest readList
   reading-unended q = refuses (rw (line-unended here (omega (arith, end-is, long)) (omega (arith, long)), add-one) refl)
 
   -- the line as the code lends it
   abbrev given : List ℕ
-  given = take (at + end - at) (drop at text)
+  given = take (end - at) (drop at text)
 
-  module _ (ends : at + end ≡ length text → ⊥) where
-    first : linesOf here ≡ ended given ∷ linesOf (drop (suc end) here)
+  module _ (ends : end ≡ length text → ⊥) where
+    first : linesOf here ≡ ended given ∷ linesOf (drop (suc (end - at)) here)
     first =
-        let n : at + end - at ≡ end = omega arith in
-        rw (n, end-is) (line-ended here (omega (arith, lt-of-le-of-ne end-within ends, end-is, long)))
+        let n : end - at ≡ lineEnd here = omega (arith, end-is) in
+        rw n (line-ended here (omega (arith, lt-of-le-of-ne end-within ends, end-is, long)))
 
     pub reading-last : i ≡ 512 → readList 1 (linesOf text) ≡ notInForm (i + 1)
     unfolding rest readList
@@ -105,27 +106,27 @@ module _ (text : List ℕ) (table : List ℤ) (at i end : ℕ) (R : Reading text
       below : i < 512
       below = lt-of-le-of-ne (R .few) few
 
-      next-rest : rest text at i ≡ behind (listRow given) (rest text (at + end + 1) (i + 1))
+      next-rest : rest text at i ≡ behind (listRow given) (rest text (end + 1) (i + 1))
       unfolding rest readList
       next-rest =
-          let q : at + suc end ≡ at + end + 1 = omega arith in
-          rw (first, le-leb (suc i) 512 below, good, drop-drop (suc end) at text, q, add-one i) refl
+          let q : at + suc (end - at) ≡ end + 1 = omega (arith, end-is) in
+          rw (first, le-leb (suc i) 512 below, good, drop-drop (suc (end - at)) at text, q, add-one i) refl
 
       next-rows : take (8 * (i + 1)) after ≡ take (8 * i) table ++ listRow given
       next-rows =
           let q : 8 * (i + 1) ≡ 8 * i + 8 = omega arith in
           rw q (take-paste table (8 * i) (listRow given) 8 (omega (arith, R .size, below)) (omega (arith, list-line-length given)) ∙ ap (λ (l : List ℤ). take (8 * i) table ++ l) (take-all 8 (listRow given) (omega (arith, list-line-length given))))
 
-      reading-after : Reading text after (at + end + 1) (i + 1)
+      reading-after : Reading text after (end + 1) (i + 1)
       reading-after = record {
         within = omega (arith, lt-of-le-of-ne end-within ends);
         few = omega (arith, below);
         size = length-paste table (8 * i) (listRow given) 8 (omega (arith, R .size, below)) (omega (arith, list-line-length given)) ∙ R .size;
-        list = R .list ∙ ap (behind (take (8 * i) table)) next-rest ∙ behind-behind (take (8 * i) table) (listRow given) (rest text (at + end + 1) (i + 1)) ∙ ap (λ (t : List ℤ). behind t (rest text (at + end + 1) (i + 1))) (sym next-rows);
+        list = R .list ∙ ap (behind (take (8 * i) table)) next-rest ∙ behind-behind (take (8 * i) table) (listRow given) (rest text (end + 1) (i + 1)) ∙ ap (λ (t : List ℤ). behind t (rest text (end + 1) (i + 1))) (sym next-rows);
       }
 
-      pub reading-next : {left : List ℤ} → left ≡ cond (isListLine given) after table → Reading text left (at + end + 1) (i + 1)
-      reading-next q = subst (λ (t : List ℤ). Reading text t (at + end + 1) (i + 1)) (sym (q ∙ rw good refl)) reading-after
+      pub reading-next : {left : List ℤ} → left ≡ cond (isListLine given) after table → Reading text left (end + 1) (i + 1)
+      reading-next q = subst (λ (t : List ℤ). Reading text t (end + 1) (i + 1)) (sym (q ∙ rw good refl)) reading-after
 
 pub reading-end : (text : List ℕ) (table : List ℤ) (at i : ℕ) → Reading text table at i → length text ≤ at → readList 1 (linesOf text) ≡ rows (take (8 * i) table)
 unfolding rest linesOf readList

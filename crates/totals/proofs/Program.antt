@@ -11,6 +11,7 @@ use lib.Dec.{eqb, leb}
 use lib.IntN.{ℤ}
 use lib.ListN.{length, take, drop, length-take}
 use lib.Seq.{take-take, take-nil, length-take-le}
+use Rattle.bytes.specs.Bytes.{indexOf, indexAfter}
 use Rattle.backoff.specs.Refusal.{textLine}
 use Rattle.backoff.specs.Model.{Model}
 use Rattle.backoff.specs.Runs.{flat}
@@ -44,7 +45,7 @@ in-pieces-is (onward {text = text} {pieces = pieces} f e rest) = f .onward e (fl
 -- ---- LIST
 
 lineEnd-take : (n : ℕ) (text : List ℕ) → lineEnd (take n text) ≡ min n (lineEnd text)
-unfolding lineEnd
+unfolding indexOf indexAfter
 lineEnd-take zero text = omega arith
 lineEnd-take (suc n) [] = omega arith
 lineEnd-take (suc n) (c ∷ text) = go (lineEnd-take n text) (eqb c 10) refl

@@ -2,10 +2,11 @@
 use mathlib.Core.Path.{_≡_}
 use mathlib.Core.Bool.{true, false, cond}
 use mathlib.Core.List.{List, [], _∷_, _++_}
-use Prim.Native.Nat.{ℕ, suc, _+_, _*_, _≤_}
+use Prim.Native.Nat.{ℕ, _+_, _*_, _≤_}
 use lib.Dec.{eqb, leb}
 use lib.IntN.{ℤ}
 use lib.ListN.{length, take}
+use Rattle.bytes.specs.Bytes.{indexOf}
 use Rattle.backoff.specs.Limits.{endWord}
 use Rattle.backoff.specs.Refusal.{textLine}
 use Rattle.backoff.specs.Model.{Model}
@@ -21,9 +22,8 @@ use Rattle.totals.specs.declared.Progress.{Progress}
 use Rattle.totals.specs.Totals.{linesOf, rows, notInForm, readList, built, sentenceOutput, textOutput}
 
 -- where the first line of a text ends: at its first LF, or at the end of the text
-unfoldable pub lineEnd : List ℕ → ℕ
-lineEnd [] = 0
-lineEnd (c ∷ text) = cond (eqb c 10) 0 (suc (lineEnd text))
+abbrev pub lineEnd : List ℕ → ℕ
+lineEnd text = indexOf 10 text
 
 -- what is read of LIST, and the table that is left
 abbrev pub ReadAs : List ℕ → ListText → List ℤ → Type 0

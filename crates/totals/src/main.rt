@@ -19,7 +19,7 @@ ghost use Rattle.score.specs.Answers.{numbersOf};
 ghost use Rattle.score.specs.Meaning.{rowsIn};
 ghost use Rattle.totals_text.specs.Lines.{isListLine, listRow, isTextLine, textAnswer, sentenceLine, refusedLine};
 ghost use Rattle.totals.specs.Totals.{unknownIn};
-ghost use Rattle.totals.specs.Steps.{lineEnd, ReadAs, Closed, countUnknown, HoldsBuilt, Ready, lineOutput, PrintedAs, Begun, Fed, finished};
+ghost use Rattle.totals.specs.Steps.{ReadAs, Closed, countUnknown, HoldsBuilt, Ready, lineOutput, PrintedAs, Begun, Fed, finished};
 
 const LF: u8 = b'\n';
 
@@ -65,20 +65,6 @@ struct Progress {
     written: usize,
 }
 
-// Where the first line of a text ends: at its first LF, or at the end of the text.
-fn line_end(text: &[u8]) -> usize
-    ensures { λ r. ⌜ r ≡ lineEnd (now (text .entry)) ⌝ }
-{
-    let mut i = 0;
-    while i < text.len() {
-        if text[i] == LF {
-            return i;
-        }
-        i += 1;
-    }
-    i
-}
-
 // Puts a row into the table.
 fn store_row(row: [i32; 8], table: &mut [i32], at: usize)
     requires { ⌜ at + 8 ≤ length (now table) ⌝ }
@@ -114,7 +100,7 @@ fn read_list(text: &[u8], table: &mut [i32]) -> ListText
     let mut i = 0;
     while at < text.len() {
         let refused = ListText::NotInForm(i as u64 + 1);
-        let end = at + line_end(&text[at..]);
+        let end = bytes::scan::find(text, at, text.len(), LF);
         if end == text.len() {
             return refused;
         }

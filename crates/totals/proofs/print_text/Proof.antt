@@ -5,7 +5,8 @@ use borrow.Author.Needs.{needs}
 use Prim.Native.Nat.{_+_, _*_, _≤_}
 use mathlib.Core.Path.{refl, sym}
 use lib.ListN.{length, take}
-use Rattle.totals.specs.Steps.{lineEnd, Begun}
+use Rattle.bytes.specs.Bytes.{indexOf}
+use Rattle.totals.specs.Steps.{Begun}
 use Rattle.totals.proofs.print_text.Statement.{statement}
 use Rattle.totals.proofs.print_text.Tie as tie
 
@@ -16,7 +17,7 @@ abbrev μ-loop : tie.MeasureT-loop
 μ-loop base check start file line₀ progress₀ turns₀ line progress turns = turns
 
 loop-holds : tie.Need-loop-holds Inv-loop μ-loop
-unfolding lineEnd
+unfolding indexOf
 loop-holds c = (record { buffer = refl; room = omega arith; no-end = refl }, omega arith)
 
 slice-aggregate-read-full : tie.Need-slice-aggregate-read-full Inv-loop μ-loop

@@ -1,12 +1,10 @@
 -- `totals::read_list` meets its contract. Assumes nothing.
 use mathlib.Core.Path.{sym, _∙_}
-use Prim.Native.Nat.{_+_, _-_, _≤_}
-use native.Mathlib.Omega.{arith}
+use Prim.Native.Nat.{_-_}
 use borrow.Author.Needs.{needs}
 use borrow.Author.Tests.{not-true, not-false}
-use denote.Ref.{now}
 use lib.ListN.{length}
-use Rattle.totals.proofs.Listing.{Reading, reading-start, end-within, reading-unended, reading-last, reading-bad, reading-next, reading-end}
+use Rattle.totals.proofs.Listing.{Reading, reading-start, reading-unended, reading-last, reading-bad, reading-next, reading-end}
 use Rattle.totals.proofs.read_list.Statement.{statement}
 use Rattle.totals.proofs.read_list.Tie as tie
 
@@ -22,44 +20,26 @@ loop-holds c = reading-start (c .before .args .text .now) (c .before .args .tabl
 add-t10 : tie.Need-add-t10 Inv-loop μ-loop
 add-t10 c = search needs
 
-sub-line-end : tie.Need-sub-line-end Inv-loop μ-loop
-sub-line-end c = search needs
-
-part-line-end-start : tie.Need-part-line-end-start Inv-loop μ-loop
-part-line-end-start c = search needs
-
-part-line-end-end : tie.Need-part-line-end-end Inv-loop μ-loop
-part-line-end-end c = search needs
-
-line-end-requires : tie.Need-line-end-requires Inv-loop μ-loop
-line-end-requires c κs = search needs
-
--- the line ends in the text
-within : (c : tie.After-line-end Inv-loop μ-loop) → c .before .before .before .loop .at + c .line-end .result ≤ length (now (c .before .before .before .before .before .args .text))
-within c =
-    let l = c .before .before .before .loop in
-    end-within _ _ (l .at) (l .i) _ (l .inv) (c .before .before .loop-test .taken) (c .line-end .ensures)
-
-add-end : tie.Need-add-end Inv-loop μ-loop
-add-end c = let h = within c in omega arith
+find-requires : tie.Need-find-requires Inv-loop μ-loop
+find-requires c κs = search needs
 
 same-length : tie.Need-same-length Inv-loop μ-loop
-same-length c = c .before .before .before .before .loop .inv .size ∙ sym (c .before .before .before .before .before .before .pre)
+same-length c = c .before .before .before .loop .inv .size ∙ sym (c .before .before .before .before .before .pre)
 
 returns : tie.Need-returns Inv-loop μ-loop
 returns c =
     let r = c .before in
-    let l = r .before .before .before .loop in
-    reading-unended _ _ (l .at) (l .i) _ (l .inv) (r .before .before .loop-test .taken) (r .line-end .ensures) (c .if1 .taken)
+    let l = r .before .before .loop in
+    reading-unended _ _ (l .at) (l .i) _ (l .inv) (r .before .loop-test .taken) (r .find .ensures .0) (c .if1 .taken)
 
 same-length-2 : tie.Need-same-length-2 Inv-loop μ-loop
-same-length-2 c = c .before .before .before .before .before .loop .inv .size ∙ sym (c .before .before .before .before .before .before .before .pre)
+same-length-2 c = c .before .before .before .before .loop .inv .size ∙ sym (c .before .before .before .before .before .before .pre)
 
 returns-2 : tie.Need-returns-2 Inv-loop μ-loop
 returns-2 c =
     let r = c .before .before in
-    let l = r .before .before .before .loop in
-    reading-last _ _ (l .at) (l .i) _ (l .inv) (r .before .before .loop-test .taken) (r .line-end .ensures) (c .before .if1 .left) (c .if2 .taken)
+    let l = r .before .before .loop in
+    reading-last _ _ (l .at) (l .i) _ (l .inv) (r .before .loop-test .taken) (r .find .ensures .0) (c .before .if1 .left) (c .if2 .taken)
 
 sub-read-row : tie.Need-sub-read-row Inv-loop μ-loop
 sub-read-row c = search needs
@@ -68,7 +48,7 @@ part-read-row-start : tie.Need-part-read-row-start Inv-loop μ-loop
 part-read-row-start c = search needs
 
 part-read-row-end : tie.Need-part-read-row-end Inv-loop μ-loop
-part-read-row-end c = let h = within (c .before .before) in omega arith
+part-read-row-end c = search needs
 
 mul-read-row : tie.Need-mul-read-row Inv-loop μ-loop
 mul-read-row c = search needs
@@ -77,16 +57,16 @@ read-row-requires : tie.Need-read-row-requires Inv-loop μ-loop
 read-row-requires c κs = search needs
 
 same-length-3 : tie.Need-same-length-3 Inv-loop μ-loop
-same-length-3 c = c .before .before .read-row .kept .1 .0 ∙ c .before .before .before .before .before .before .before .before .before .before .loop .inv .size ∙ sym (c .before .before .before .before .before .before .before .before .before .before .before .before .pre)
+same-length-3 c = c .before .before .read-row .kept .1 .0 ∙ c .before .before .before .before .before .before .before .before .before .loop .inv .size ∙ sym (c .before .before .before .before .before .before .before .before .before .before .before .pre)
 
 returns-3 : tie.Need-returns-3 Inv-loop μ-loop
 returns-3 c =
     let r = c .before .before .before .before .before .before .before in
-    let l = r .before .before .before .loop in
-    reading-bad _ _ (l .at) (l .i) _ (l .inv) (r .before .before .loop-test .taken) (r .line-end .ensures) (c .before .before .before .before .before .before .if1 .left) (sym (c .before .before .read-row .ensures .0) ∙ not-true _ (c .if3 .taken))
+    let l = r .before .before .loop in
+    reading-bad _ _ (l .at) (l .i) _ (l .inv) (r .before .loop-test .taken) (r .find .ensures .0) (c .before .before .before .before .before .before .if1 .left) (sym (c .before .before .read-row .ensures .0) ∙ not-true _ (c .if3 .taken))
 
 add-at : tie.Need-add-at Inv-loop μ-loop
-add-at c = let h = within (c .before .before .before .before .before .before .before) in omega arith
+add-at c = search needs
 
 add-i : tie.Need-add-i Inv-loop μ-loop
 add-i c = search needs
@@ -97,9 +77,9 @@ loop-less c = search needs
 loop-again : tie.Need-loop-again Inv-loop μ-loop
 loop-again c =
     let r = c .before .before .before .before .before .before .before in
-    let l = r .before .before .before .loop in
+    let l = r .before .before .loop in
     let row = c .before .before .read-row .ensures in
-    reading-next _ _ (l .at) (l .i) _ (l .inv) (r .before .before .loop-test .taken) (r .line-end .ensures) (c .before .before .before .before .before .before .if1 .left) (c .before .before .before .before .before .if2 .left) (sym (row .0) ∙ not-false _ (c .if3 .left)) (row .1)
+    reading-next _ _ (l .at) (l .i) _ (l .inv) (r .before .loop-test .taken) (r .find .ensures .0) (c .before .before .before .before .before .before .if1 .left) (c .before .before .before .before .before .if2 .left) (sym (row .0) ∙ not-false _ (c .if3 .left)) (row .1)
 
 same-length-4 : tie.Need-same-length-4 Inv-loop μ-loop
 same-length-4 c = c .before .loop .inv .size ∙ sym (c .before .before .before .pre)
@@ -117,11 +97,7 @@ read-list-spec =
     μ-loop
     loop-holds
     add-t10
-    sub-line-end
-    part-line-end-start
-    part-line-end-end
-    line-end-requires
-    add-end
+    find-requires
     same-length
     returns
     same-length-2
