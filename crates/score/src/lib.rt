@@ -369,10 +369,11 @@ fn key_of(words: [i32; 4]) -> u64
     requires { ⌜ all (map (between (pos 0) (pos wordLimit)) words) ≡ true ⌝ }
     ensures { λ r. ⌜ r ≡ key (map natAbs words) ⌝ }
 {
-    words[0] as u64
-        + backoff::RADIX
-            * (words[1] as u64
-                + backoff::RADIX * (words[2] as u64 + backoff::RADIX * words[3] as u64))
+    let a = words[0] as u64;
+    let b = words[1] as u64;
+    let c = words[2] as u64;
+    let d = words[3] as u64;
+    backoff::key_of_four(a, b, c, d)
 }
 
 // A state's back-offs in an array to be lent, with room for one more.

@@ -2,7 +2,7 @@
 use mathlib.Core.Path.{_≡_, sym, ap, _∙_}
 use mathlib.Core.Bool.{true}
 use mathlib.Core.List.{List, [], _∷_, map}
-use Prim.Native.Nat.{ℕ, _≤_}
+use Prim.Native.Nat.{ℕ, _<_}
 use native.Mathlib.Omega.{arith}
 use borrow.Author.Needs.{needs, sfits-of}
 use lib.ListN.{length, getD, List·getD-map}
@@ -15,124 +15,91 @@ use Rattle.integer.specs.Integer.{between}
 use Rattle.integer.proofs.Arithmetic.{zarith, abs}
 use Rattle.integer.proofs.Ranges.{between-low, between-high, between-cast}
 use Rattle.backoff.specs.Limits.{wordLimit}
-use Rattle.backoff.specs.Words.{key}
+use Rattle.backoff.specs.Words.{radix, key}
 use Rattle.backoff.proofs.NineNumbers.{passed}
 use Rattle.score.proofs.Parts.{first-four}
 use Rattle.score.proofs.key_of.Statement.{statement}
 use Rattle.score.proofs.key_of.Tie as tie
 
-in-words : (s : tie.Start) (i : ℕ) → between (pos 0) (pos wordLimit) (getD (s .args .t1) i (pos 0)) ≡ true
+abbrev word : tie.Start → ℕ → ℤ
+word s i = getD (s .args .t1) i (pos 0)
+
+in-words : (s : tie.Start) (i : ℕ) → between (pos 0) (pos wordLimit) (word s i) ≡ true
 unfolding between
 in-words s i = sym (List·getD-map (between (pos 0) (pos wordLimit)) (s .args .t1) i (pos 0)) ∙ passed (map (between (pos 0) (pos wordLimit)) (s .args .t1)) i (s .pre)
 
 -- a word as it was read
-word-is : (s : tie.Start) (i : ℕ) → SFits w32 (getD (s .args .t1) i (pos 0)) → natAbs (toZ w32 (ofZ w32 (getD (s .args .t1) i (pos 0)))) ≡ natAbs (getD (s .args .t1) i (pos 0))
-word-is s i f = ap natAbs (toZ-ofZ f)
+read : (s : tie.Start) (i : ℕ) → SFits w32 (word s i) → natAbs (toZ w32 (ofZ w32 (word s i))) ≡ natAbs (word s i)
+read s i f = ap natAbs (toZ-ofZ f)
 
-word-high : (s : tie.Start) (i : ℕ) → natAbs (getD (s .args .t1) i (pos 0)) ≤ wordLimit
-word-high s i =
-    let z = getD (s .args .t1) i (pos 0) in
+word-low : (s : tie.Start) (i : ℕ) → natAbs (word s i) < radix
+word-low s i =
+    let z = word s i in
     let l = between-low (pos 0) (pos wordLimit) z (in-words s i) in
     let u = between-high (pos 0) (pos wordLimit) z (in-words s i) in
     omega (zarith, abs z)
 
-array-copy-out-result : tie.Need-array-copy-out-result
-array-copy-out-result c = search needs
+array-copy-out-a : tie.Need-array-copy-out-a
+array-copy-out-a c = search needs
 
-first-fits : (c : tie.After-result) → SFits w32 (getD (c .before .args .t1) 0 (pos 0))
-first-fits c = sfits-of (c .result .given)
+a-fits : (c : tie.After-a) → SFits w32 (word (c .before) 0)
+a-fits c = sfits-of (c .a .given)
 
-cast-result : tie.Need-cast-result
-cast-result c = between-cast (pos wordLimit) (first-fits c) (in-words (c .before) 0)
+cast-a : tie.Need-cast-a
+cast-a c = between-cast (pos wordLimit) (a-fits c) (in-words (c .before) 0)
 
-array-copy-out-result-2 : tie.Need-array-copy-out-result-2
-array-copy-out-result-2 c = search needs
+array-copy-out-b : tie.Need-array-copy-out-b
+array-copy-out-b c = search needs
 
-second-fits : (c : tie.After-result2) → SFits w32 (getD (c .before .before .args .t1) 1 (pos 0))
-second-fits c = sfits-of (c .result2 .given)
+b-fits : (c : tie.After-b) → SFits w32 (word (c .before .before) 1)
+b-fits c = sfits-of (c .b .given)
 
-cast-result-2 : tie.Need-cast-result-2
-cast-result-2 c = between-cast (pos wordLimit) (second-fits c) (in-words (c .before .before) 1)
+cast-b : tie.Need-cast-b
+cast-b c = between-cast (pos wordLimit) (b-fits c) (in-words (c .before .before) 1)
 
-array-copy-out-result-3 : tie.Need-array-copy-out-result-3
-array-copy-out-result-3 c = search needs
+array-copy-out-c : tie.Need-array-copy-out-c
+array-copy-out-c c = search needs
 
-third-fits : (c : tie.After-result3) → SFits w32 (getD (c .before .before .before .args .t1) 2 (pos 0))
-third-fits c = sfits-of (c .result3 .given)
+c-fits : (c : tie.After-c) → SFits w32 (word (c .before .before .before) 2)
+c-fits c = sfits-of (c .c .given)
 
-cast-result-3 : tie.Need-cast-result-3
-cast-result-3 c = between-cast (pos wordLimit) (third-fits c) (in-words (c .before .before .before) 2)
+cast-c : tie.Need-cast-c
+cast-c c = between-cast (pos wordLimit) (c-fits c) (in-words (c .before .before .before) 2)
 
-array-copy-out-result-4 : tie.Need-array-copy-out-result-4
-array-copy-out-result-4 c = search needs
+array-copy-out-d : tie.Need-array-copy-out-d
+array-copy-out-d c = search needs
 
-fourth-fits : (c : tie.After-result4) → SFits w32 (getD (c .before .before .before .before .args .t1) 3 (pos 0))
-fourth-fits c = sfits-of (c .result4 .given)
+d-fits : (c : tie.After-d) → SFits w32 (word (c .before .before .before .before) 3)
+d-fits c = sfits-of (c .d .given)
 
-cast-result-4 : tie.Need-cast-result-4
-cast-result-4 c = between-cast (pos wordLimit) (fourth-fits c) (in-words (c .before .before .before .before) 3)
+cast-d : tie.Need-cast-d
+cast-d c = between-cast (pos wordLimit) (d-fits c) (in-words (c .before .before .before .before) 3)
 
--- the four words as they were read
-record Four (c : tie.After-result4) : Type 0 where
-  first : natAbs (toZ w32 (ofZ w32 (getD (c .before .before .before .before .args .t1) 0 (pos 0)))) ≤ wordLimit
-  second : natAbs (toZ w32 (ofZ w32 (getD (c .before .before .before .before .args .t1) 1 (pos 0)))) ≤ wordLimit
-  third : natAbs (toZ w32 (ofZ w32 (getD (c .before .before .before .before .args .t1) 2 (pos 0)))) ≤ wordLimit
-  fourth : natAbs (toZ w32 (ofZ w32 (getD (c .before .before .before .before .args .t1) 3 (pos 0)))) ≤ wordLimit
-
-four : (c : tie.After-result4) → Four c
-four c =
+key-of-four-requires : tie.Need-key-of-four-requires
+key-of-four-requires c κs =
     let s = c .before .before .before .before in
-    record {
-      first = rw (word-is s 0 (first-fits (c .before .before .before))) (word-high s 0);
-      second = rw (word-is s 1 (second-fits (c .before .before))) (word-high s 1);
-      third = rw (word-is s 2 (third-fits (c .before))) (word-high s 2);
-      fourth = rw (word-is s 3 (fourth-fits c)) (word-high s 3);
-    }
-
-mul-result : tie.Need-mul-result
-mul-result c = omega (arith, four c)
-
-add-result : tie.Need-add-result
-add-result c = omega (arith, four c)
-
-mul-result-2 : tie.Need-mul-result-2
-mul-result-2 c = omega (arith, four c)
-
-add-result-2 : tie.Need-add-result-2
-add-result-2 c = omega (arith, four c)
-
-mul-result-3 : tie.Need-mul-result-3
-mul-result-3 c = omega (arith, four c)
-
-add-result-3 : tie.Need-add-result-3
-add-result-3 c = omega (arith, four c)
+    (rw (read s 0 (a-fits (c .before .before .before))) (word-low s 0), rw (read s 1 (b-fits (c .before .before))) (word-low s 1), rw (read s 2 (c-fits (c .before))) (word-low s 2), rw (read s 3 (d-fits c)) (word-low s 3))
 
 returns : tie.Need-returns
-unfolding key
 returns c =
-    let s = c .before .before .before .before in
+    let d = c .before in
+    let s = d .before .before .before .before in
     let l = s .args .t1 in
     let n : length l ≡ 4 = search needs in
-    let e : getD l 0 (pos 0) ∷ getD l 1 (pos 0) ∷ getD l 2 (pos 0) ∷ getD l 3 (pos 0) ∷ [] ≡ l = first-four l (omega arith) ∙ take-all 4 l (omega arith) in
-    let k : key (map natAbs (getD l 0 (pos 0) ∷ getD l 1 (pos 0) ∷ getD l 2 (pos 0) ∷ getD l 3 (pos 0) ∷ [])) ≡ key (map natAbs l) = ap (λ (m : List ℤ). key (map natAbs m)) e in
-    omega (arith, k, word-is s 0 (first-fits (c .before .before .before)), word-is s 1 (second-fits (c .before .before)), word-is s 2 (third-fits (c .before)), word-is s 3 (fourth-fits c))
+    let e : word s 0 ∷ word s 1 ∷ word s 2 ∷ word s 3 ∷ [] ≡ l = first-four l (omega arith) ∙ take-all 4 l (omega arith) in
+    cc (c .key-of-four .ensures, read s 0 (a-fits (d .before .before .before)), read s 1 (b-fits (d .before .before)), read s 2 (c-fits (d .before)), read s 3 (d-fits d), ap (λ (m : List ℤ). key (map natAbs m)) e)
 
 pub key-of-spec : {M : Type 1} → statement M
 key-of-spec =
     tie.close
     (tie.spec
-    array-copy-out-result
-    cast-result
-    array-copy-out-result-2
-    cast-result-2
-    array-copy-out-result-3
-    cast-result-3
-    array-copy-out-result-4
-    cast-result-4
-    mul-result
-    add-result
-    mul-result-2
-    add-result-2
-    mul-result-3
-    add-result-3
+    array-copy-out-a
+    cast-a
+    array-copy-out-b
+    cast-b
+    array-copy-out-c
+    cast-c
+    array-copy-out-d
+    cast-d
+    key-of-four-requires
     returns)
