@@ -62,7 +62,7 @@ static void extend(struct reading *reading, const struct run *run) {
     require("backoff_run", scored.number, scored.place);
     reading->total += scored.total;
     for (size_t i = 0; i < run->count; i++) {
-        reading->unknown += lengths[i] >= BACKOFF_UNKNOWN_LENGTH;
+        reading->unknown += (lengths[i] & BACKOFF_UNKNOWN_LENGTH) != 0;
         reading->words[reading->count++] = run->words[i];
     }
 }

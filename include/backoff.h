@@ -16,10 +16,12 @@
  * every item is as it was before the call; the call may have written the same number there, so the memory is writable.
  *
  * Ownership. The caller owns all memory. A call keeps no pointer, allocates nothing and has no memory of its own. The
- * array is what base and check hold: plain numbers, which may be copied and saved. It must stay unchanged while states
- * over it are in use. A state is nine plain numbers, which may be copied too. It belongs to the array that it came from,
- * or a copy of it; check 16 does not notice a state of another array. Two readings with equal states over one array
- * get the same points whatever follows, so the one with the lower total can be dropped.
+ * array is what base and check hold: plain numbers, which may be copied and saved. An array that was saved before
+ * markers told of left extension has its order in check[0], not the order + 8; it gives 11 and must be built anew from
+ * its list. An array must stay unchanged while states over it are in use. A state is nine plain numbers, which may be
+ * copied too. It belongs to the array that it came from, or a copy of it; check 16 does not notice a state of another
+ * array. Two readings with equal states over one array get the same points whatever follows, so the one with the lower
+ * total can be dropped.
  *
  * Threads. Calls may run at the same time if no slice that one of them writes is lent to another. So threads may share
  * one array for lookups, starts, runs and unloading, each with its own slices to be written. */
@@ -48,9 +50,12 @@ enum backoff_number {
     BACKOFF_SHORTER_ROW = 8,     /* the row without its first or without its last word is missing */
     BACKOFF_RESERVED_WORD = 9,   /* word 1, 2 or 3 has no row of one word */
     BACKOFF_NO_ROOM = 10,        /* the array of the list needs more slots than base and check have */
-    BACKOFF_ARRAY_HEAD = 11,     /* base and check have lengths as in 2, or slots 0 and 1 are not as a build writes them */
+    BACKOFF_ARRAY_HEAD = 11,     /* base and check have lengths as in 2, or slots 0 and 1 are not as a build writes them;
+                                    check[0] is the order + 8, and every other head gives 11, also that of an array
+                                    which an older library built, with the order itself: build it anew */
     BACKOFF_BROKEN_NODE = 12,    /* a node on the walk has no p and b in range, or there is no word 1 where a word is
-                                    replaced by it; unload: the array holds no accepted list */
+                                    replaced by it; unload: the array holds no accepted list, or a marker tells wrongly
+                                    which rows there are on either side of its row */
     BACKOFF_TEXT_LINE = 13,      /* a text line is not in form; only the totals program gives this */
     BACKOFF_WORD_COUNT = 14,     /* a lookup has no or more than 5 words; a run has more than 65,535 */
     BACKOFF_SHORT_SLICE = 15,    /* a slice to be written is too short */
@@ -71,9 +76,10 @@ enum backoff_limit {
     BACKOFF_LEAST_BACKOFF = -990000,
     BACKOFF_LARGEST_BACKOFF = 990000,
     BACKOFF_UNKNOWN_WORD = 1,
-    BACKOFF_START_WORD = 2,    /* <s> */
-    BACKOFF_END_WORD = 3,      /* </s> */
-    BACKOFF_UNKNOWN_LENGTH = 8 /* added to the length byte of an unknown word */
+    BACKOFF_START_WORD = 2,      /* <s> */
+    BACKOFF_END_WORD = 3,        /* </s> */
+    BACKOFF_UNKNOWN_LENGTH = 8,  /* added to the length byte of an unknown word */
+    BACKOFF_EXTENDED_LENGTH = 16 /* added to a length byte where some row puts a further word in front of the matched row */
 };
 
 /* Number and place of a refusal; both are 0 where the call accepts. */
@@ -82,13 +88,15 @@ struct backoff_status {
     uint32_t place;
 };
 
-/* The answer of a lookup: found is 1 or 0; p and b are those of the row, and 0 where found is 0. */
+/* The answer of a lookup: found is 1 or 0; p and b are those of the row; left is 1 if some row puts a further word in
+ * front of this row, else 0. Where found is 0, p, b and left are 0. */
 struct backoff_found {
     uint32_t number;
     uint32_t place;
     uint32_t found;
     int32_t p;
     int32_t b;
+    uint32_t left;
 };
 
 /* The answer of a run or of plain scoring: total is the sum of the words' points, and 0 where the call refuses. */
@@ -107,14 +115,17 @@ struct backoff_status backoff_check(const int32_t *table, size_t table_len);
  * needed; 10 tells. work has at least one item for each row.
  * Refusals: 1; 2; then row by row 3, 4, 5, 6, 7, 8; then 9; 10.
  * Accepted: every slot of base and check is written; work[i - 1] is the slot of row i, and work is untouched past the
- * rows.
+ * rows. The marker of row i is in slot base[work[i - 1]]: its check is p - 1, its base is 4 * b + 2 * e + f, where e is 1
+ * if some row puts a further word in front of row i, and f is 1 if some row is row i followed by one more word. check[0]
+ * is the order + 8, base[1] the number of rows.
  * After 1 to 9: base, check and work are untouched.
  * After 10: every slot is free (base 0, check INT32_MIN); work is 0 for each row and untouched past the rows. */
 struct backoff_status backoff_build(const int32_t *table, size_t table_len, int32_t *base, size_t base_len, int32_t *check,
                                     size_t check_len, uint32_t *work, size_t work_len);
 
 /* Looks up 1 to 5 words, oldest first: found is 1 where they are a row. No word is replaced by 1. A word outside
- * 1..65,535, or more words than the order, are not found.
+ * 1..65,535, or more words than the order, are not found. left is 1 exactly if some row of the list is these words with
+ * one more in front; over an array that backoff_build did not write, left is the e of the row's marker.
  * Refusals: 11; 14; 12. */
 struct backoff_found backoff_lookup(const int32_t *base, size_t base_len, const int32_t *check, size_t check_len,
                                     const uint32_t *words, size_t words_len);
@@ -132,7 +143,10 @@ struct backoff_status backoff_start(const int32_t *base, size_t base_len, const 
 /* Scores words one after another from a state, and leaves the state after them in its place. A word without a row of one
  * word is scored as word 1, so is a word outside 1..65,535. points and lengths have at least one item for each word. A
  * length byte is the matched length, the number of words in the row whose p was used, plus 8 if the word was scored as
- * 1. A run of no words is accepted; its total is 0 and its state stays.
+ * 1, plus 16 if some row puts a further word in front of that row; over an array that backoff_build did not write, 16 is
+ * as the e of the row's marker says. So byte & 7 is the matched length, byte & BACKOFF_UNKNOWN_LENGTH tells an unknown
+ * word, and byte & BACKOFF_EXTENDED_LENGTH a row that can grow to the left. A run of no words is accepted; its total is 0
+ * and its state stays.
  * Refusals: 16, where state_len is not 9; 11; 16 for the numbers of the state; 14; 15; 12, at the word that met it.
  * Accepted: points and lengths have the answer of each word, and are untouched past the words; state is the state after
  * the words.
@@ -152,7 +166,8 @@ struct backoff_total backoff_plain(const int32_t *table, size_t table_len, bool 
                                    size_t lengths_len);
 
 /* Gives the list of an array back, row for row, and the slots of the nodes of its rows. base[1] is the number of rows:
- * table has at least eight items, and work at least one, for each.
+ * table has at least eight items, and work at least one, for each. 12 means that the rows that the array has, of up to as
+ * many words as its order, are no accepted list of that order and number of rows, or that some marker's e or f is wrong.
  * Refusals: 11; 15; 12.
  * Accepted: table has the rows, work their slots; both are untouched past the rows.
  * After 11 and 15: table and work are untouched.

@@ -5,6 +5,7 @@ use backoff::{Found, Status};
 
 const FREE: i32 = i32::MIN;
 const MOST_SLOTS: usize = 1_048_576;
+const HEAD: i32 = 8;
 const ACCEPTED: Status = Status { number: 0, place: 0 };
 
 /// Builds the double array of a list: 1, 2, row by row 3 to 8, 9, 10.
@@ -40,7 +41,7 @@ fn clear(base: &mut [i32], check: &mut [i32]) {
 fn place(rows: &[Row], base: &mut [i32], check: &mut [i32], work: &mut [u32]) -> Option<()> {
     let order = rows[rows.len() - 1][0];
     let ones = rows.partition_point(|row| row[0] == 1);
-    (base[0], check[0]) = (0, order);
+    (base[0], check[0]) = (0, HEAD + order);
     let mut front = 1;
     let d = settle(&rows[..ones], 0, &mut front, base, check, &mut work[..ones])?;
     (base[d], check[d]) = (rows.len() as i32, -1);
@@ -52,7 +53,8 @@ fn place(rows: &[Row], base: &mut [i32], check: &mut [i32], work: &mut [u32]) ->
         let end = rows[next..].iter().position(|child| !is_child(child)).map_or(rows.len(), |count| next + count);
         let slot = work[i] as usize;
         let d = settle(&rows[next..end], slot, &mut front, base, check, &mut work[next..end])?;
-        (base[d], check[d]) = (2 * row[7], row[6] - 1);
+        let extended = (next < end) as i32;
+        (base[d], check[d]) = (4 * row[7] + 2 * extended, row[6] - 1);
         next = end;
     }
     Some(())
@@ -105,7 +107,13 @@ fn set_continued(rows: &[Row], base: &mut [i32]) {
 
 /// Check 11.
 pub fn head_fits(base: &[i32], check: &[i32]) -> bool {
-    lengths_fit(base, check) && base[0] == 1 && (1..=5).contains(&check[0]) && check[1] == -1 && (3..=MOST_ROWS as i32).contains(&base[1])
+    let orders = HEAD + 1..=HEAD + 5;
+    lengths_fit(base, check) && base[0] == 1 && orders.contains(&check[0]) && check[1] == -1 && (3..=MOST_ROWS as i32).contains(&base[1])
+}
+
+/// The order that a head tells.
+pub fn order(check: &[i32]) -> i32 {
+    check[0] - HEAD
 }
 
 /// The slot of a node's child for a word.
@@ -118,21 +126,31 @@ pub fn child(base: &[i32], check: &[i32], node: usize, word: u32) -> Option<usiz
     (slot < check.len() && check[slot] == node as i32).then_some(slot)
 }
 
-/// What a node's marker holds: p, and 2 × b + f; nothing where it is not sound.
+/// What a node's marker holds: p, and 4 × b + 2 × e + f; nothing where it is not sound.
 pub fn marker(base: &[i32], check: &[i32], node: usize) -> Option<(i32, i32)> {
     let d = base[node];
     if d < 1 || d as usize >= base.len() {
         return None;
     }
     let (last, packed) = (check[d as usize], base[d as usize]);
-    let sound = (LOWEST_P - 1..=-1).contains(&last) && (-2 * LARGEST_B..=2 * LARGEST_B + 1).contains(&packed);
+    let sound = (LOWEST_P - 1..=-1).contains(&last) && (-4 * LARGEST_B..=4 * LARGEST_B + 3).contains(&packed);
     sound.then_some((last + 1, packed))
+}
+
+/// Whether b is not 0 or f is 1.
+pub fn is_live(packed: i32) -> bool {
+    packed & !2 != 0
+}
+
+/// What e adds to a length byte.
+pub fn extended_byte(packed: i32) -> u8 {
+    (packed as u8 & 2) << 3
 }
 
 /// Looks a sequence up, oldest word first: 11, 14, 12.
 #[inline(never)]
 pub fn lookup(base: &[i32], check: &[i32], words: &[u32]) -> Found {
-    let refused = |number| Found { number, place: 0, found: 0, p: 0, b: 0 };
+    let refused = |number| Found { number, place: 0, found: 0, p: 0, b: 0, left: 0 };
     if !head_fits(base, check) {
         return refused(11);
     }
@@ -140,7 +158,7 @@ pub fn lookup(base: &[i32], check: &[i32], words: &[u32]) -> Found {
         return refused(14);
     }
     let not_found = refused(0);
-    if words.len() > check[0] as usize {
+    if words.len() > order(check) as usize {
         return not_found;
     }
     let mut node = 0;
@@ -148,7 +166,7 @@ pub fn lookup(base: &[i32], check: &[i32], words: &[u32]) -> Found {
     for &word in words.iter().rev() {
         let Some(slot) = child(base, check, node, word) else { return not_found };
         let Some((p, packed)) = marker(base, check, slot) else { return refused(12) };
-        found = Found { number: 0, place: 0, found: 1, p, b: packed >> 1 };
+        found = Found { number: 0, place: 0, found: 1, p, b: packed >> 2, left: packed as u32 >> 1 & 1 };
         node = slot;
     }
     found
@@ -186,7 +204,7 @@ mod tests {
             let words: Vec<u32> = (0..random.below(6)).map(|_| random.below(20) as u32).collect();
             let found = super::lookup(&arrays.base, &arrays.check, &words);
             let second = reference::array::lookup(&arrays.base, &arrays.check, &words);
-            assert_eq!(((found.number, found.place), found.found == 1, found.p, found.b), second);
+            assert_eq!(((found.number, found.place), found.found == 1, found.p, found.b, found.left == 1), second);
         }
     }
 }

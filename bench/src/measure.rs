@@ -5,7 +5,7 @@ use crate::packed::Packed;
 use crate::score::Items;
 use crate::time::{compare, Compared};
 use crate::{array, list, plain, score, unload};
-use backoff::Total;
+use backoff::{Found, Total};
 
 /// Nanoseconds that a call takes for a row, a lookup or a word, and the ratio of the two.
 pub struct Measured {
@@ -53,8 +53,9 @@ fn lookup(list: &List) -> Measured {
     let words = sequences.concat();
     let mut rest = &words[..];
     let parts: Vec<&[u32]> = sequences.iter().filter_map(|sequence| rest.split_off(..sequence.len())).collect();
-    let ours = || parts.iter().map(|words| backoff::lookup(base, check, words).p as i64).sum::<i64>();
-    let rust = || parts.iter().map(|words| array::lookup(base, check, words).p as i64).sum::<i64>();
+    let answer = |found: Found| found.p as i64 + found.left as i64;
+    let ours = || parts.iter().map(|words| answer(backoff::lookup(base, check, words))).sum::<i64>();
+    let rust = || parts.iter().map(|words| answer(array::lookup(base, check, words))).sum::<i64>();
     let sum = rust();
     let compared = compare(&mut || assert_eq!(ours(), sum), &mut || assert_eq!(rust(), sum));
     Measured::new("lookup", "lookup", parts.len(), compared)

@@ -1,6 +1,7 @@
 //! A carried state with which Rust scores as fast as the team got it: the words are packed in one number, and the back-offs held as sums
 //! that change in place.
 
+use crate::array::{extended_byte, is_live};
 use crate::list::{LARGEST_B, LARGEST_WORD, LOWEST_P};
 use crate::score::{Items, State};
 
@@ -45,32 +46,32 @@ impl State for Packed {
         let whole = self.sums[self.count];
         let (mut older, mut owed) = (self.words, whole);
         let (mut matched, mut kept, mut sum) = (0, 0, 0);
-        let points = loop {
+        let (points, packed) = loop {
             let d = base[node] as u32 as usize;
             if d == 0 || d >= base.len() {
                 return None;
             }
             let (last, packed) = (check[d], base[d]);
-            if !(LOWEST_P - 1..=-1).contains(&last) || !(-2 * LARGEST_B..=2 * LARGEST_B + 1).contains(&packed) {
+            if !(LOWEST_P - 1..=-1).contains(&last) || !(-4 * LARGEST_B..=4 * LARGEST_B + 3).contains(&packed) {
                 return None;
             }
             let points = last + 1 + owed;
             matched += 1;
             owed = whole - self.sums[matched];
-            sum += packed >> 1;
+            sum += packed >> 2;
             self.sums[matched] = sum;
-            if packed != 0 && matched < order {
+            if is_live(packed) && matched < order {
                 kept = matched;
             }
             let slot = d + (older & 0xffff) as usize;
             if matched > self.count || slot >= check.len() || check[slot] != node as i32 {
-                break points;
+                break (points, packed);
             }
             older >>= 16;
             node = slot;
         };
         self.count = kept;
         self.words = self.words << 16 | word as u64;
-        Some((points, matched as u8 + kind))
+        Some((points, matched as u8 + kind + extended_byte(packed)))
     }
 }

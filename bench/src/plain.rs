@@ -7,10 +7,16 @@ use std::collections::HashMap;
 
 /// The rows of a list, to be found by their words: one number of 80 bits, the newest word in the lowest 16.
 pub trait Rows {
+    /// A row that was found.
+    type Found: Copy;
+
     fn order(&self) -> usize;
 
     /// p and b of a row of m words.
-    fn find(&self, m: usize, words: u128) -> Option<(i32, i32)>;
+    fn find(&self, m: usize, words: u128) -> Option<(i32, i32, Self::Found)>;
+
+    /// Whether some row puts a further word in front of it.
+    fn extended(&self, found: Self::Found) -> bool;
 }
 
 /// An accepted table, where the rows of m words stand from starts[m - 1] to starts[m].
@@ -30,25 +36,40 @@ impl Table<'_> {
     }
 }
 
+/// The words in one number: the oldest word comes first in a row and lowest in its key.
+fn key(row: &Row) -> u128 {
+    low(row) as u128 | (row[5] as u128) << 64
+}
+
 impl Rows for Table<'_> {
+    /// m and the key.
+    type Found = (usize, u128);
+
     fn order(&self) -> usize {
         self.rows[self.rows.len() - 1][0] as usize
     }
 
     #[inline]
-    fn find(&self, m: usize, words: u128) -> Option<(i32, i32)> {
+    fn find(&self, m: usize, words: u128) -> Option<(i32, i32, (usize, u128))> {
         let rows = &self.rows[self.starts[m - 1]..self.starts[m]];
-        // The oldest word comes first in a row and lowest in its key.
-        let key = (0..m).fold(0, |key, i| key << 16 | (words >> (16 * i) & 0xFFFF));
-        let at = rows.binary_search_by_key(&key, |row| low(row) as u128 | (row[5] as u128) << 64).ok()?;
-        Some((rows[at][6], rows[at][7]))
+        let wanted = (0..m).fold(0, |wanted, i| wanted << 16 | (words >> (16 * i) & 0xFFFF));
+        let at = rows.binary_search_by_key(&wanted, key).ok()?;
+        Some((rows[at][6], rows[at][7], (m, wanted)))
+    }
+
+    #[inline]
+    fn extended(&self, (m, words): (usize, u128)) -> bool {
+        let longer = if m < 5 { &self.rows[self.starts[m]..self.starts[m + 1]] } else { &[] };
+        let at = longer.partition_point(|row| key(row) >> 16 < words);
+        longer.get(at).is_some_and(|row| key(row) >> 16 == words)
     }
 }
 
 /// The rows in Rust's own map, with its own hash.
 pub struct Map {
     order: usize,
-    rows: HashMap<(usize, u128), (i32, i32)>,
+    /// p, b, and whether some row puts a further word in front.
+    rows: HashMap<(usize, u128), (i32, i32, bool)>,
 }
 
 impl Map {
@@ -58,18 +79,30 @@ impl Map {
             let m = row[0] as usize;
             (m, row[1..=m].iter().fold(0, |key, &word| key << 16 | word as u128))
         };
-        let rows: HashMap<_, _> = rows.iter().map(|row| (key(row), (row[6], row[7]))).collect();
-        Map { order: rows.keys().map(|key| key.0).max().unwrap_or(0), rows }
+        let mut map: HashMap<_, _> = rows.iter().map(|row| (key(row), (row[6], row[7], false))).collect();
+        for row in rows {
+            let (m, words) = key(row);
+            if let Some(shorter) = map.get_mut(&(m - 1, words & ((1 << (16 * (m - 1))) - 1))) {
+                shorter.2 = true;
+            }
+        }
+        Map { order: map.keys().map(|key| key.0).max().unwrap_or(0), rows: map }
     }
 }
 
 impl Rows for Map {
+    type Found = bool;
+
     fn order(&self) -> usize {
         self.order
     }
 
-    fn find(&self, m: usize, words: u128) -> Option<(i32, i32)> {
+    fn find(&self, m: usize, words: u128) -> Option<(i32, i32, bool)> {
         self.rows.get(&(m, words)).copied()
+    }
+
+    fn extended(&self, found: bool) -> bool {
+        found
     }
 }
 
@@ -98,9 +131,9 @@ pub fn score(rows: &impl Rows, after_start: bool, words: &[u32], points: &mut [i
     for i in 0..words.len() {
         let known = (2..=LARGEST_WORD as u32).contains(&words[i]) && rows.find(1, words[i] as u128).is_some();
         let word = if known { words[i] as u128 } else { 1 };
-        let (word_points, matched) = back_off(rows, history, count, word);
+        let (word_points, matched, extended) = back_off(rows, history, count, word);
         points[i] = word_points;
-        lengths[i] = matched as u8 + if known { 0 } else { 8 };
+        lengths[i] = matched as u8 + if known { 0 } else { 8 } + if extended { 16 } else { 0 };
         total += word_points as i64;
         history = history << 16 | word;
         count = most.min(count + 1);
@@ -108,22 +141,24 @@ pub fn score(rows: &impl Rows, after_start: bool, words: &[u32], points: &mut [i
     total
 }
 
-/// The longest row of history and word, and the back-offs of the histories that are too long for it.
+/// The longest row of history and word, whether it is extended, and the back-offs of the histories that are too long for it.
 #[inline]
-fn back_off(rows: &impl Rows, history: u128, count: usize, word: u128) -> (i32, usize) {
+fn back_off(rows: &impl Rows, history: u128, count: usize, word: u128) -> (i32, usize, bool) {
     let newest = |length: usize| history & ((1 << (16 * length)) - 1);
     let mut points = 0;
     let mut matched = 0;
+    let mut longest = None;
     while matched <= count {
-        let Some((p, _)) = rows.find(matched + 1, newest(matched) << 16 | word) else { break };
+        let Some((p, _, found)) = rows.find(matched + 1, newest(matched) << 16 | word) else { break };
         points = p;
+        longest = Some(found);
         matched += 1;
     }
     for length in matched..=count {
-        let Some((_, b)) = rows.find(length, newest(length)) else { break };
+        let Some((_, b, _)) = rows.find(length, newest(length)) else { break };
         points += b;
     }
-    (points, matched)
+    (points, matched, longest.is_some_and(|found| rows.extended(found)))
 }
 
 #[cfg(test)]

@@ -1,6 +1,6 @@
 //! Start and run as the team writes them in Rust, over the same arrays with the same checks.
 
-use crate::array::{child, head_fits, marker};
+use crate::array::{child, extended_byte, head_fits, is_live, marker, order};
 use crate::list::{LARGEST_B, LARGEST_WORD};
 use backoff::{Status, Total};
 
@@ -63,15 +63,14 @@ impl State for Items {
         };
         let mut next = Items::default();
         let mut matched = 0;
-        let mut p;
+        let (mut p, mut packed);
         loop {
-            let packed;
             (p, packed) = marker(base, check, node)?;
             if matched < 4 {
-                next.back_offs[matched] = packed >> 1;
+                next.back_offs[matched] = packed >> 2;
             }
             matched += 1;
-            if packed != 0 && matched < order {
+            if is_live(packed) && matched < order {
                 next.count = matched;
             }
             if matched > self.count {
@@ -89,7 +88,7 @@ impl State for Items {
         }
         next.back_offs[next.count..].fill(0);
         *self = next;
-        Some((points, matched as u8 + kind))
+        Some((points, matched as u8 + kind + extended_byte(packed)))
     }
 }
 
@@ -102,7 +101,7 @@ pub fn start<S: State>(base: &[i32], check: &[i32], cells: &mut [i32]) -> Status
         return refused(11);
     }
     let mut state = S::default();
-    if state.step(base, check, check[0] as usize, 2).is_none() {
+    if state.step(base, check, order(check) as usize, 2).is_none() {
         return refused(12);
     }
     state.write(cells);
@@ -116,7 +115,7 @@ pub fn run<S: State>(base: &[i32], check: &[i32], cells: &mut [i32], words: &[u3
     if !head_fits(base, check) {
         return refused(11, 0);
     }
-    let Some(mut state) = S::read(cells, check[0]) else { return refused(16, 0) };
+    let Some(mut state) = S::read(cells, order(check)) else { return refused(16, 0) };
     if words.len() > LONGEST_RUN {
         return refused(14, 0);
     }
@@ -124,7 +123,7 @@ pub fn run<S: State>(base: &[i32], check: &[i32], cells: &mut [i32], words: &[u3
         return refused(15, 0);
     }
     let (points, lengths) = (&mut points[..words.len()], &mut lengths[..words.len()]);
-    let order = check[0] as usize;
+    let order = order(check) as usize;
     let mut total = 0;
     for i in 0..words.len() {
         let Some((word_points, length)) = state.step(base, check, order, words[i]) else {

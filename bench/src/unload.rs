@@ -1,6 +1,6 @@
 //! Unloading as the team writes it in Rust: every slot climbs to the root, so that nothing but the slots is gone through.
 
-use crate::array::{head_fits, marker};
+use crate::array::{head_fits, marker, order};
 use crate::list::{low, Key, Row, LARGEST_WORD};
 use backoff::Status;
 
@@ -24,23 +24,23 @@ pub fn unload(base: &[i32], check: &[i32], table: &mut [i32], work: &mut [u32]) 
     refused(0)
 }
 
-/// Nothing where 12 refuses. Until the last step a row holds its slot in the place of p, and in that of b whether it is continued.
+/// Nothing where 12 refuses. Until the last step a row holds its slot in the place of p, and in that of b its 2 × e + f.
 fn fill(base: &[i32], check: &[i32], rows: &mut [Row], work: &mut [u32]) -> Option<()> {
     gather(base, check, rows)?;
     rows.sort_unstable_by_key(Key::of);
-    let order = check[0];
+    let order = order(check);
     let marks = (0..3).all(|i| rows[i][..2] == [1, i as i32 + 1]);
     if !marks || rows[rows.len() - 1][0] != order {
         return None;
     }
-    set_continued(rows)?;
+    set_bits(rows)?;
     for (row, item) in rows.iter_mut().zip(work) {
         *item = row[6] as u32;
         let (p, packed) = marker(base, check, row[6] as usize)?;
-        if packed & 1 != row[7] || (row[0] == order && packed != 0) {
+        if packed & 3 != row[7] || (row[0] == order && packed != 0) {
             return None;
         }
-        (row[6], row[7]) = (p, packed >> 1);
+        (row[6], row[7]) = (p, packed >> 2);
     }
     Some(())
 }
@@ -63,7 +63,7 @@ fn climb(base: &[i32], check: &[i32], slot: usize) -> Option<Row> {
     let mut node = slot;
     while node != 0 {
         let parent = check[node];
-        if parent < 0 || parent as usize >= check.len() || row[0] == check[0] {
+        if parent < 0 || parent as usize >= check.len() || row[0] == order(check) {
             return None;
         }
         let d = base[parent as usize];
@@ -78,17 +78,22 @@ fn climb(base: &[i32], check: &[i32], slot: usize) -> Option<Row> {
     Some(row)
 }
 
-/// Tells every row without its last word that it is continued; nothing where one of them is missing.
-fn set_continued(rows: &mut [Row]) -> Option<()> {
+/// Tells every row without its first word that it is extended, and every row without its last word that it is continued; nothing where one of
+/// them is missing. The rows without their first word ascend as the rows do.
+fn set_bits(rows: &mut [Row]) -> Option<()> {
     let mut start = 0;
     for m in 2..=5 {
         let end = rows.partition_point(|row| row[0] < m);
         let (shorter, longer) = rows.split_at_mut(end);
         let shorter = &mut shorter[start..];
+        let mut parent = 0;
         for row in longer.iter().take_while(|row| row[0] == m) {
             let without_last = low(row) & (u64::MAX >> (64 - 16 * (m - 1)));
             let at = shorter.binary_search_by_key(&without_last, low).ok()?;
-            shorter[at][7] = 1;
+            shorter[at][7] |= 1;
+            let without_first = low(row) >> 16 | (row[5] as u64) << 48;
+            parent += shorter[parent..].iter().position(|row| low(row) == without_first)?;
+            shorter[parent][7] |= 2;
         }
         start = end;
     }

@@ -16,22 +16,26 @@
 //! assert_eq!(backoff::build(table, &mut base, &mut check, &mut work).number, 0);
 //!
 //! let found = backoff::lookup(&base, &check, &[2, 4]);
-//! assert_eq!((found.number, found.found, found.p, found.b), (0, 1, -4_000, 0));
+//! assert_eq!((found.number, found.found, found.p, found.b, found.left), (0, 1, -4_000, 0, 0));
+//! // Row 2 4 puts a word in front of 4.
+//! assert_eq!(backoff::lookup(&base, &check, &[4]).left, 1);
 //!
-//! // Two runs, the second from the state that the first left. Word 9 is not listed.
+//! // Two runs, the second from the state that the first left. Word 9 is not listed: plus 8. The second 4 is scored by its row of one word: plus 16.
 //! let mut state = [0; 9];
 //! assert_eq!(backoff::start(&base, &check, &mut state).number, 0);
 //! let (mut points, mut lengths) = ([0; 2], [0; 2]);
 //! let first = backoff::run(&base, &check, &mut state, &[4, 9], &mut points, &mut lengths);
 //! assert_eq!((first.number, first.total), (0, -26_000));
 //! assert_eq!((points, lengths), ([-4_000, -22_000], [2, 1 + 8]));
-//! let last = backoff::run(&base, &check, &mut state, &[3], &mut points, &mut lengths);
-//! assert_eq!((last.number, last.total), (0, -10_000));
+//! let last = backoff::run(&base, &check, &mut state, &[4, 3], &mut points, &mut lengths);
+//! assert_eq!((last.number, last.total), (0, -18_000));
+//! assert_eq!((points, lengths), ([-6_000, -12_000], [1 + 16, 1]));
 //!
 //! // The same total from the list alone.
-//! let (mut points, mut lengths) = ([0; 3], [0; 3]);
-//! let plain = backoff::plain(table, true, &[4, 9, 3], &mut points, &mut lengths);
+//! let (mut points, mut lengths) = ([0; 4], [0; 4]);
+//! let plain = backoff::plain(table, true, &[4, 9, 4, 3], &mut points, &mut lengths);
 //! assert_eq!((plain.number, plain.total), (0, first.total + last.total));
+//! assert_eq!(lengths, [2, 1 + 8, 1 + 16, 1]);
 //!
 //! // The list comes back row for row.
 //! let (mut rows, mut slots) = ([0; 40], [0; 5]);
@@ -51,7 +55,8 @@ pub struct Status {
     pub place: u32,
 }
 
-/// The answer of a lookup: `found` is 1 or 0; p and b are those of the row, and 0 where `found` is 0.
+/// The answer of a lookup: `found` is 1 or 0; p and b are those of the row; `left` is 1 where some row puts a further word in front of this row, else
+/// 0. Where `found` is 0, p, b and `left` are 0.
 #[repr(C)]
 #[derive(Clone, Copy, Debug, PartialEq, Eq)]
 pub struct Found {
@@ -60,6 +65,7 @@ pub struct Found {
     pub found: u32,
     pub p: i32,
     pub b: i32,
+    pub left: u32,
 }
 
 /// The answer of a run or of plain scoring: `total` is the sum of the words' points, and 0 where the call refuses.
@@ -175,9 +181,10 @@ pub fn build(table: &[i32], base: &mut [i32], check: &mut [i32], work: &mut [u32
     }
 }
 
-/// Looks up 1 to 5 words, oldest first. No word is replaced by 1; more words than the order are not found.
+/// Looks up 1 to 5 words, oldest first. No word is replaced by 1; more words than the order are not found. Over an array that [`build`] did not write,
+/// `left` is what the marker of the row says.
 ///
-/// Refusals: 11; 14; 12.
+/// Refusals: 11; 14; 12. An array that an older build wrote, with the order itself in `check[0]`, gives 11: build it anew.
 pub fn lookup(base: &[i32], check: &[i32], words: &[u32]) -> Found {
     unsafe { raw::backoff_lookup(base.as_ptr(), base.len(), check.as_ptr(), check.len(), words.as_ptr(), words.len()) }
 }
@@ -190,7 +197,8 @@ pub fn start(base: &[i32], check: &[i32], state: &mut [i32]) -> Status {
 }
 
 /// Scores words from a state and leaves the state after them in its place; `points` and `lengths` have at least one item for each word. A
-/// length byte is the number of words in the row whose p was used, plus 8 if the word was scored as the unknown word.
+/// length byte is the number of words in the row whose p was used (`byte & 7`), plus 8 if the word was scored as the unknown word (`byte & 8`), plus 16 if
+/// some row puts a further word in front of that row (`byte & 16`), as `left` of [`lookup`] says.
 ///
 /// Refusals: 16 for a length other than nine; 11; 16 for the numbers of the state; 14; 15; 12, whose place is the word, from 1. A refused run leaves
 /// `state` as it was. After 12 `points` and `lengths` are 0 for each word; after the others they are untouched. They are always untouched past the words.
@@ -234,7 +242,8 @@ pub fn plain(table: &[i32], after_start: bool, words: &[u32], points: &mut [i32]
 
 /// Gives the list of an array back, row for row, and in `work` the slots of the rows' nodes; `base[1]` is the number of rows.
 ///
-/// Refusals: 11; 15, where `table` has fewer than eight items or `work` fewer than one for each row; 12, where the array holds no accepted list. After
+/// Refusals: 11; 15, where `table` has fewer than eight items or `work` fewer than one for each row; 12, where the array holds no accepted list, or a
+/// marker tells wrongly whether some row goes on after its row or puts a word in front of it. After
 /// 11 and 15 the slices are untouched, after 12 they are 0 for each row. They are always untouched past the rows.
 pub fn unload(base: &[i32], check: &[i32], table: &mut [i32], work: &mut [u32]) -> Status {
     unsafe {

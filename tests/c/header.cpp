@@ -2,6 +2,7 @@
 #include "backoff.h"
 
 static_assert(BACKOFF_BAD_STATE == 16 && BACKOFF_LEAST_BACKOFF == -BACKOFF_LARGEST_BACKOFF, "numbers of the header");
+static_assert(BACKOFF_UNKNOWN_LENGTH == 8 && BACKOFF_EXTENDED_LENGTH == 16, "what is added to a length byte");
 
 int main() {
     const int32_t table[BACKOFF_ROW_ITEMS] = {1, 1, 0, 0, 0, 0, -20000, 0};

@@ -10,6 +10,7 @@ static uint8_t lengths[3];
 static const uint32_t WORDS[3] = {4, 5, 3};
 static const int32_t POINTS[3] = {-4000, -1000, -1500};
 static const uint8_t LENGTHS[3] = {2, 3, 2};
+static const uint8_t WITHOUT_CONTEXT[3] = {1 + BACKOFF_EXTENDED_LENGTH, 2 + BACKOFF_EXTENDED_LENGTH, 2};
 
 static int is_k1(struct backoff_total answer) {
     int same = memcmp(points, POINTS, sizeof points) == 0 && memcmp(lengths, LENGTHS, sizeof lengths) == 0;
@@ -39,5 +40,10 @@ int main(void) {
     expect("K1 by plain scoring", is_k1(backoff_plain(&SAMPLE[0][0], 72, true, WORDS, 3, points, 3, lengths, 3)));
     expect("another total without context",
            backoff_plain(&SAMPLE[0][0], 72, false, WORDS, 3, points, 3, lengths, 3).total == -10500);
+    expect("rows that others put a word in front of, by plain scoring",
+           memcmp(lengths, WITHOUT_CONTEXT, sizeof lengths) == 0);
+    memset(lengths, 0, sizeof lengths);
+    expect("and by a run", backoff_run(base, 20, check, 20, state, 9, WORDS, 3, points, 3, lengths, 3).total == -10500 &&
+                               memcmp(lengths, WITHOUT_CONTEXT, sizeof lengths) == 0);
     return counted();
 }

@@ -15,5 +15,9 @@ int main(void) {
     base[7] = 1;
     expect("a wrong f gives 12", is(backoff_unload(base, 20, check, 20, table, 72, work, 9), 12, 0));
     expect("and zeros", table[0] == 0 && table[71] == 0 && work[8] == 0);
+    base[7] = 2;
+    expect("a wrong e gives 12", is(backoff_unload(base, 20, check, 20, table, 72, work, 9), 12, 0));
+    base[7] = 0;
+    expect("both right are accepted", is(backoff_unload(base, 20, check, 20, table, 72, work, 9), 0, 0));
     return counted();
 }

@@ -110,7 +110,8 @@ impl Array {
             let sequence: Vec<u32> = walked.iter().map(|&word| word as u32).collect();
             let found = backoff::lookup(&self.base, &self.check, &sequence);
             assert_eq!((found.number, found.found, self.check[slot]), (0, 1, node as i32), "the walk goes on");
-            assert_eq!((found.p, found.b), (self.check[marker] + 1, self.base[marker] >> 1), "the marker holds p and b");
+            assert_eq!((found.p, found.b), (self.check[marker] + 1, self.base[marker] >> 2), "the marker holds p and b");
+            assert_eq!(found.left as i32, self.base[marker] >> 1 & 1, "the marker holds e");
             walk.push(slot);
         }
         walk
@@ -199,10 +200,11 @@ fn draw_steps(drawing: &mut Drawing, array: &Array, walk: &[usize]) {
     let node = walk[walk.len() - 1];
     let marker = array.base[node] as usize;
     let (p, packed) = (array.check[marker] + 1, array.base[marker]);
-    let last = format!("CHECK is p − 1 = {}, BASE is 2 × b + f = {}:", signed(p - 1), signed(packed));
+    let last = format!("CHECK is p − 1 = {}, BASE is 4 × b + 2 × e + f = {}:", signed(p - 1), signed(packed));
     drawing.text("", left, y + 44, &format!("Slot {node} has BASE {marker}: its marker is in slot {marker}."));
     drawing.text("small", left, y + 61, &last);
-    drawing.text("word walked", left, y + 86, &format!("p = {}, b = {}, f = {}", signed(p), signed(packed >> 1), packed & 1));
+    let (b, e, f) = (packed >> 2, packed >> 1 & 1, packed & 1);
+    drawing.text("word walked", left, y + 86, &format!("p = {}, b = {}, e = {e}, f = {f}", signed(p), signed(b)));
 }
 
 /// The left edge of slot 0, the width of a slot, and the upper edge of BASE.
@@ -258,8 +260,8 @@ fn draw_jumps(drawing: &mut Drawing, array: &Array, walk: &[usize]) {
 fn draw_legend(drawing: &mut Drawing) {
     let y = HEIGHT - 24;
     let entries = [
-        ("node", 28, "node: BASE is d, the slot of its marker; CHECK is its parent, at the root the order"),
-        ("marker", 515, "marker: BASE is 2 × b + f, CHECK is p − 1; the root's holds the number of rows and −1"),
+        ("node", 28, "node: BASE is d, the slot of its marker; CHECK is its parent, at the root the order + 8"),
+        ("marker", 525, "marker: BASE is 4 × b + 2 × e + f, CHECK is p − 1; the root's holds the number of rows and −1"),
     ];
     for (class, x, text) in entries {
         drawing.rectangle(class, x, y - 11, 18, 13);

@@ -1,5 +1,5 @@
 /* Each call is made in every placement. Its answer and what it leaves must be the same in all of them, and must be what
- * document 01 says wherever that can be told without building or walking. */
+ * documents 01 and 02 say wherever that can be told without building or walking. */
 #include "fuzz.h"
 #include <stdio.h>
 
@@ -29,17 +29,17 @@ static const struct form FORMS[CALLS] = {
 static uint64_t met[CALLS][NUMBERS];
 
 static struct answer of_status(struct backoff_status status) {
-    struct answer answer = {status.number, status.place, 0, 0, 0, 0};
+    struct answer answer = {status.number, status.place, 0, 0, 0, 0, 0};
     return answer;
 }
 
 static struct answer of_found(struct backoff_found found) {
-    struct answer answer = {found.number, found.place, found.found, found.p, found.b, 0};
+    struct answer answer = {found.number, found.place, found.found, found.p, found.b, found.left, 0};
     return answer;
 }
 
 static struct answer of_total(struct backoff_total total) {
-    struct answer answer = {total.number, total.place, 0, 0, 0, total.total};
+    struct answer answer = {total.number, total.place, 0, 0, 0, 0, total.total};
     return answer;
 }
 
@@ -114,7 +114,7 @@ static void see_array(struct slice table, const struct slice *after) {
     const int32_t *check = ints(after[2]);
     size_t rows = rows_in(table), taken = 0;
     require(is_head(after[1], after[2]), "the head of a built array");
-    require(base[1] == (int32_t)rows && check[0] == row_of(table, rows - 1)[0], "rows and order in the head");
+    require(base[1] == (int32_t)rows && order_in(after[2]) == row_of(table, rows - 1)[0], "rows and order in the head");
     for (size_t i = 0; i < after[1].count; i++) {
         taken += check[i] != INT32_MIN;
         require(check[i] != INT32_MIN || base[i] == 0, "a free slot");
@@ -126,7 +126,9 @@ static void see_array(struct slice table, const struct slice *after) {
         require(slot < after[1].count && check[slot] >= 0, "the slot of a row");
         size_t marker = (size_t)base[slot];
         require(marker < after[1].count && check[marker] == row[6] - 1, "p in the marker of a row");
-        require((base[marker] & ~1) == 2 * row[7], "b in the marker of a row");
+        struct found found = find_row(table, (const uint32_t *)row + 1, (size_t)row[0]);
+        require(base[marker] == 4 * row[7] + (found.extended ? 2 : 0) + (found.continued ? 1 : 0),
+                "b, e and f in the marker of a row");
     }
 }
 
@@ -156,14 +158,14 @@ static void see_build(const struct slice *before, const struct slice *after, str
 static void see_lookup(const struct slice *s, struct answer answer) {
     bool head = is_head(s[0], s[1]);
     bool counts = s[2].count >= 1 && s[2].count <= BACKOFF_ORDER_LIMIT;
-    require(answer.place == 0 && answer.found <= 1, "place and flag of a lookup");
+    require(answer.place == 0 && answer.found <= 1 && answer.left <= 1, "place and flags of a lookup");
     require((answer.number == 11) == !head, "11 exactly where the head is wrong");
     require((answer.number == 14) == (head && !counts), "14 exactly where the count is wrong");
-    require(answer.found == 1 || (answer.p == 0 && answer.b == 0), "zeros where nothing is found");
+    require(answer.found == 1 || (answer.p == 0 && answer.b == 0 && answer.left == 0), "zeros where nothing is found");
     require(answer.number == 0 || answer.found == 0, "nothing found where refused");
     require(answer.p <= 0 && answer.p >= BACKOFF_LEAST_PROBABILITY, "p in range");
     require(answer.b <= BACKOFF_LARGEST_BACKOFF && answer.b >= BACKOFF_LEAST_BACKOFF, "b in range");
-    if (head && counts && s[2].count > (size_t)ints(s[1])[0])
+    if (head && counts && s[2].count > (size_t)order_in(s[1]))
         require(answer.number == 0 && answer.found == 0, "more than n words are not found");
 }
 
@@ -178,7 +180,7 @@ static void see_start(const struct slice *before, const struct slice *after, str
     else if (answer.number != 0)
         require(is_all(after[2], BACKOFF_STATE_LENGTH, 0), "nine zeros after 11 and 12");
     else
-        require(is_state(after[2], ints(before[1])[0]) && ints(after[2])[0] <= 1, "the state after <s>");
+        require(is_state(after[2], order_in(before[1])) && ints(after[2])[0] <= 1, "the state after <s>");
 }
 
 /* What stands for scored words: a total that is the sum, points that five numbers in range can give, a matched length of 1
@@ -190,7 +192,7 @@ static void see_scored(struct slice points, struct slice lengths, size_t words, 
         sum += ints(points)[i];
         require(ints(points)[i] >= 5 * BACKOFF_LEAST_BACKOFF && ints(points)[i] <= 4 * BACKOFF_LARGEST_BACKOFF,
                 "points in range");
-        require(matched >= 1 && matched <= order && bytes_of(lengths)[i] < 16, "a length byte");
+        require(matched >= 1 && matched <= order && bytes_of(lengths)[i] < 32, "a length byte");
     }
     require(sum == total, "the total is the sum of the points");
 }
@@ -215,7 +217,7 @@ static void see_run(const struct slice *before, const struct slice *after, struc
     size_t words = before[3].count;
     bool head = is_head(before[0], before[1]);
     bool nine = before[2].count == BACKOFF_STATE_LENGTH;
-    int32_t order = head ? ints(before[1])[0] : 0;
+    int32_t order = head ? order_in(before[1]) : 0;
     bool state = nine && (!head || is_state(before[2], order));
     bool fits = before[4].count >= words && before[5].count >= words;
     require((answer.number == 16) == !state, "16 exactly where the state is wrong");
@@ -232,17 +234,30 @@ static void see_run(const struct slice *before, const struct slice *after, struc
     see_outputs(before + 4, after + 4, words, order, answer);
 }
 
-static void see_plain(const struct slice *before, const struct slice *after, struct answer answer) {
+/* 16 stands exactly where some listed row puts a word in front of the matched one; of a long text some words are tried. */
+static void see_extended(bool after_start, const struct slice *before, struct slice lengths) {
+    for (size_t i = 0; i < before[1].count; i++) {
+        uint8_t byte = bytes_of(lengths)[i];
+        if (before[1].count > 100 && below(1000) != 0)
+            continue;
+        bool extended = (byte & BACKOFF_EXTENDED_LENGTH) != 0;
+        require(extended == is_extended(before[0], after_start, before[1], i, byte & 7), "16 exactly where a row extends");
+    }
+}
+
+static void see_plain(bool after_start, const struct slice *before, const struct slice *after, struct answer answer) {
     size_t words = before[1].count;
     bool listed = answer.number == 0 || answer.number == 14 || answer.number == 15;
     bool fits = before[2].count >= words && before[3].count >= words;
-    struct answer verdict = {listed ? 0 : answer.number, answer.place, 0, 0, 0, 0};
+    struct answer verdict = {listed ? 0 : answer.number, answer.place, 0, 0, 0, 0, 0};
     see_verdict(before[0], verdict);
     require((answer.number == 14) == (listed && words > BACKOFF_RUN_LIMIT), "14 exactly where there are too many words");
     require((answer.number == 15) == (listed && words <= BACKOFF_RUN_LIMIT && !fits),
             "15 exactly where a slice is too short");
     int32_t order = answer.number == 0 ? row_of(before[0], rows_in(before[0]) - 1)[0] : 0;
     see_outputs(before + 2, after + 2, words, order, answer);
+    if (answer.number == 0)
+        see_extended(after_start, before, after[3]);
 }
 
 static void see_unload(const struct slice *before, const struct slice *after, struct answer answer) {
@@ -262,7 +277,8 @@ static void see_unload(const struct slice *before, const struct slice *after, st
         require(is_all(after[2], 8 * rows, 0) && is_all(after[3], rows, 0), "rows and slots 0 after 12");
 }
 
-static void see(enum call call, const struct slice *before, const struct slice *after, struct answer answer) {
+static void see(enum call call, bool after_start, const struct slice *before, const struct slice *after,
+                struct answer answer) {
     require(answer.number == 0 || (answer.number < NUMBERS && (FORMS[call].numbers >> answer.number & 1)),
             "one of the call's numbers");
     require(answer.number != 0 || answer.place == 0, "place 0 where accepted");
@@ -283,7 +299,7 @@ static void see(enum call call, const struct slice *before, const struct slice *
         see_run(before, after, answer);
         break;
     case PLAIN:
-        see_plain(before, after, answer);
+        see_plain(after_start, before, after, answer);
         break;
     default:
         see_unload(before, after, answer);
@@ -292,7 +308,7 @@ static void see(enum call call, const struct slice *before, const struct slice *
 
 static bool same_answer(struct answer a, struct answer b) {
     return a.number == b.number && a.place == b.place && a.found == b.found && a.p == b.p && a.b == b.b &&
-           a.total == b.total;
+           a.left == b.left && a.total == b.total;
 }
 
 /* The call that is made, or was made last. */
@@ -301,7 +317,7 @@ const char *call_name = "";
 struct answer ask(enum call call, bool after_start, struct slice *slices) {
     const struct form *form = &FORMS[call];
     struct slice before[MOST_SLICES];
-    struct answer answer = {0, 0, 0, 0, 0, 0};
+    struct answer answer = {0, 0, 0, 0, 0, 0, 0};
     call_name = form->name;
     memcpy(before, slices, form->slices * sizeof *slices);
     for (int placement = AT_END; placement < PLACEMENTS; placement++) {
@@ -315,7 +331,7 @@ struct answer ask(enum call call, bool after_start, struct slice *slices) {
         answer = given;
         memcpy(slices, left, form->slices * sizeof *slices);
     }
-    see(call, before, slices, answer);
+    see(call, after_start, before, slices, answer);
     met[call][answer.number]++;
     return answer;
 }

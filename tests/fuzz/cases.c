@@ -125,15 +125,17 @@ static void see_lookups(struct slice table, struct arrays built) {
         if (built.base.count > 10000 && !chance(5))
             continue;
         struct answer answer = look_up(built, row + 1, (size_t)row[0]);
+        bool left = find_row(table, (const uint32_t *)row + 1, (size_t)row[0]).extended;
         require(answer.number == 0 && answer.found == 1 && answer.p == row[6] && answer.b == row[7], "a row is found");
+        require(answer.left == (left ? 1 : 0), "left exactly if a row puts a word in front");
     }
     for (size_t left = 10; left > 0; left--) {
         struct slice words = text(table, 1 + below(5));
-        int32_t p = 0, b = 0;
-        bool listed = find_row(table, words_of(words), words.count, &p, &b);
+        struct found row = find_row(table, words_of(words), words.count);
         struct answer answer = look_up(built, words.items, words.count);
-        require(answer.number == 0 && answer.found == (listed ? 1 : 0) && answer.p == p && answer.b == b,
+        require(answer.number == 0 && answer.found == (row.listed ? 1 : 0) && answer.p == row.p && answer.b == row.b,
                 "found exactly if listed");
+        require(answer.left == (row.listed && row.extended ? 1 : 0), "left exactly if a row puts a word in front");
     }
 }
 
@@ -143,6 +145,15 @@ static void see_unloaded(struct slice table, struct arrays built) {
     require(answer.number == 0 && same(rows, table) && same(slots, built.work), "unloading returns the list");
 }
 
+/* A wrong e or f in any marker gives 12. */
+static void see_wrong_bit(struct slice table, struct arrays built) {
+    struct arrays wrong = {copy_of(built.base), built.check, built.work};
+    struct slice rows, slots;
+    int32_t node = ints(built.base)[words_of(built.work)[below(rows_in(table))]];
+    ints(wrong.base)[node] ^= 1 + (int32_t)below(3);
+    require(unload(wrong, table.count, rows_in(table), &rows, &slots).number == 12, "a wrong e or f gives 12");
+}
+
 /* The words in runs from carried states, refused and empty runs among them, against plain scoring of them all. */
 static void see_runs(struct slice table, struct arrays built, bool after_start) {
     struct slice words = text(table, below(12)), state = empty_state();
@@ -150,6 +161,7 @@ static void see_runs(struct slice table, struct arrays built, bool after_start) 
     int64_t total = 0;
     size_t done = 0;
     require(!after_start || start(built, &state).number == 0, "start over a built array");
+    require(same(state, state_after(table, after_start, part_of(words, 0, 0))), "the first state");
     for (size_t left = 8; left > 0; left--) {
         size_t end = left == 1 ? words.count : done + below(words.count - done + 1);
         size_t slack = below(3), lack = end > done && chance(20) && left > 1 ? 1 : 0;
@@ -164,6 +176,7 @@ static void see_runs(struct slice table, struct arrays built, bool after_start) 
         require(memcmp(part.lengths.items, bytes_of(all.lengths) + done, end - done) == 0,
                 "length bytes as by plain scoring");
         done = end;
+        require(same(state, state_after(table, after_start, part_of(words, 0, done))), "the state after the words");
     }
     require(all.answer.number == 0 && done == words.count && total == all.answer.total, "the total as by plain scoring");
 }
@@ -174,6 +187,7 @@ static void built_case(void) {
     struct arrays built = build_fitting(table);
     see_lookups(table, built);
     see_unloaded(table, built);
+    see_wrong_bit(table, built);
     see_runs(table, built, true);
     see_runs(table, built, false);
 }
@@ -202,13 +216,25 @@ static void see_split(struct arrays a, struct slice state, struct slice words) {
             "length bytes in two runs");
 }
 
+/* A word from the empty state is scored by its row of one word: p, and 16 as that row's lookup says left. */
+static void see_one_word(struct arrays a, struct slice words) {
+    struct scored one = run(a, empty_state(), words, 1, 1);
+    if (one.answer.number != 0)
+        return;
+    uint32_t unknown = BACKOFF_UNKNOWN_WORD;
+    uint8_t byte = bytes_of(one.lengths)[0];
+    struct answer row = look_up(a, byte & BACKOFF_UNKNOWN_LENGTH ? &unknown : words_of(words), 1);
+    require(row.number == 0 && row.found == 1 && row.p == ints(one.points)[0], "a word's points are its row's p");
+    require((row.left == 1) == ((byte & BACKOFF_EXTENDED_LENGTH) != 0), "16 exactly where the row's lookup says left");
+}
+
 /* What unloading accepts is an accepted list whose rows the array has, and building it again and unloading gives it back. */
 static void see_unload_of(struct arrays a) {
     struct slice table, slots;
     size_t rows = (size_t)ints(a.base)[1];
     if (unload(a, 8 * rows, rows, &table, &slots).number != 0)
         return;
-    require(check_list(table).number == 0 && row_of(table, rows - 1)[0] == ints(a.check)[0],
+    require(check_list(table).number == 0 && row_of(table, rows - 1)[0] == order_in(a.check),
             "an accepted list of the array's order");
     see_lookups(table, a);
     see_unloaded(table, build_fitting(table));
@@ -228,6 +254,9 @@ static struct arrays other_arrays(struct slice table) {
         slots = 2 * slots;
     if (chance(90))
         damage_arrays(a.base, a.check);
+    /* The head that arrays had before T-01. */
+    if (chance(5))
+        ints(a.check)[0] -= HEAD;
     return a;
 }
 
@@ -240,9 +269,13 @@ static void lent_case(void) {
     for (size_t left = 6; left > 0; left--) {
         struct slice sequence = text(table, chance(80) ? 1 + below(5) : below(8));
         look_up(a, sequence.items, sequence.count);
-        see_split(a, chance(50) ? state : own_state(is_head(a.base, a.check) ? ints(a.check)[0] : 3), text(table, below(8)));
+        see_split(a, chance(50) ? state : own_state(is_head(a.base, a.check) ? order_in(a.check) : 3), text(table, below(8)));
+        see_one_word(a, text(table, 1));
     }
-    if (is_head(a.base, a.check) && ints(a.base)[1] < 400)
+    struct slice rows, slots;
+    if (!is_head(a.base, a.check))
+        unload(a, table.count, rows_in(table), &rows, &slots);
+    else if (ints(a.base)[1] < 400)
         see_unload_of(a);
 }
 

@@ -60,19 +60,21 @@ static int32_t between(int32_t least, int32_t most) { return least + (int32_t)be
 int32_t extreme(void) {
     static const int32_t numbers[] = {
         INT32_MIN, INT32_MIN + 1,
-        -1980001,  -1980000,
+        -3960001,  -3960000,
         -990002,   -990001,
         -990000,   -2,
         -1,        0,
         1,         2,
         3,         4,
         5,         6,
+        8,         9,
+        13,        14,
         65534,     65535,
         65536,     65537,
         989999,    990000,
         990001,    1048575,
-        1048576,   1980001,
-        1980002,   INT32_MAX,
+        1048576,   3960003,
+        3960004,   INT32_MAX,
     };
     return numbers[below(sizeof numbers / sizeof numbers[0])];
 }
@@ -222,7 +224,7 @@ void draw_arrays(struct slice *base, struct slice *check) {
     }
     ints(*base)[0] = 1;
     ints(*base)[1] = between(3, 9);
-    ints(*check)[0] = between(1, BACKOFF_ORDER_LIMIT);
+    ints(*check)[0] = HEAD + between(1, BACKOFF_ORDER_LIMIT);
     ints(*check)[1] = -1;
 }
 

@@ -23,6 +23,15 @@ static bool has(const char *fault) {
     return chosen != NULL && strcmp(chosen, fault) == 0;
 }
 
+/* CHECK with the head of T-01 where it has the older one, for a library that takes both. */
+static const int32_t *with_new_head(const int32_t *check, size_t check_len, int32_t *copy) {
+    if (copy == NULL || check_len == 0 || check[0] < 1 || check[0] > BACKOFF_ORDER_LIMIT)
+        return check;
+    memcpy(copy, check, check_len * sizeof *check);
+    copy[0] += 8;
+    return copy;
+}
+
 struct backoff_status __wrap_backoff_check(const int32_t *table, size_t table_len) {
     struct backoff_status status = __real_backoff_check(table, table_len);
     if (has("check-reads-past-the-end"))
@@ -59,31 +68,68 @@ struct backoff_status __wrap_backoff_build(const int32_t *table, size_t table_le
         memset(work, 0, rows * sizeof *work);
         status.number = 10;
     }
+    for (size_t i = 0; status.number == 0 && i < rows; i++) {
+        int32_t *marker = &base[base[work[i]]];
+        if (has("build-takes-e-from-f"))
+            *marker = (*marker & ~2) + 2 * (*marker & 1);
+        if (has("build-takes-f-from-e"))
+            *marker = (*marker & ~1) + (*marker >> 1 & 1);
+        if (has("build-sets-e-for-every-row"))
+            *marker |= 2;
+    }
+    if (has("build-writes-the-older-head") && status.number == 0)
+        check[0] -= 8;
     return status;
 }
 
 struct backoff_found __wrap_backoff_lookup(const int32_t *base, size_t base_len, const int32_t *check, size_t check_len,
                                            const uint32_t *words, size_t words_len) {
-    struct backoff_found found = __real_backoff_lookup(base, base_len, check, check_len, words, words_len);
+    int32_t *copy = has("lookup-accepts-the-older-head") ? malloc(check_len * sizeof *check) : NULL;
+    struct backoff_found found =
+        __real_backoff_lookup(base, base_len, with_new_head(check, check_len, copy), check_len, words, words_len);
+    free(copy);
     if (has("lookup-never-finds"))
         found.found = 0, found.p = 0, found.b = 0;
     if (has("lookup-gives-another-b") && found.found == 1 && words_len == 3 && found.b < 0)
         found.b++;
     if (has("lookup-finds-what-is-not-listed") && found.number == 0 && words_len == 2)
         found.found = 1;
+    if (has("lookup-says-left-where-nothing-is-found") && found.number == 0 && found.found == 0)
+        found.left = 1;
+    if (has("lookup-says-left-where-it-refuses") && found.number == 12)
+        found.left = 1;
+    if (has("lookup-says-left-for-every-row") && found.found == 1)
+        found.left = 1;
+    if (has("lookup-forgets-left"))
+        found.left = 0;
     if (has("lookup-reads-a-sixth-word") && words_len == 5)
         sink = (int32_t) * (const volatile uint32_t *)(words + 5);
     return found;
 }
 
+/* Live by a marker's BASE that is not 0: a word whose row has e alone stays in the state. */
+static void live_by_base(const int32_t *base, size_t base_len, const int32_t *check, uint32_t word, int32_t *state) {
+    if (check[0] == 9 || state[0] != 0 || word > BACKOFF_WORD_LIMIT || word + 1 >= base_len || check[word + 1] != 0)
+        return;
+    if (base[base[word + 1]] == 2) {
+        state[0] = 1;
+        state[1] = (int32_t)word;
+    }
+}
+
 struct backoff_status __wrap_backoff_start(const int32_t *base, size_t base_len, const int32_t *check, size_t check_len,
                                            int32_t *state, size_t state_len) {
     int32_t given = state_len == 9 ? state[8] : 0;
-    struct backoff_status status = __real_backoff_start(base, base_len, check, check_len, state, state_len);
+    int32_t *copy = has("start-accepts-the-older-head") ? malloc(check_len * sizeof *check) : NULL;
+    struct backoff_status status =
+        __real_backoff_start(base, base_len, with_new_head(check, check_len, copy), check_len, state, state_len);
+    free(copy);
     if (has("start-keeps-the-state-after-11") && status.number == 11)
         state[8] = given;
     if (has("start-keeps-a-number") && status.number == 0)
         state[8] = given;
+    if (has("start-is-live-by-base") && status.number == 0)
+        live_by_base(base, base_len, check, BACKOFF_START_WORD, state);
     if (has("start-checks-11-before-16") && status.number == 16 && base_len != check_len)
         status.number = 11;
     return status;
@@ -111,15 +157,23 @@ static void spoil_run(struct backoff_total *total, int32_t *state, size_t words_
     if (has("run-adds-up-wrong") && total->number == 0 && words_len > 5)
         total->total++;
     if (has("run-forgets-the-unknown-bit") && total->number == 0 && words_len > 0)
-        lengths[words_len - 1] &= 7;
+        lengths[words_len - 1] &= BACKOFF_EXTENDED_LENGTH + 7;
+    if (has("run-adds-16-where-nothing-extends") && total->number == 0 && words_len > 0)
+        lengths[words_len - 1] |= BACKOFF_EXTENDED_LENGTH;
+    if (has("run-forgets-16") && total->number == 0 && words_len > 0)
+        lengths[words_len - 1] &= 15;
 }
 
 struct backoff_total __wrap_backoff_run(const int32_t *base, size_t base_len, const int32_t *check, size_t check_len,
                                         int32_t *state, size_t state_len, const uint32_t *words, size_t words_len,
                                         int32_t *points, size_t points_len, uint8_t *lengths, size_t lengths_len) {
-    struct backoff_total total = __real_backoff_run(base, base_len, check, check_len, state, state_len, words, words_len,
-                                                    points, points_len, lengths, lengths_len);
+    int32_t *copy = has("run-accepts-the-older-head") ? malloc(check_len * sizeof *check) : NULL;
+    struct backoff_total total = __real_backoff_run(base, base_len, with_new_head(check, check_len, copy), check_len, state,
+                                                    state_len, words, words_len, points, points_len, lengths, lengths_len);
+    free(copy);
     spoil_run(&total, state, words_len, points, points_len, lengths, lengths_len);
+    if (has("run-is-live-by-base") && total.number == 0 && words_len > 0)
+        live_by_base(base, base_len, check, words[words_len - 1], state);
     return total;
 }
 
@@ -131,14 +185,38 @@ struct backoff_total __wrap_backoff_plain(const int32_t *table, size_t table_len
         __real_backoff_plain(table, table_len, begin, words, words_len, points, points_len, lengths, lengths_len);
     if (has("plain-writes-before-15") && total.number == 15 && lengths_len > 0)
         lengths[0] = 0xFF & ~lengths[0];
-    if (has("plain-matches-one-word") && total.number == 0 && words_len > 0 && lengths[0] < 8)
-        lengths[0] = 1;
+    if (has("plain-matches-one-word") && total.number == 0 && words_len > 0 && (lengths[0] & 8) == 0)
+        lengths[0] = 1 + (lengths[0] & BACKOFF_EXTENDED_LENGTH);
+    if (has("plain-adds-16-where-nothing-extends") && total.number == 0 && words_len > 0)
+        lengths[0] |= BACKOFF_EXTENDED_LENGTH;
+    if (has("plain-forgets-16") && total.number == 0 && words_len > 0)
+        lengths[0] &= 15;
     return total;
+}
+
+/* Unloads as if the e of each marker were right: where one e alone is wrong, the list comes back. */
+static struct backoff_status unload_without_e(const int32_t *base, size_t base_len, const int32_t *check, size_t check_len,
+                                              int32_t *table, size_t table_len, uint32_t *work, size_t work_len) {
+    struct backoff_status status = {BACKOFF_BROKEN_NODE, 0};
+    int32_t *copy = malloc(base_len * sizeof *base);
+    for (size_t i = 2; copy != NULL && i < base_len && status.number != 0; i++) {
+        memcpy(copy, base, base_len * sizeof *base);
+        copy[i] ^= 2;
+        if (check[i] < 0)
+            status = __real_backoff_unload(copy, base_len, check, check_len, table, table_len, work, work_len);
+    }
+    free(copy);
+    return status;
 }
 
 struct backoff_status __wrap_backoff_unload(const int32_t *base, size_t base_len, const int32_t *check, size_t check_len,
                                             int32_t *table, size_t table_len, uint32_t *work, size_t work_len) {
-    struct backoff_status status = __real_backoff_unload(base, base_len, check, check_len, table, table_len, work, work_len);
+    int32_t *copy = has("unload-accepts-the-older-head") ? malloc(check_len * sizeof *check) : NULL;
+    struct backoff_status status = __real_backoff_unload(base, base_len, with_new_head(check, check_len, copy), check_len,
+                                                         table, table_len, work, work_len);
+    free(copy);
+    if (has("unload-ignores-e") && status.number == 12)
+        status = unload_without_e(base, base_len, check, check_len, table, table_len, work, work_len);
     if (has("unload-leaves-work-after-12") && status.number == 12)
         work[0] = 1;
     if (has("unload-writes-past-the-rows") && status.number == 0 && work_len > (size_t)base[1])

@@ -29,6 +29,7 @@ struct answer {
     uint32_t found;
     int32_t p;
     int32_t b;
+    uint32_t left;
     int64_t total;
 };
 
@@ -63,13 +64,26 @@ void damage_arrays(struct slice base, struct slice check);
 void draw_arrays(struct slice *base, struct slice *check);
 struct slice own_state(int32_t order);
 
-/* What document 01 says of a list, an array's head and a state, in its own words (rules.c). */
+/* What documents 01 and 02 say of a list, an array's head and a state, in their own words (rules.c). */
+enum { HEAD = 8 };
+
+struct found {
+    bool listed;
+    int32_t p;
+    int32_t b;
+    bool extended;
+    bool continued;
+};
+
 size_t rows_in(struct slice table);
 const int32_t *row_of(struct slice table, size_t row);
-bool find_row(struct slice table, const uint32_t *words, size_t count, int32_t *p, int32_t *b);
+struct found find_row(struct slice table, const uint32_t *words, size_t count);
+bool is_extended(struct slice table, bool after_start, struct slice words, size_t word, size_t matched);
+struct slice state_after(struct slice table, bool after_start, struct slice words);
 int compare_rows(const void *a, const void *b);
 struct answer verdict_on(struct slice table);
 bool is_head(struct slice base, struct slice check);
+int32_t order_in(struct slice check);
 bool is_state(struct slice state, int32_t order);
 
 /* A call in every placement, with all that must hold of any call (calls.c). Slices that it writes hold afterwards what it

@@ -1,4 +1,4 @@
-/* What document 01 says of a list, of an array's head and of a state, in its own words. */
+/* What documents 01 and 02 say of a list, of an array's head and of a state, in their own words. */
 #include "fuzz.h"
 
 static bool in_range(int32_t number, int32_t least, int32_t most) { return least <= number && number <= most; }
@@ -32,17 +32,71 @@ static bool is_before(struct slice table, size_t row, const int32_t *words, int3
     return false;
 }
 
-/* p and b of the row of these words, oldest first. */
-bool find_row(struct slice table, const uint32_t *words, size_t count, int32_t *p, int32_t *b) {
+/* p and b of the row of these words, oldest first, and whether a row puts a further word in front of it, or goes on after
+ * it. */
+struct found find_row(struct slice table, const uint32_t *words, size_t count) {
+    struct found found = {false, 0, 0, false, false};
+    size_t bytes = count * sizeof *words;
     for (size_t i = 0; i < rows_in(table); i++) {
         const int32_t *row = row_of(table, i);
-        if ((size_t)row[0] == count && memcmp(row + 1, words, count * sizeof *words) == 0) {
-            *p = row[6];
-            *b = row[7];
-            return true;
+        if ((size_t)row[0] == count && memcmp(row + 1, words, bytes) == 0) {
+            found.listed = true;
+            found.p = row[6];
+            found.b = row[7];
         }
+        bool longer = (size_t)row[0] == count + 1;
+        found.extended = found.extended || (longer && memcmp(row + 2, words, bytes) == 0);
+        found.continued = found.continued || (longer && memcmp(row + 1, words, bytes) == 0);
     }
-    return false;
+    return found;
+}
+
+/* "First every word without a one-word row is replaced by 1." */
+static uint32_t replaced(struct slice table, uint32_t word) {
+    return find_row(table, &word, 1).listed ? word : BACKOFF_UNKNOWN_WORD;
+}
+
+/* The newest words up to a word (numbered from 0), replaced, oldest first; a 2 stands before them all where start was used.
+ * Gives how many there are of those wanted. */
+static size_t newest(struct slice table, bool after_start, struct slice words, size_t end, size_t wanted, uint32_t *found) {
+    size_t all = end + (after_start ? 1 : 0);
+    size_t count = wanted < all ? wanted : all;
+    for (size_t i = 0; i < count; i++) {
+        size_t at = all - count + i;
+        uint32_t word = BACKOFF_START_WORD;
+        if (!after_start)
+            word = words_of(words)[at];
+        else if (at > 0)
+            word = words_of(words)[at - 1];
+        found[i] = replaced(table, word);
+    }
+    return count;
+}
+
+/* Whether some row puts a further word in front of the row of the matched length that ends with a word. */
+bool is_extended(struct slice table, bool after_start, struct slice words, size_t word, size_t matched) {
+    uint32_t row[BACKOFF_ORDER_LIMIT];
+    size_t count = newest(table, after_start, words, word + 1, matched, row);
+    return count == matched && find_row(table, row, count).extended;
+}
+
+/* "The state after a history is its longest live suffix"; "a row is live if its b is not 0 or its f is 1". */
+struct slice state_after(struct slice table, bool after_start, struct slice words) {
+    uint32_t history[BACKOFF_ORDER_LIMIT];
+    size_t order = (size_t)row_of(table, rows_in(table) - 1)[0];
+    size_t count = newest(table, after_start, words, words.count, order - 1, history);
+    struct slice state = block(BACKOFF_STATE_LENGTH, 4);
+    memset(state.items, 0, BACKOFF_STATE_LENGTH * 4);
+    for (size_t length = 1; length <= count; length++) {
+        struct found row = find_row(table, history + count - length, length);
+        if (row.listed && (row.b != 0 || row.continued))
+            ints(state)[0] = (int32_t)length;
+    }
+    for (size_t length = 1; length <= (size_t)ints(state)[0]; length++) {
+        ints(state)[length] = (int32_t)history[count - length];
+        ints(state)[4 + length] = find_row(table, history + count - length, length).b;
+    }
+    return state;
 }
 
 static bool words_fit(const int32_t *row) {
@@ -73,7 +127,7 @@ static uint32_t row_fault(struct slice table, size_t i) {
 
 /* "1, then row by row 3 to 8, then 9." */
 struct answer verdict_on(struct slice table) {
-    struct answer verdict = {BACKOFF_TABLE_LENGTH, 0, 0, 0, 0, 0};
+    struct answer verdict = {BACKOFF_TABLE_LENGTH, 0, 0, 0, 0, 0, 0};
     size_t rows = rows_in(table);
     if (rows == 0 || table.count % BACKOFF_ROW_ITEMS != 0 || rows > BACKOFF_ROW_LIMIT)
         return verdict;
@@ -91,11 +145,14 @@ struct answer verdict_on(struct slice table) {
     return verdict;
 }
 
+/* "CHECK[0] becomes n + 8." */
+int32_t order_in(struct slice check) { return ints(check)[0] - HEAD; }
+
 /* What 11 lets pass. */
 bool is_head(struct slice base, struct slice check) {
     if (base.count != check.count || base.count < 2 || base.count > BACKOFF_SLOT_LIMIT)
         return false;
-    return ints(base)[0] == 1 && in_range(ints(check)[0], 1, BACKOFF_ORDER_LIMIT) && ints(check)[1] == -1 &&
+    return ints(base)[0] == 1 && in_range(ints(check)[0], HEAD + 1, HEAD + BACKOFF_ORDER_LIMIT) && ints(check)[1] == -1 &&
            in_range(ints(base)[1], 3, BACKOFF_ROW_LIMIT);
 }
 

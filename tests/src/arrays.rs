@@ -1,6 +1,7 @@
 //! Arrays to lend: those of the placing rule, those of another rule, changed ones, and ones that no build wrote.
 
 use crate::random::Random;
+use crate::reference::array::HEAD;
 use crate::reference::build::{place, place_by, slots_used, write, Node, FREE};
 use crate::reference::list::{Row, LARGEST_B, LOWEST_P};
 
@@ -13,6 +14,11 @@ pub struct Arrays {
 impl Arrays {
     pub fn slots(&self) -> usize {
         self.base.len()
+    }
+
+    /// The order that the head tells.
+    pub fn order(&self) -> i32 {
+        self.check[0] - HEAD
     }
 
     /// Item i of BASE, then of CHECK.
@@ -73,11 +79,11 @@ pub fn each_change(arrays: &Arrays, mut see: impl FnMut(&Arrays)) {
     let mut changed = arrays.clone();
     for i in 0..2 * arrays.slots() {
         let old = *changed.item(i);
-        let near = [old.wrapping_sub(1), old.wrapping_add(1), old ^ 1, -old.max(-i32::MAX)];
+        let near = [old.wrapping_sub(1), old.wrapping_add(1), old ^ 1, old ^ 2, -old.max(-i32::MAX)];
         let slot_limits = [0, 1, 2, slots / 2, slots - 1, slots];
         let p_limits = [-1, LOWEST_P - 1, LOWEST_P - 2];
-        let packed_limits = [-2 * LARGEST_B - 1, -2 * LARGEST_B, 2 * LARGEST_B + 1, 2 * LARGEST_B + 2];
-        let other = [3, 4, 5, 6, 65_535, 65_536, i32::MAX, i32::MIN];
+        let packed_limits = [-4 * LARGEST_B - 1, -4 * LARGEST_B, 4 * LARGEST_B + 3, 4 * LARGEST_B + 4];
+        let other = [3, 5, HEAD, HEAD + 1, HEAD + 5, HEAD + 6, 65_535, 65_536, i32::MAX, i32::MIN];
         for value in near.into_iter().chain(slot_limits).chain(p_limits).chain(packed_limits).chain(other) {
             *changed.item(i) = value;
             see(&changed);
@@ -93,7 +99,7 @@ pub fn drawn(random: &mut Random) -> Arrays {
     let mut arrays = Arrays { base: vec![1; slots], check: vec![-1; slots] };
     for slot in 2..slots {
         arrays.base[slot] = match random.below(8) {
-            0 => random.pick(&[0, -1, last + 1, 2 * LARGEST_B + 2, i32::MIN, i32::MAX]),
+            0 => random.pick(&[0, -1, last + 1, 4 * LARGEST_B + 4, i32::MIN, i32::MAX]),
             _ => random.between(1, last),
         };
         arrays.check[slot] = match random.below(8) {
@@ -104,6 +110,6 @@ pub fn drawn(random: &mut Random) -> Arrays {
         };
     }
     arrays.base[1] = random.between(3, 12);
-    arrays.check[0] = random.between(1, 5);
+    arrays.check[0] = HEAD + random.between(1, 5);
     arrays
 }

@@ -1,4 +1,4 @@
-//! What the tests and the benchmarks share: a second implementation of the team's own, written from document 01 alone,
+//! What the tests and the benchmarks share: a second implementation of the team's own, written from documents 01 and 02 alone,
 //! random lists, and damage to them.
 
 pub mod arrays;

@@ -59,14 +59,14 @@ fn needed(rows: &[Row]) -> usize {
     slots_used(&place(rows))
 }
 
-/// The sample's array as worked by hand, K7 (N = 20 builds) and K8 (row 2 4: node in slot 12, marker in 16).
+/// The sample's array as worked by hand, K7 (N = 20 builds) and K8 (row 2 4: node in slot 12, marker in 16: CHECK −4001, BASE −1999).
 #[test]
 fn sample_array() {
     let cells = table(&lists::sample());
     let (refusal, base, check, work) = agreed(&mut Random::new(1), &cells, Lengths::of(20, 9));
     assert_eq!(refusal, ACCEPTED);
-    assert_eq!(base, [1, 9, 7, 8, 9, 10, 11, 0, -5999, 0, -3999, -1999, 16, 0, 13, 17, -999, 0, 0, 18]);
-    let expected = [3, -1, 0, 0, 0, 0, 0, -20001, -990001, -10001, -6001, -9001, 5, -1501, 4, 6, -4001, -3001, -1001, 15];
+    assert_eq!(base, [1, 9, 7, 8, 9, 10, 11, 0, -11999, 2, -7997, -3997, 16, 0, 13, 17, -1999, 2, 0, 18]);
+    let expected = [11, -1, 0, 0, 0, 0, 0, -20001, -990001, -10001, -6001, -9001, 5, -1501, 4, 6, -4001, -3001, -1001, 15];
     assert_eq!(check, expected);
     assert_eq!(work, [2, 3, 4, 5, 6, 14, 12, 15, 19]);
 }
@@ -95,6 +95,20 @@ fn random_lists() {
         let more = slots + random.below(100);
         assert_eq!(agreed(&mut random, &cells, Lengths::of(more, work)).0, ACCEPTED);
     }
+}
+
+/// A marker's BASE for each pair of e and f: no row on either side, one in front, one behind, both; and b at its limits.
+#[test]
+fn left_extension_in_markers() {
+    let row = |words: &[i32], b| Row { words: words.to_vec(), p: -1, b };
+    let (least, largest) = (-990_000, 990_000);
+    // Row 4 4 puts a word in front of 4 and goes on after it.
+    let rows =
+        [row(&[1], largest), row(&[2], largest), row(&[3], largest), row(&[4], least), row(&[5], least), row(&[2, 3], 0), row(&[4, 4], 0)];
+    let (refusal, base, check, work) = agreed(&mut Random::new(8), &table(&rows), Lengths::of(40, 7));
+    assert_eq!((refusal, check[0], base[1]), (ACCEPTED, 2 + 8, 7));
+    let markers: Vec<i32> = work.iter().map(|&slot| base[base[slot as usize] as usize]).collect();
+    assert_eq!(markers, [3_960_000, 3_960_001, 3_960_002, -3_959_997, -3_960_000, 0, 0]);
 }
 
 /// Every N from 0 to 40 on the sample, and the largest ones: 2 out of range, 10 below 20, accepted from there.

@@ -1,14 +1,15 @@
 //! `backoff_lookup` against the list itself and against the second lookup, over any lent arrays.
 
 use std::collections::HashMap;
+use std::ops::RangeInclusive;
 use tests::arrays::{built, drawn, each_change, spread, Arrays};
 use tests::guard::Guarded;
 use tests::lists;
 use tests::random::Random;
-use tests::reference::array::{lookup, Found, MOST_SLOTS};
-use tests::reference::list::{Row, ACCEPTED, MOST_ROWS};
+use tests::reference::array::{lookup, Found, HEAD, MOST_SLOTS};
+use tests::reference::list::{extended, Row, ACCEPTED, LARGEST_B, MOST_ROWS};
 
-const NOT_FOUND: Found = (ACCEPTED, false, 0, 0);
+const NOT_FOUND: Found = (ACCEPTED, false, 0, 0, false);
 
 /// The answer that the call and the second lookup agree on; nothing that is lent may be written.
 fn agreed(arrays: &Arrays, words: &[u32]) -> Found {
@@ -21,8 +22,8 @@ fn agreed(arrays: &Arrays, words: &[u32]) -> Found {
 /// The same without guard zones, for arrays that are too long to copy for each lookup.
 fn agreed_in_place(base: &[i32], check: &[i32], words: &[u32]) -> Found {
     let found = backoff::lookup(base, check, words);
-    assert!(found.found <= 1, "the flag is 0 or 1");
-    let answer = ((found.number, found.place), found.found == 1, found.p, found.b);
+    assert!(found.found <= 1 && found.left <= found.found, "the flags are 0 or 1, and left is 0 where nothing is found");
+    let answer = ((found.number, found.place), found.found == 1, found.p, found.b, found.left == 1);
     let first = |cells: &'_ [i32]| cells[..cells.len().min(60)].to_vec();
     assert_eq!(answer, lookup(base, check, words), "{words:?} in BASE {:?}, CHECK {:?}", first(base), first(check));
     answer
@@ -48,8 +49,52 @@ fn sequences(words: &[u32]) -> Vec<Vec<u32>> {
 #[test]
 fn k6() {
     let sample = built(&lists::sample(), 0);
-    assert_eq!(agreed(&sample, &[2, 4]), (ACCEPTED, true, -4_000, -500));
+    assert_eq!(agreed(&sample, &[2, 4]), (ACCEPTED, true, -4_000, -500, false));
     assert_eq!(agreed(&sample, &[5, 4]), NOT_FOUND);
+}
+
+/// Of the sample's rows 5 3, 2 4, 4 5 and 2 4 5 put a word in front of 3, 4, 5 and 4 5; no row puts one in front of the others.
+#[test]
+fn left_extension_of_the_sample() {
+    let sample = built(&lists::sample(), 0);
+    let left = |row: &Row| agreed(&sample, &unsigned(&row.words)).4;
+    let rows: Vec<Vec<i32>> = lists::sample().into_iter().filter(left).map(|row| row.words).collect();
+    assert_eq!(rows, [vec![3], vec![4], vec![5], vec![4, 5]]);
+}
+
+/// Over an array that no build wrote `left` is the marker's e, whatever rows there are; rows of n words are no exception.
+#[test]
+fn left_as_the_marker_says() {
+    for row in lists::sample() {
+        let mut arrays = built(&lists::sample(), 0);
+        let (words, marker) = (unsigned(&row.words), marker_of(&arrays, &row.words));
+        let (refusal, found, p, b, left) = agreed(&arrays, &words);
+        arrays.base[marker] ^= 2;
+        assert_eq!(agreed(&arrays, &words), (refusal, found, p, b, !left), "{words:?}");
+    }
+}
+
+/// The slot of the marker of a row's words.
+fn marker_of(arrays: &Arrays, words: &[i32]) -> usize {
+    let node = words.iter().rev().fold(0, |node, word| (arrays.base[node] + word) as usize);
+    arrays.base[node] as usize
+}
+
+/// 4 × b + 2 × e + f at the ends of b's range and of 32 bits: b in range is given back with e, all else gives 12.
+#[test]
+fn packed_limits() {
+    let mut arrays = built(&lists::sample(), 0);
+    let marker = marker_of(&arrays, &[2, 4]);
+    let ends: [RangeInclusive<i32>; 5] =
+        [i32::MIN..=i32::MIN + 9, -3_960_009..=-3_959_990, -9..=9, 3_959_990..=3_960_009, i32::MAX - 9..=i32::MAX];
+    for packed in ends.into_iter().flatten() {
+        arrays.base[marker] = packed;
+        let sound = (-3_960_000..=3_960_003).contains(&packed);
+        let b = packed.div_euclid(4);
+        assert_eq!(sound, (-LARGEST_B..=LARGEST_B).contains(&b));
+        let expected = if sound { (ACCEPTED, true, -4_000, b, packed.rem_euclid(4) >= 2) } else { ((12, 0), false, 0, 0, false) };
+        assert_eq!(agreed(&arrays, &[2, 4]), expected, "{packed}");
+    }
 }
 
 /// Lookup of 0 or above 5 words gives 14; of more words than the order is simply not found.
@@ -58,8 +103,8 @@ fn numbers_of_words() {
     let sample = built(&lists::sample(), 0);
     for count in 0..=8 {
         let expected = match count {
-            0 | 6.. => ((14, 0), false, 0, 0),
-            _ if count == 1 => (ACCEPTED, true, -6_000, -2_000),
+            0 | 6.. => ((14, 0), false, 0, 0, false),
+            _ if count == 1 => (ACCEPTED, true, -6_000, -2_000, true),
             _ => NOT_FOUND,
         };
         assert_eq!(agreed(&sample, &vec![4; count]), expected, "{count} words");
@@ -71,7 +116,7 @@ fn numbers_of_words() {
 fn words_out_of_range() {
     let largest = lists::all_words(&mut Random::new(1));
     let arrays = built(&largest, 200_000);
-    assert_eq!(agreed(&arrays, &[65_535]), (ACCEPTED, true, largest[65_534].p, 0));
+    assert_eq!(agreed(&arrays, &[65_535]), (ACCEPTED, true, largest[65_534].p, 0, false));
     for word in [0, 65_536, 65_537, 131_071, 1 << 20, u32::MAX, u32::MAX - 1, 1 << 31] {
         assert_eq!(agreed(&arrays, &[word]), NOT_FOUND, "{word}");
         assert_eq!(agreed(&built(&lists::sample(), 0), &[word, 4]), NOT_FOUND, "{word} 4");
@@ -87,7 +132,7 @@ fn no_child_above_the_largest_word() {
         arrays.plant(node, 65_535);
         arrays.plant(node, 65_537);
         let words = |word| if node == 0 { vec![word] } else { vec![word, 4] };
-        assert_eq!(agreed(&arrays, &words(65_535)), (ACCEPTED, true, -4, 0));
+        assert_eq!(agreed(&arrays, &words(65_535)), (ACCEPTED, true, -4, 0, false));
         assert_eq!(agreed(&arrays, &words(65_537)), NOT_FOUND);
         arrays = built(&lists::sample(), 0);
         arrays.plant(node, 65_536);
@@ -95,26 +140,30 @@ fn no_child_above_the_largest_word() {
     }
 }
 
-/// Every row is found with its own p and b, every other sequence is not found, in arrays of either placing.
+/// Every row is found with its own p and b, every other sequence is not found, in arrays of either placing; `left` is yes exactly if some
+/// listed row is these words with one more in front.
 #[test]
 fn found_exactly_if_listed() {
     let mut random = Random::new(2);
-    let mut unlisted = 0;
+    let (mut unlisted, mut lefts) = (0, 0);
     for i in 0..600 {
         let rows = lists::small(&mut random, 1 + i % 5);
-        let listed: HashMap<Vec<u32>, (i32, i32)> = rows.iter().map(|row| (unsigned(&row.words), (row.p, row.b))).collect();
+        let extended = extended(&rows);
+        let answer = |row: &Row| (ACCEPTED, true, row.p, row.b, extended.contains(&row.words[..]));
+        let listed: HashMap<Vec<u32>, Found> = rows.iter().map(|row| (unsigned(&row.words), answer(row))).collect();
+        lefts += listed.values().filter(|answer| answer.4).count();
         for arrays in [built(&rows, random.below(5)), spread(&mut random, &rows)] {
             for row in &rows {
                 let words = unsigned(&row.words);
-                assert_eq!(agreed_in_place(&arrays.base, &arrays.check, &words), (ACCEPTED, true, row.p, row.b));
+                assert_eq!(agreed_in_place(&arrays.base, &arrays.check, &words), answer(row));
                 let other = neighbour(&mut random, &words);
-                let expected = listed.get(&other).map_or(NOT_FOUND, |&(p, b)| (ACCEPTED, true, p, b));
+                let expected = listed.get(&other).copied().unwrap_or(NOT_FOUND);
                 assert_eq!(agreed_in_place(&arrays.base, &arrays.check, &other), expected, "{other:?}");
                 unlisted += !listed.contains_key(&other) as usize;
             }
         }
     }
-    assert!(unlisted > 10_000);
+    assert!(unlisted > 10_000 && lefts > 10_000, "{unlisted} {lefts}");
 }
 
 /// A sequence of one to five words that is a row's but for one word, one word more or less, or the order of the words.
@@ -139,9 +188,10 @@ fn longest_list() {
     let mut random = Random::new(3);
     let rows: Vec<Row> = lists::natural(&mut random, 5, 30_000, MOST_ROWS);
     let arrays = built(&rows, 0);
+    let extended = extended(&rows);
     for row in &rows {
-        let words = unsigned(&row.words);
-        assert_eq!(agreed_in_place(&arrays.base, &arrays.check, &words), (ACCEPTED, true, row.p, row.b));
+        let (words, left) = (unsigned(&row.words), extended.contains(&row.words[..]));
+        assert_eq!(agreed_in_place(&arrays.base, &arrays.check, &words), (ACCEPTED, true, row.p, row.b, left));
         agreed_in_place(&arrays.base, &arrays.check, &neighbour(&mut random, &words));
     }
 }
@@ -236,18 +286,18 @@ fn lengths_and_head() {
         agreed(&arrays, &[1]).0 .0
     };
     for rows in [3, 9, 65_535] {
-        assert!((1..=5).all(|order| head(1, rows, order, -1) == 0), "{rows} rows");
+        assert!((1..=5).all(|order| head(1, rows, order + HEAD, -1) == 0), "{rows} rows");
     }
     for (base0, base1, check0, check1) in [
-        (0, 9, 3, -1),
-        (2, 9, 3, -1),
-        (1, 2, 3, -1),
-        (1, 65_536, 3, -1),
-        (1, -9, 3, -1),
-        (1, 9, 0, -1),
-        (1, 9, 6, -1),
-        (1, 9, 3, 0),
-        (1, 9, 3, -2),
+        (0, 9, 11, -1),
+        (2, 9, 11, -1),
+        (1, 2, 11, -1),
+        (1, 65_536, 11, -1),
+        (1, -9, 11, -1),
+        (1, 9, 8, -1),
+        (1, 9, 14, -1),
+        (1, 9, 11, 0),
+        (1, 9, 11, -2),
     ] {
         assert_eq!(head(base0, base1, check0, check1), 11, "{base0} {base1} {check0} {check1}");
     }
@@ -269,6 +319,18 @@ fn lengths_and_head() {
         (2, 2, 0),
     ] {
         assert_eq!(with_lengths(base, check), number, "{base} {check}");
+    }
+}
+
+/// CHECK[0] is n + 8 with n 1..5, so 9 to 13; "any other head gives 11": n itself, as older arrays have it, too.
+#[test]
+fn other_heads() {
+    let mut arrays = built(&lists::sample(), 0);
+    let extremes = [i32::MIN, i32::MIN + 11, -11, 11 + 65_536, i32::MAX - 8, i32::MAX];
+    for head in (-20..=60).chain(extremes) {
+        arrays.check[0] = head;
+        let expected = if (9..=13).contains(&head) { (ACCEPTED, true, -6_000, -2_000, true) } else { ((11, 0), false, 0, 0, false) };
+        assert_eq!(agreed(&arrays, &[4]), expected, "{head}");
     }
 }
 

@@ -4,7 +4,7 @@ use tests::damage::{self, Cells};
 use tests::guard::Guarded;
 use tests::lists::{self, table, text};
 use tests::random::Random;
-use tests::reference::list::{Refusal, ACCEPTED, MOST_ROWS};
+use tests::reference::list::{Refusal, Row, ACCEPTED, MOST_ROWS};
 use tests::reference::rule::{plain, LONGEST_RUN};
 
 /// The answer, the points and the length bytes that the call and the second scorer agree on.
@@ -33,16 +33,16 @@ fn agreed(
     (refusal, answer.total, points, lengths)
 }
 
-/// The points of K1 to K4 from the plain sample.
+/// The points of K1 to K4 from the plain sample. Rows 5 3, 2 4, 4 5 and 2 4 5 put a word in front of 3, 4, 5 and 4 5: 16 in their bytes.
 #[test]
 fn k1_to_k4() {
     let mut random = Random::new(1);
     let cells = table(&lists::sample());
     let cases: [(&[u32], &[i32], &[u8]); 4] = [
         (&[4, 5, 3], &[-4_000, -1_000, -1_500], &[2, 3, 2]),
-        (&[5, 4, 3], &[-12_000, -7_000, -12_000], &[1, 1, 1]),
-        (&[9, 3], &[-23_000, -10_000], &[9, 1]),
-        (&[3], &[-13_000], &[1]),
+        (&[5, 4, 3], &[-12_000, -7_000, -12_000], &[17, 17, 17]),
+        (&[9, 3], &[-23_000, -10_000], &[9, 17]),
+        (&[3], &[-13_000], &[17]),
     ];
     for (words, expected, expected_lengths) in cases {
         let (refusal, total, points, lengths) = agreed(&mut random, &cells, true, words, (words.len(), words.len()));
@@ -55,23 +55,38 @@ fn k1_to_k4() {
 #[test]
 fn with_no_context() {
     let cells = table(&lists::sample());
-    let (_, total, points, _) = agreed(&mut Random::new(2), &cells, false, &[4, 5, 3], (3, 3));
-    assert_eq!((total, &points[..]), (-10_500, &[-6_000, -3_000, -1_500][..]));
+    let (_, total, points, lengths) = agreed(&mut Random::new(2), &cells, false, &[4, 5, 3], (3, 3));
+    assert_eq!((total, &points[..], &lengths[..]), (-10_500, &[-6_000, -3_000, -1_500][..], &[17, 18, 2][..]));
+}
+
+/// An unknown word whose row others put a word in front of: 8 and 16.
+#[test]
+fn unknown_and_extended() {
+    let mut rows = lists::sample();
+    rows.insert(5, Row { words: vec![2, 1], p: -700, b: 0 });
+    let (_, _, points, lengths) = agreed(&mut Random::new(8), &table(&rows), true, &[9, 9, 1], (3, 3));
+    assert_eq!((&points[..], &lengths[..]), (&[-700, -20_000, -20_000][..], &[2 + 8, 1 + 8 + 16, 1 + 8 + 16][..]));
 }
 
 /// Random lists of order 1 to 5 and texts with unknown words and marks anywhere, after `<s>` and without context.
 #[test]
 fn random_texts() {
     let mut random = Random::new(3);
+    let mut met = [0; 32];
     for i in 0..3_000 {
         let rows = lists::small(&mut random, 1 + i % 5);
         let length = random.below(30);
         let words = text(&mut random, &rows, length);
         let sizes = (length + random.below(3), length + random.below(3));
         for after_start in [false, true] {
-            assert_eq!(agreed(&mut random, &table(&rows), after_start, &words, sizes).0, ACCEPTED);
+            let (refusal, _, _, lengths) = agreed(&mut random, &table(&rows), after_start, &words, sizes);
+            assert_eq!(refusal, ACCEPTED);
+            lengths[..length].iter().for_each(|&byte| met[byte as usize] += 1);
         }
     }
+    // Every matched length, known and unknown, with and without a row that puts a word in front; five words have none.
+    let possible = |byte: usize| (1..=5).contains(&(byte % 8)) && byte % 8 + byte / 16 <= 5;
+    assert!((0..32).all(|byte| (met[byte] > 0) == possible(byte)), "{met:?}");
 }
 
 /// The longest text over the longest list; one word more gives 14.

@@ -95,7 +95,8 @@ fn build(rows: &[Row]) -> Arrays {
     arrays
 }
 
-/// K1 to K5: points of runs from start on the sample, and the states that they leave.
+/// K1 to K5: points of runs from start on the sample, and the states that they leave. Rows 5 3, 2 4, 4 5 and 2 4 5 put a word in front of
+/// 3, 4, 5 and 4 5: 16 in their bytes.
 #[test]
 fn k1_to_k5() {
     let mut random = Random::new(1);
@@ -104,9 +105,9 @@ fn k1_to_k5() {
     assert_eq!(state, [1, 2, 0, 0, 0, -3_000, 0, 0, 0]);
     let cases: [(&[u32], &[i32], &[u8]); 4] = [
         (&[4, 5, 3], &[-4_000, -1_000, -1_500], &[2, 3, 2]),
-        (&[5, 4, 3], &[-12_000, -7_000, -12_000], &[1, 1, 1]),
-        (&[9, 3], &[-23_000, -10_000], &[9, 1]),
-        (&[3], &[-13_000], &[1]),
+        (&[5, 4, 3], &[-12_000, -7_000, -12_000], &[17, 17, 17]),
+        (&[9, 3], &[-23_000, -10_000], &[9, 17]),
+        (&[3], &[-13_000], &[17]),
     ];
     for (words, points, lengths) in cases {
         let outcome = agreed_exact(&mut random, &sample, &state, words);
@@ -116,6 +117,100 @@ fn k1_to_k5() {
     let after = agreed_exact(&mut random, &sample, &state, &[4, 5]).state;
     assert_eq!(after, [1, 5, 0, 0, 0, -1_000, 0, 0, 0]);
     assert_eq!(agreed_exact(&mut random, &sample, &after, &[3]).state, EMPTY);
+    // Without context.
+    let outcome = agreed_exact(&mut random, &sample, &EMPTY, &[4, 5, 3]);
+    assert_eq!((&outcome.points[..], &outcome.lengths[..]), (&[-6_000, -3_000, -1_500][..], &[17, 18, 2][..]));
+}
+
+/// The texts of K1 to K4, without context and with other ends, so that each row of the sample is some word's matched row.
+const TEXTS: [&[u32]; 5] = [&[4, 5, 3], &[5, 4, 3], &[9, 3], &[2, 4, 5], &[2, 2, 4, 5, 3]];
+
+/// The slots of the markers of the sample's rows 1, 2, 3, 4, 5, 5 3, 2 4, 4 5 and 2 4 5.
+const MARKERS: [usize; 9] = [7, 8, 9, 10, 11, 13, 16, 17, 18];
+
+/// Over an array that no build wrote, 16 is as the e of the marker says whose p was used, also where that row has n words or is word 1's;
+/// points and states stay.
+#[test]
+fn extended_as_the_marker_says() {
+    let mut random = Random::new(16);
+    let sample = build(&lists::sample());
+    for marker in MARKERS {
+        let mut changed = sample.clone();
+        changed.base[marker] ^= 2;
+        let mut flipped = 0;
+        for words in TEXTS {
+            let (before, after) = (agreed_exact(&mut random, &sample, &EMPTY, words), agreed_exact(&mut random, &changed, &EMPTY, words));
+            assert_eq!((&after.points, after.total, &after.state), (&before.points, before.total, &before.state), "{marker}");
+            for (old, new) in before.lengths.iter().zip(&after.lengths) {
+                assert!(new == old || *new == old ^ 16, "{old} {new}");
+                flipped += (new != old) as usize;
+            }
+        }
+        assert!(flipped > 0, "the marker in {marker} was used");
+    }
+    let mut changed = sample.clone();
+    (changed.base[18], changed.base[7]) = (2, 2);
+    assert_eq!(agreed_exact(&mut random, &changed, &EMPTY, &[2, 4, 5, 9]).lengths, [1, 2, 3 + 16, 1 + 8 + 16]);
+}
+
+/// A row is live if its b is not 0 or its f is 1; e plays no part. BASE 2 is b = 0, e = 1, f = 0.
+#[test]
+fn live_but_not_by_e() {
+    let mut random = Random::new(17);
+    let mut arrays = build(&lists::sample());
+    for (packed, live) in
+        [(0, false), (2, false), (1, true), (3, true), (4, true), (6, true), (-4, true), (-2, true), (-3_960_000, true), (3_960_002, true)]
+    {
+        // The markers of rows 3 and 4 5; that of row 5 has b.
+        (arrays.base[9], arrays.base[17]) = (packed, packed);
+        let b = packed >> 2;
+        let expected = if live { [1, 3, 0, 0, 0, b, 0, 0, 0] } else { EMPTY };
+        assert_eq!(agreed_exact(&mut random, &arrays, &EMPTY, &[3]).state, expected, "{packed}");
+        let expected = if live { [2, 5, 4, 0, 0, -1_000, b, 0, 0] } else { [1, 5, 0, 0, 0, -1_000, 0, 0, 0] };
+        assert_eq!(agreed_exact(&mut random, &arrays, &EMPTY, &[4, 5]).state, expected, "{packed}");
+        let mut after_start = arrays.clone();
+        after_start.base[8] = packed;
+        let expected = if live { [1, 2, 0, 0, 0, b, 0, 0, 0] } else { EMPTY };
+        assert_eq!(agreed_start(&after_start, &[3; 9]), (ACCEPTED, expected.to_vec()), "{packed}");
+    }
+}
+
+/// 4 × b + 2 × e + f at the ends of b's range and of 32 bits: out of range gives 12 at the word.
+#[test]
+fn packed_limits() {
+    let mut random = Random::new(18);
+    let mut arrays = build(&lists::sample());
+    for (packed, sound) in [
+        (-3_960_001, false),
+        (-3_960_000, true),
+        (-3_959_997, true),
+        (3_960_000, true),
+        (3_960_003, true),
+        (3_960_004, false),
+        (i32::MIN, false),
+        (i32::MIN + 3, false),
+        (i32::MAX, false),
+        (i32::MAX - 3, false),
+    ] {
+        arrays.base[11] = packed;
+        let outcome = agreed_exact(&mut random, &arrays, &EMPTY, &[9, 5, 9]);
+        let b = packed.div_euclid(4);
+        assert_eq!(outcome.refusal, if sound { ACCEPTED } else { (12, 2) }, "{packed}");
+        assert_eq!(outcome.points, if sound { [-20_000, -9_000, b - 20_000] } else { [0; 3] }, "{packed}");
+    }
+}
+
+/// CHECK[0] is n + 8 with n 1..5; any other head gives 11 to start and run, the n of older arrays too.
+#[test]
+fn other_heads() {
+    let mut random = Random::new(19);
+    let mut arrays = built(&lists::sample(), 0);
+    for head in (-20..=60).chain([i32::MIN, i32::MAX]) {
+        arrays.check[0] = head;
+        let expected = if (9..=13).contains(&head) { ACCEPTED } else { (11, 0) };
+        assert_eq!(agreed_start(&arrays, &[3; 9]).0, expected, "{head}");
+        assert_eq!(agreed_exact(&mut random, &arrays, &EMPTY, &[4, 5]).refusal, expected, "{head}");
+    }
 }
 
 /// Runs in a row, held to the rule over all preceding words.
@@ -499,7 +594,7 @@ fn drawn_arrays() {
         let arrays = drawn(&mut random);
         let words: Vec<u32> = (0..4).map(|_| random.below(30) as u32).collect();
         let (_, state) = agreed_start(&arrays, &[8; 9]);
-        let own = own_state(&mut random, arrays.check[0], &words);
+        let own = own_state(&mut random, arrays.order(), &words);
         met.add(agreed_exact(&mut random, &arrays, &state, &words).refusal, 4);
         met.add(agreed_exact(&mut random, &arrays, &own, &words).refusal, 4);
     }

@@ -145,6 +145,17 @@ fn sample_of_document_01() {
     assert_eq!(agreed(sample(), text), expected);
 }
 
+/// Unknown words are told by the 8 in their length bytes: 5 and 4 in the second sentence have 1 + 16 and are known; 9 has 2 + 8 after `<s>`, by row
+/// 2 1, and 1 + 8 + 16 after 4.
+#[test]
+fn unknown_words_by_their_bit() {
+    let mut rows = lists::sample();
+    rows.insert(5, Row { words: vec![2, 1], p: -700, b: 0 });
+    let text = text_of(&[vec![4, 5], vec![5, 4], vec![9], vec![4, 9]]);
+    let expected = "       1       2       0           -6500\n       2       2       0          -31000\n       3       1       1          -10700\n       4       2       1          -36500\n";
+    assert_eq!(agreed(list(&rows), text), expected);
+}
+
 #[test]
 fn random_lists_and_texts() {
     let (mut built, mut no_room) = (0, 0);

@@ -4,7 +4,7 @@ use tests::arrays::{built, drawn, each_change, spread, Arrays};
 use tests::guard::Guarded;
 use tests::lists::{self, table};
 use tests::random::Random;
-use tests::reference::array::MOST_SLOTS;
+use tests::reference::array::{HEAD, MOST_SLOTS};
 use tests::reference::build::FREE;
 use tests::reference::list::{verdict, Refusal, Row, ACCEPTED, MOST_ROWS};
 use tests::reference::unload::unload;
@@ -98,7 +98,7 @@ fn arrays_of_another_placing() {
         assert_eq!((refusal, cells), (ACCEPTED, table(&rows)));
         for (row, &slot) in rows.iter().zip(&work) {
             let marker = arrays.base[slot as usize] as usize;
-            assert_eq!((arrays.check[marker] + 1, arrays.base[marker] >> 1), (row.p, row.b));
+            assert_eq!((arrays.check[marker] + 1, arrays.base[marker] >> 2), (row.p, row.b));
         }
     }
 }
@@ -128,7 +128,7 @@ fn order_of_refusals() {
     assert!(cells[72..].iter().all(|&cell| cell != 0) && work[9..].iter().all(|&item| item != 0));
     assert_eq!(agreed(&mut random, &broken, (71, 9)).0, (15, 0));
     assert_eq!(agreed(&mut random, &broken, (72, 8)).0, (15, 0));
-    broken.check[0] = 6;
+    broken.check[0] = 3;
     assert_eq!(agreed(&mut random, &broken, (0, 0)).0, (11, 0));
 }
 
@@ -149,12 +149,18 @@ fn lengths_of_the_arrays() {
 /// Damage to the sample's array: its name, the array with spare slots from 20 on, and whether it is still accepted.
 type Case = (&'static str, fn(&mut Arrays), bool);
 
-const CASES: [Case; 26] = [
+const CASES: [Case; 34] = [
     ("nothing", |_| (), true),
     ("a lost child", |a| a.check[19] = -1, false),
     ("a lost child, and one row less", |a| (a.check[15], a.base[1]) = (-1, 7), false),
-    // Row 5 3 hangs below row 3 in slot 14; its marker is in 13.
-    ("row 5 3 lost, one row less and f of row 5 right", |a| (a.check[14], a.base[1], a.base[11]) = (-1, 8, -2_000), true),
+    // Row 5 3 hangs below row 3 in slot 14; its marker is in 13. It puts a word in front of row 3 (marker in 9) and goes on after row 5 (in 11).
+    (
+        "row 5 3 lost, one row less, f of row 5 and e of row 3 right",
+        |a| (a.check[14], a.base[1], a.base[11], a.base[9]) = (-1, 8, -3_998, 0),
+        true,
+    ),
+    ("row 5 3 lost, one row less and f of row 5 right", |a| (a.check[14], a.base[1], a.base[11]) = (-1, 8, -3_998), false),
+    ("row 5 3 lost, one row less and e of row 3 right", |a| (a.check[14], a.base[1], a.base[9]) = (-1, 8, 0), false),
     ("row 5 3 lost, and one row less", |a| (a.check[14], a.base[1]) = (-1, 8), false),
     // Word 20 below the root: slot 21, marker in 22.
     ("an extra child", |a| add(a, 21, 0, 22), false),
@@ -172,20 +178,33 @@ const CASES: [Case; 26] = [
     ("a child whose row without the last word is missing", |a| add_row(a, 29, 4, 30), false),
     // A child of row 2 4 5 (slot 19, d = 18) is deeper than n words and not looked at.
     ("a child below n words", |a| add(a, 21, 19, 22), true),
+    (
+        "a child below n words, told by e",
+        |a| {
+            add(a, 21, 19, 22);
+            a.base[18] = 2;
+        },
+        false,
+    ),
     ("a slot as of word 65,536", |a| a.plant(0, 65_536), true),
     ("a slot as of word 65,535", |a| a.plant(0, 65_535), false),
     ("f set where no row goes on", |a| a.base[7] = 1, false),
-    ("f not set where a row goes on", |a| a.base[8] = -6_000, false),
+    ("f not set where a row goes on", |a| a.base[8] = -12_000, false),
     ("f set in a row of n words", |a| a.base[18] = 1, false),
-    ("b in a row of n words", |a| a.base[18] = 2, false),
+    ("e set where no row puts a word in front", |a| a.base[7] = 2, false),
+    ("e not set where a row puts a word in front", |a| a.base[17] = 0, false),
+    ("e set in a row of n words", |a| a.base[18] = 2, false),
+    ("e in the place of f", |a| a.base[8] = -11_998, false),
+    ("b in a row of n words", |a| a.base[18] = 4, false),
     ("a broken marker", |a| a.check[17] = 0, false),
     ("another p", |a| a.check[17] = -990_001, true),
     ("one row too few", |a| a.base[1] = 8, false),
     ("one row too many", |a| a.base[1] = 10, false),
-    ("an order below the longest row", |a| a.check[0] = 2, false),
-    ("an order above the longest row", |a| a.check[0] = 4, false),
-    // Row 2 4 has its marker in 16; it may have no b then.
-    ("an order that cuts the longest row off", |a| (a.check[0], a.base[1], a.base[16]) = (2, 8, 0), true),
+    ("an order below the longest row", |a| a.check[0] = HEAD + 2, false),
+    ("an order above the longest row", |a| a.check[0] = HEAD + 4, false),
+    // Row 2 4 has its marker in 16, row 4 5 in 17; they may have no b and no e then.
+    ("an order that cuts the longest row off", |a| (a.check[0], a.base[1], a.base[16], a.base[17]) = (HEAD + 2, 8, 0, 0), true),
+    ("an order that cuts the longest row off, which e still tells", |a| (a.check[0], a.base[1], a.base[16]) = (HEAD + 2, 8, 0), false),
     ("no row for word 1", |a| (a.check[2], a.base[1]) = (-1, 8), false),
     (
         "cycles and rubbish in slots that no walk reaches",
@@ -221,6 +240,43 @@ fn damaged_sample() {
         assert_eq!(agreed_roomy(&mut random, &arrays), expected, "{name}");
         let before = [table(&lists::sample()), vec![0; 8]].concat();
         assert_eq!(agreed_over(&arrays, before, vec![2, 3, 4, 5, 6, 14, 12, 15, 19, 0]).0, expected, "{name}");
+    }
+}
+
+/// An e or an f that is wrong in any one marker gives 12, in arrays of either placing.
+#[test]
+fn one_wrong_bit() {
+    let mut random = Random::new(13);
+    for i in 0..200 {
+        let rows = lists::tiny(&mut random, 1 + i % 5);
+        for mut arrays in [built(&rows, 1), spread(&mut random, &rows)] {
+            let (refusal, _, work) = agreed(&mut random, &arrays, (8 * rows.len(), rows.len()));
+            assert_eq!(refusal, ACCEPTED);
+            for &slot in &work {
+                let marker = arrays.base[slot as usize] as usize;
+                for bits in 1..=3 {
+                    arrays.base[marker] ^= bits;
+                    assert_eq!(agreed_roomy(&mut random, &arrays), (12, 0), "{rows:?} with the marker in {marker} changed by {bits}");
+                    arrays.base[marker] ^= bits;
+                }
+            }
+        }
+    }
+}
+
+/// CHECK[0] is n + 8 with n 1..5: the n of older arrays and any other head gives 11; another n is another order, and gives 12.
+#[test]
+fn other_heads() {
+    let mut random = Random::new(14);
+    let mut arrays = built(&lists::sample(), 0);
+    for head in (-20..=60).chain([i32::MIN, i32::MAX]) {
+        arrays.check[0] = head;
+        let expected = match head {
+            11 => ACCEPTED,
+            9..=13 => (12, 0),
+            _ => (11, 0),
+        };
+        assert_eq!(agreed(&mut random, &arrays, (72, 9)).0, expected, "{head}");
     }
 }
 
@@ -286,7 +342,7 @@ fn misleading_arrays() {
             for d in [|_| 1, |slot: usize| slot as i32, |slot: usize| slot as i32 / 2] {
                 let mut arrays = Arrays { base: (0..MOST_SLOTS).map(d).collect(), check: (0..MOST_SLOTS).map(parent).collect() };
                 arrays.base[..2].copy_from_slice(&[1, MOST_ROWS as i32]);
-                arrays.check[..2].copy_from_slice(&[order, -1]);
+                arrays.check[..2].copy_from_slice(&[HEAD + order, -1]);
                 assert_eq!(agreed_roomy(&mut random, &arrays), (12, 0));
             }
         }

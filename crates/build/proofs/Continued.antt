@@ -17,14 +17,14 @@ use Rattle.list.specs.Table.{rowsOf, words, withoutLast}
 use Rattle.list.specs.Search.{findIn}
 use Rattle.list.specs.Check.{verdict}
 use Rattle.list.specs.Good.{Good}
-use Rattle.list.specs.ListModel.{continuedBelow}
+use Rattle.list.specs.ListModel.{anyBelow, continuedBelow}
 use Rattle.list.specs.declared.Found.the-variants.{At, Nothing}
 use Rattle.list.proofs.Search.{found-words, finds, find-unique}
 use Rattle.list.proofs.Check.{accepted-good}
 use Rattle.build.specs.Steps.{itemOf, Flagged}
 
 pub flag-first : (t : List ℤ) → Flagged t 0 (replicate (rowsOf t) 0)
-unfolding continuedBelow
+unfolding anyBelow
 flag-first t = record { each = length-replicate (rowsOf t) 0; item = λ j l. getD-replicate (rowsOf t) j 0 0 l }
 
 module _ (t : List ℤ) (a : verdict t ≡ Accepted) (i : ℕ) (W : List ℕ) (F : Flagged t i W) where
@@ -32,7 +32,7 @@ module _ (t : List ℤ) (a : verdict t ≡ Accepted) (i : ℕ) (W : List ℕ) (F
   good = accepted-good t a
 
   continued-step : (us : List ℕ) → continuedBelow t us (i + 1) ≡ sameWords (withoutLast t i) us || continuedBelow t us i
-  unfolding continuedBelow
+  unfolding anyBelow
   continued-step us = rw (add-one i)
 
   -- a row that row i does not continue keeps its f

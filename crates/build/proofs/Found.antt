@@ -1,4 +1,4 @@
--- Over the array that an accepted build leaves, a lookup finds exactly the rows of the list, each with its own p and b. Assumes nothing.
+-- Over the array that an accepted build leaves, a lookup finds exactly the rows of the list, each with its own p and b, and with left exactly where some row puts a further word in front. Assumes nothing.
 use mathlib.Core.Path.{_≡_, refl, sym, ap, _∙_}
 use mathlib.Core.Bool.{Bool, true, false, cond, _&&_}
 use mathlib.Core.List.{List, reverse, reverse-reverse}
@@ -37,12 +37,12 @@ module _ (t : List ℤ) (a : verdict t ≡ Accepted) (ws : List ℕ) where
       let l : listed (modelOf t) (reverse ws) ≡ true = rw (reverse-reverse ws, e) in
       absurd (omega (arith, accepted-model t a .short (reverse ws) l, length-reverse ws))
 
-  pub looked-up : (f : Row) → lookupOf (lookEntry (entryAt t ws f)) ≡ answerAt t f
+  pub looked-up : (f : Row) → lookupOf (lookEntry (entryAt t ws f)) ≡ answerAt t ws f
   looked-up (At j) = refl
   looked-up Nothing = refl
 
   module _ {base check : List ℤ} (h : HoldsList t base check) where
-    walked : lookupOf (lookRow base check (reverse ws)) ≡ answerAt t (findIn t ws)
+    walked : lookupOf (lookRow base check (reverse ws)) ≡ answerAt t ws (findIn t ws)
     unfolding modelOf
     walked = ap lookupOf (h .look (reverse ws)) ∙ rw (reverse-reverse ws) (looked-up (findIn t ws))
 
@@ -51,10 +51,10 @@ module _ (t : List ℤ) (a : verdict t ≡ Accepted) (ws : List ℕ) where
     held-lookup = rw (opened-some base check (h .array)) (go (leb 1 (length ws) && leb (length ws) orderLimit) (leb (length ws) (orderIn check)) refl)
       where
         go : (counted short : Bool) → leb (length ws) (orderIn check) ≡ short
-            → cond counted (cond short (lookupOf (lookRow base check (reverse ws))) NotFound) (Refused wordCount 0) ≡ cond counted (answerAt t (findIn t ws)) (Refused wordCount 0)
+            → cond counted (cond short (lookupOf (lookRow base check (reverse ws))) NotFound) (Refused wordCount 0) ≡ cond counted (answerAt t ws (findIn t ws)) (Refused wordCount 0)
         go false short e = refl
         go true true e = walked
-        go true false e = ap (answerAt t) (sym (above-order (omega (arith, leb-false (length ws) (orderIn check) e, h .order)) (findIn t ws) refl))
+        go true false e = ap (answerAt t ws) (sym (above-order (omega (arith, leb-false (length ws) (orderIn check) e, h .order)) (findIn t ws) refl))
 
 -- for any words, those outside 1..65,535 too, and any number of them
 pub found-exactly-if-listed : (table base check : List ℤ) (work ws : List ℕ) → buildOutcome table base check work .answer ≡ Accepted

@@ -22,7 +22,7 @@ use Rattle.list.specs.Table.{rowsOf, field, probabilityAt, backoffAt, lengthOf,
 use Rattle.list.specs.Search.{findIn, Stretch}
 use Rattle.list.specs.Check.{verdict}
 use Rattle.list.specs.Good.{Good}
-use Rattle.list.specs.ListModel.{continuedIn}
+use Rattle.list.specs.ListModel.{extendedIn, continuedIn}
 use Rattle.list.specs.declared.Found.{Found}
 use Rattle.list.specs.declared.Found.the-variants.{At, Nothing}
 use Rattle.list.proofs.Table.{row-in, words-length, words-cons}
@@ -184,31 +184,31 @@ module _ (t : List ℤ) (a : verdict t ≡ Accepted) where
       let u = between-high leastProbability (pos 0) p (accepted-row t a i h .fields .probability) in
       omega (zarith, abs p, sub p (pos 1))
 
-  pub row-marker : (i : ℕ) → i < rowsOf t → nodeMarker (nodeOf t i) ≡ Sound (probabilityAt t i) (backoffAt t i) (continuedIn t (words t i))
+  pub row-marker : (i : ℕ) → i < rowsOf t → nodeMarker (nodeOf t i) ≡ Sound (probabilityAt t i) (backoffAt t i) (extendedIn t (words t i)) (continuedIn t (words t i))
   unfolding nodeOf
   row-marker i h =
       let r = accepted-row t a i h in
       rw (row-check i h)
-      (marker-round-trip (probabilityAt t i) (backoffAt t i) (continuedIn t (words t i)) (r .fields .probability) (backoff-in t (orderOf t) i (r .fields .backoff)))
+      (marker-round-trip (probabilityAt t i) (backoffAt t i) (extendedIn t (words t i)) (continuedIn t (words t i)) (r .fields .probability) (backoff-in t (orderOf t) i (r .fields .backoff)))
 
-  pub root-marker : nodeMarker (rootOf t) ≡ Sound (pos 0) (half (pos (rowsOf t))) (odd (pos (rowsOf t)))
+  pub root-marker : nodeMarker (rootOf t) ≡ Sound (pos 0) (half (half (pos (rowsOf t)))) (odd (half (pos (rowsOf t)))) (odd (pos (rowsOf t)))
   unfolding rootOf inProbability inBackoff
   root-marker =
       let z = accepted-size t a in
       let n = pos (rowsOf t) in
       marker-sound (negsuc 0) n
-      (and-both (inProbability (pos 0)) (inBackoff (half n)) (unfold between in refl)
-      (between-yes (negℤ (pos largestBackoff)) (pos largestBackoff) (half n) (omega (zarith, shr 2 n tt)) (omega (zarith, shr 2 n tt, z .1))))
+      (and-both (inProbability (pos 0)) (inBackoff (half (half n))) (unfold between in refl)
+      (between-yes (negℤ (pos largestBackoff)) (pos largestBackoff) (half (half n)) (omega (zarith, shr 2 n tt, shr 2 (half n) tt)) (omega (zarith, shr 2 n tt, shr 2 (half n) tt, z .1))))
 
   pub nodes-sound : (m : Node) → List·Memᴰ m (nodesOf t) → nodeMarker m ≢ Broken
   nodes-sound m h e = go (node-cases t m h)
     where
-      sound : (k : Node) (p b : ℤ) (f : Bool) → m ≡ k → nodeMarker k ≡ Sound p b f → ⊥
-      sound k p b f q s = let z : _≡_ {A = ℕ} 0 1 = cc (ap nodeMarker q) in omega arith
+      sound : (k : Node) (p b : ℤ) (x f : Bool) → m ≡ k → nodeMarker k ≡ Sound p b x f → ⊥
+      sound k p b x f q s = let z : _≡_ {A = ℕ} 0 1 = cc (ap nodeMarker q) in omega arith
 
       go : (m ≡ rootOf t) ⊎ ((i : ℕ) × (i < rowsOf t) × (m ≡ nodeOf t i)) → ⊥
-      go (inl q) = sound (rootOf t) _ _ _ q root-marker
-      go (inr r) = sound (nodeOf t (r .0)) _ _ _ (r .2) (row-marker (r .0) (r .1))
+      go (inl q) = sound (rootOf t) _ _ _ _ q root-marker
+      go (inr r) = sound (nodeOf t (r .0)) _ _ _ _ (r .2) (row-marker (r .0) (r .1))
 
   -- ---- where words are found
 

@@ -6,7 +6,7 @@ use mathlib.Core.List.{List, [], _∷_, tail-eq-of-cons-eq}
 use Prim.Native.Nat.{ℕ, suc, _+_, _*_, _-_, _/_, _%_, _≤_, _<_, max}
 use native.Mathlib.Omega.{arith}
 use native.Mathlib.Numerals.{add-one}
-use lib.Dec.{leb, eqb, lit<}
+use lib.Dec.{leb, ltb, eqb, lit<}
 use lib.IntN.{ℤ, pos, negsuc}
 use lib.ListN.{length, getD, set, take, drop, length-drop}
 use lib.Seq.{length-take-le, getD-take, getD-drop}
@@ -17,7 +17,8 @@ use Rattle.double_array.specs.DoubleArray.{freeCheck, markerCheck, markerBase, 
 use Rattle.list.specs.Table.{rowsOf, field, probabilityAt, backoffAt, orderOf, wordOf, words, withoutFirst}
 use Rattle.list.specs.Search.{Stretch}
 use Rattle.list.specs.Check.{verdict}
-use Rattle.list.specs.ListModel.{continuedIn}
+use Rattle.list.specs.ListModel.{extendedIn, continuedIn}
+use Rattle.list.proofs.ListModel.{stretch-extended}
 use Rattle.list.proofs.Table.{row-in, words-cons}
 use Rattle.list.proofs.Check.{accepted-good}
 use Rattle.placing.specs.Trie.{Node, children, nodeAt}
@@ -257,9 +258,9 @@ module _ (t : List ℤ) (a : verdict t ≡ Accepted) (i : ℕ) (l : i < rowsOf t
   row-mark : markerCheck (probabilityAt t i) ≡ negsuc (nodeAt (nodesOf t) (i + 1) .cost)
   row-mark = rw node-is (sym (row-check t a i l))
 
-  row-load : markerBase (backoffAt t i) (eqb (getD W i 0 % 2) 1) ≡ nodeAt (nodesOf t) (i + 1) .load
+  row-load : (e : Bool) → extendedIn t (words t i) ≡ e → markerBase (backoffAt t i) e (eqb (getD W i 0 % 2) 1) ≡ nodeAt (nodesOf t) (i + 1) .load
   unfolding nodeOf
-  row-load = rw (node-is, F .item i l, item-flag (placedNodes t (i + 1) .slot (words t i)) (continuedIn t (words t i)))
+  row-load e q = rw (node-is, q, F .item i l, item-flag (placedNodes t (i + 1) .slot (words t i)) (continuedIn t (words t i)))
 
   pub row-has-slot : (s : ℕ) → s ≡ getD W i 0 / 2 → HasSlot B C s
   row-has-slot s e = has-slot t a row-in-nodes F s (row-slot s e)
@@ -270,7 +271,7 @@ module _ (t : List ℤ) (a : verdict t ≡ Accepted) (i : ℕ) (l : i < rowsOf t
     row-fits = omega (arith, S .order, S .within)
 
     pub row-tried : {s : ℕ} {mark load : ℤ} {placed : Bool} {B′ C′ : List ℤ} {I′ : List ℕ}
-        → s ≡ getD W i 0 / 2 → mark ≡ markerCheck (probabilityAt t i) → load ≡ markerBase (backoffAt t i) (eqb (getD W i 0 % 2) 1)
+        → s ≡ getD W i 0 / 2 → mark ≡ markerCheck (probabilityAt t i) → load ≡ markerBase (backoffAt t i) (ltb from to) (eqb (getD W i 0 % 2) 1)
         → NodePlaced (partRows t from (to - from)) s mark load (fitOf C (partRows t from (to - from))) B C (take (to - from) (drop from W)) placed B′ C′ I′
         → Tried t N (placedNodes t (i + 2)) placed B′ C′ (back from (to - from) W I′)
     row-tried {s} e f g D =
@@ -278,5 +279,5 @@ module _ (t : List ℤ) (a : verdict t ≡ Accepted) (i : ℕ) (l : i < rowsOf t
         rw two
         (tried t a row-in-nodes F
         (oldest-rows t from (to - from) row-fits ∙ sym (ap (children (nodesOf t)) words-is ∙ children-stretch t a i from to S))
-        (row-slot s e) (f ∙ row-mark) (g ∙ row-load) D
+        (row-slot s e) (f ∙ row-mark) (g ∙ row-load (ltb from to) (stretch-extended t i from to S)) D
         from (to - from) (subst (λ (us : List ℕ). Children t us from (to - from)) (sym words-is) (row-children t i from to S)) refl (λ j h. middle-field t from (to - from) j 1 h (lit< tt)))

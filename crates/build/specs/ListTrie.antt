@@ -4,14 +4,14 @@ use mathlib.Core.List.{List, [], _∷_}
 use Prim.Native.Nat.{ℕ, zero, suc, _≤_, _<_}
 use lib.IntN.{ℤ, pos, natAbs}
 use Rattle.list.specs.Table.{rowsOf, field, probabilityAt, backoffAt, lengthOf, orderOf, wordOf, words}
-use Rattle.list.specs.ListModel.{continuedIn}
+use Rattle.list.specs.ListModel.{extendedIn, continuedIn}
 use Rattle.double_array.specs.DoubleArray.{markerBase}
 use Rattle.placing.specs.Trie.{Node}
 use Rattle.placing.specs.Placing.{Placed, placing}
 
--- row i's node: "A row's marker has CHECK = p − 1 and BASE = 2 × b + f", and p is not positive
+-- row i's node: "A row's marker has CHECK = p − 1", its BASE is "4 × b + 2 × e + f", and p is not positive
 unfoldable pub nodeOf : List ℤ → ℕ → Node
-nodeOf t i = record { words = words t i; cost = natAbs (probabilityAt t i); load = markerBase (backoffAt t i) (continuedIn t (words t i)) }
+nodeOf t i = record { words = words t i; cost = natAbs (probabilityAt t i); load = markerBase (backoffAt t i) (extendedIn t (words t i)) (continuedIn t (words t i)) }
 
 -- "CHECK[1] is −1 and BASE[1] is the number of rows": the root's marker
 unfoldable pub rootOf : List ℤ → Node

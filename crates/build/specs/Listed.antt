@@ -9,16 +9,17 @@ use Rattle.backoff.specs.Limits.{orderLimit}
 use Rattle.backoff.specs.Refusal.{wordCount}
 use Rattle.list.specs.Table.{probabilityAt, backoffAt}
 use Rattle.list.specs.Search.{findIn}
+use Rattle.list.specs.ListModel.{extendedIn}
 use Rattle.list.specs.declared.Found.{Found as Row}
 use Rattle.list.specs.declared.Found.the-variants.{At, Nothing}
 use Rattle.double_array.specs.declared.Lookup.{Lookup}
 use Rattle.double_array.specs.declared.Lookup.the-variants.{Found, NotFound, Refused}
 
--- the row's own p and b
-abbrev pub answerAt : List ℤ → Row → Lookup
-answerAt t (At i) = Found (probabilityAt t i) (backoffAt t i)
-answerAt t Nothing = NotFound
+-- the row's own p and b, and whether some listed row puts a further word in front of the words
+abbrev pub answerAt : List ℤ → List ℕ → Row → Lookup
+answerAt t ws (At i) = Found (probabilityAt t i) (backoffAt t i) (extendedIn t ws)
+answerAt t ws Nothing = NotFound
 
 -- "lookup of 0 or above 5 words" is 14; else words, oldest first, are found exactly if they are listed
 unfoldable pub listedAnswer : List ℤ → List ℕ → Lookup
-listedAnswer t ws = cond (leb 1 (length ws) && leb (length ws) orderLimit) (answerAt t (findIn t ws)) (Refused wordCount 0)
+listedAnswer t ws = cond (leb 1 (length ws) && leb (length ws) orderLimit) (answerAt t ws (findIn t ws)) (Refused wordCount 0)

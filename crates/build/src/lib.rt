@@ -151,15 +151,15 @@ fn place_node(
     true
 }
 
-// The node of row i, whose work item holds its slot and f.
-fn row_node(table: &[i32], i: usize, item: u32) -> Node
+// The node of row i, whose work item holds its slot and f; it is extended or not.
+fn row_node(table: &[i32], i: usize, item: u32, extended: bool) -> Node
     requires { ⌜ (verdict (now table) ≡ Accepted) × (i < rowsOf (now table)) ⌝ }
-    ensures { λ r. ⌜ (r .slot ≡ item / 2) × (r .mark ≡ markerCheck (probabilityAt (now (table .entry)) i)) × (r .load ≡ markerBase (backoffAt (now (table .entry)) i) (eqb (item % 2) 1)) ⌝ }
+    ensures { λ r. ⌜ (r .slot ≡ item / 2) × (r .mark ≡ markerCheck (probabilityAt (now (table .entry)) i)) × (r .load ≡ markerBase (backoffAt (now (table .entry)) i) extended (eqb (item % 2) 1)) ⌝ }
 {
     Node {
         slot: (item / 2) as usize,
         mark: double_array::marker_check(list::field(table, i, 6)),
-        load: double_array::marker_base(list::field(table, i, 7), item % 2 == 1),
+        load: double_array::marker_base(list::field(table, i, 7), extended, item % 2 == 1),
     }
 }
 
@@ -177,8 +177,8 @@ fn place_row(
     requires { ⌜ Filled (now table) (length (now check)) (placedNodes (now table) (i + 1)) (now base) (now check) (now work) ⌝ }
     ensures { λ r. ⌜ Tried (now (table .entry)) (length (now (check .entry))) (placedNodes (now (table .entry)) (i + 2)) r (now (base .exit)) (now (check .exit)) (now (work .exit)) ⌝ }
 {
-    let node = row_node(table, i, work[i]);
     let list::Span { from, to } = list::children(table, i, near);
+    let node = row_node(table, i, work[i], from < to);
     let first = 8 * from;
     let end = 8 * to;
     place_node(

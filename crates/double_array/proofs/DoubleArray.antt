@@ -40,11 +40,11 @@ all-four false b c d h = absurd (false≢true h)
 -- ---- markers
 
 module _ (check base : ℤ) where
-  pub marker-sound : (inProbability (check +ℤ pos 1) && inBackoff (half base)) ≡ true → markerOf check base ≡ Sound (check +ℤ pos 1) (half base) (odd base)
+  pub marker-sound : (inProbability (check +ℤ pos 1) && inBackoff (half (half base))) ≡ true → markerOf check base ≡ Sound (check +ℤ pos 1) (half (half base)) (odd (half base)) (odd base)
   unfolding markerOf
   marker-sound e = rw e
 
-  pub marker-broken : (inProbability (check +ℤ pos 1) && inBackoff (half base)) ≡ false → markerOf check base ≡ Broken
+  pub marker-broken : (inProbability (check +ℤ pos 1) && inBackoff (half (half base))) ≡ false → markerOf check base ≡ Broken
   unfolding markerOf
   marker-broken e = rw e
 
@@ -52,32 +52,34 @@ twice-half : (z : ℤ) → twice (half z) (odd z) ≡ z
 twice-half z = omega (zarith, half-odd z, add (pos 2 *ℤ half z) (bit (odd z)), mul 2 (half z), bit-bounds (odd z))
 
 -- a sound marker behind two tests
-guarded : (t u : Bool) (m : Marker) (p b : ℤ) (f : Bool) → cond (t && u) m Broken ≡ Sound p b f → (t ≡ true) × (u ≡ true) × (m ≡ Sound p b f)
-guarded true true m p b f h = (refl, refl, h)
-guarded true false m p b f h = absurd (false≢true (cc))
-guarded false u m p b f h = absurd (false≢true (cc))
+guarded : (t u : Bool) (m : Marker) (p b : ℤ) (e f : Bool) → cond (t && u) m Broken ≡ Sound p b e f → (t ≡ true) × (u ≡ true) × (m ≡ Sound p b e f)
+guarded true true m p b e f h = (refl, refl, h)
+guarded true false m p b e f h = absurd (false≢true (cc))
+guarded false u m p b e f h = absurd (false≢true (cc))
 
 -- what is read was packed, and is in range
-sound-read : (check base p b : ℤ) (f : Bool) → markerOf check base ≡ Sound p b f → (check ≡ markerCheck p) × (base ≡ markerBase b f) × (inProbability p ≡ true) × (inBackoff b ≡ true)
+sound-read : (check base p b : ℤ) (e f : Bool) → markerOf check base ≡ Sound p b e f → (check ≡ markerCheck p) × (base ≡ markerBase b e f) × (inProbability p ≡ true) × (inBackoff b ≡ true)
 unfolding markerOf
-sound-read check base p b f h =
-    let tests = guarded (inProbability (check +ℤ pos 1)) (inBackoff (half base)) (Sound (check +ℤ pos 1) (half base) (odd base)) p b f h in
+sound-read check base p b e f h =
+    let upper = half base in
+    let tests = guarded (inProbability (check +ℤ pos 1)) (inBackoff (half upper)) (Sound (check +ℤ pos 1) (half upper) (odd upper) (odd base)) p b e f h in
     let q : check +ℤ pos 1 ≡ p = cc in
-    let r : half base ≡ b = cc in
-    (omega (zarith, add check (pos 1), sub p (pos 1)), cc (twice-half base), rw q at (tests .0), rw r at (tests .1))
+    let r : half upper ≡ b = cc in
+    (omega (zarith, add check (pos 1), sub p (pos 1)), cc (twice-half base, twice-half upper), rw q at (tests .0), rw r at (tests .1))
 
-pub sound-in-range : (check base p b : ℤ) (f : Bool) → markerOf check base ≡ Sound p b f → (inProbability p ≡ true) × (inBackoff b ≡ true)
-sound-in-range check base p b f h = let r = sound-read check base p b f h in (r .2, r .3)
+pub sound-in-range : (check base p b : ℤ) (e f : Bool) → markerOf check base ≡ Sound p b e f → (inProbability p ≡ true) × (inBackoff b ≡ true)
+sound-in-range check base p b e f h = let r = sound-read check base p b e f h in (r .2, r .3)
 
 -- what was packed is read
-pub marker-round-trip : (p b : ℤ) (f : Bool) → inProbability p ≡ true → inBackoff b ≡ true → markerOf (markerCheck p) (markerBase b f) ≡ Sound p b f
-marker-round-trip p b f hp hb =
-    let e : markerCheck p +ℤ pos 1 ≡ p = omega (zarith, sub p (pos 1), add (markerCheck p) (pos 1)) in
-    marker-sound (markerCheck p) (markerBase b f) (and-both _ _ (ap inProbability e ∙ hp) (ap inBackoff (half-twice b f) ∙ hb))
-    ∙ rw (e, half-twice b f, odd-twice b f)
+pub marker-round-trip : (p b : ℤ) (e f : Bool) → inProbability p ≡ true → inBackoff b ≡ true → markerOf (markerCheck p) (markerBase b e f) ≡ Sound p b e f
+marker-round-trip p b e f hp hb =
+    let q : markerCheck p +ℤ pos 1 ≡ p = omega (zarith, sub p (pos 1), add (markerCheck p) (pos 1)) in
+    let upper : half (markerBase b e f) ≡ twice b e = half-twice (twice b e) f in
+    marker-sound (markerCheck p) (markerBase b e f) (and-both _ _ (ap inProbability q ∙ hp) (ap inBackoff (ap half upper ∙ half-twice b e) ∙ hb))
+    ∙ rw (q, upper, half-twice b e, odd-twice b e, odd-twice (twice b e) f)
 
 -- K8, by computing; and a p that is stored as it is, 0 for one, is no marker
-k8 : markerOf (negsuc 4000) (negsuc 998) ≡ Sound (negsuc 3999) (negsuc 499) true
+k8 : markerOf (negsuc 4000) (negsuc 1998) ≡ Sound (negsuc 3999) (negsuc 499) false true
 unfolding markerOf inProbability inBackoff between
 k8 = refl
 
@@ -86,29 +88,29 @@ unfolding markerOf inProbability inBackoff between
 p-itself = refl
 
 -- "A marker is sound if 1 ≤ d < N and the p and b read from it are in range."
-pub record IsMarker (base check : List ℤ) (s : ℕ) (p b : ℤ) (f : Bool) : Type 0 where
+pub record IsMarker (base check : List ℤ) (s : ℕ) (p b : ℤ) (e f : Bool) : Type 0 where
   pub some-base : pos 1 ≤ℤ baseAt base check s
   pub inside : natAbs (baseAt base check s) < length check
   pub p-packed : checkAt base check (natAbs (baseAt base check s)) ≡ markerCheck p
-  pub b-packed : baseAt base check (natAbs (baseAt base check s)) ≡ markerBase b f
+  pub b-packed : baseAt base check (natAbs (baseAt base check s)) ≡ markerBase b e f
   pub p-in-range : inProbability p ≡ true
   pub b-in-range : inBackoff b ≡ true
 
-module _ (base check : List ℤ) (s : ℕ) (p b : ℤ) (f : Bool) where
-  pub marker-shown : IsMarker base check s p b f → markerAt base check s ≡ Sound p b f
+module _ (base check : List ℤ) (s : ℕ) (p b : ℤ) (e f : Bool) where
+  pub marker-shown : IsMarker base check s p b e f → markerAt base check s ≡ Sound p b e f
   unfolding markerAt
   marker-shown m =
       let d = baseAt base check s in
       let l : leZ (pos 1) d ≡ true = omega zarith in
       let u : ltZ d (pos (length check)) ≡ true = omega (zarith, abs d) in
-      rw (l, u, m .p-packed, m .b-packed) (marker-round-trip p b f (m .p-in-range) (m .b-in-range))
+      rw (l, u, m .p-packed, m .b-packed) (marker-round-trip p b e f (m .p-in-range) (m .b-in-range))
 
-  pub marker-told : markerAt base check s ≡ Sound p b f → IsMarker base check s p b f
+  pub marker-told : markerAt base check s ≡ Sound p b e f → IsMarker base check s p b e f
   unfolding markerAt
   marker-told h =
       let d = baseAt base check s in
-      let tests = guarded (leZ (pos 1) d) (ltZ d (pos (length check))) (markerOf (checkAt base check (natAbs d)) (baseAt base check (natAbs d))) p b f h in
-      let r = sound-read (checkAt base check (natAbs d)) (baseAt base check (natAbs d)) p b f (tests .2) in
+      let tests = guarded (leZ (pos 1) d) (ltZ d (pos (length check))) (markerOf (checkAt base check (natAbs d)) (baseAt base check (natAbs d))) p b e f h in
+      let r = sound-read (checkAt base check (natAbs d)) (baseAt base check (natAbs d)) p b e f (tests .2) in
       record { some-base = omega zarith; inside = omega (zarith, abs d); p-packed = r .0; b-packed = r .1; p-in-range = r .2; b-in-range = r .3 }
 
 -- ---- children
@@ -228,7 +230,7 @@ module _ (base check : List ℤ) (h : isArray base check ≡ true) where
   opened-order = let o = order-told check (opened-head .order) in omega (zarith, abs (getD check 0 freeCheck))
 
   -- the marker of the root is slot 1
-  pub root-sound : markerAt base check 0 ≡ Sound (pos 0) (half (baseAt base check 1)) (odd (baseAt base check 1))
+  pub root-sound : markerAt base check 0 ≡ Sound (pos 0) (half (half (baseAt base check 1))) (odd (half (baseAt base check 1))) (odd (baseAt base check 1))
   unfolding markerAt inProbability inBackoff between
   root-sound =
       let z = opened-sizes in
@@ -236,7 +238,7 @@ module _ (base check : List ℤ) (h : isArray base check ≡ true) where
       let rows = baseAt base check 1 in
       let l = between-low (pos 3) (pos rowLimit) rows (opened-head .rows) in
       let u = between-high (pos 3) (pos rowLimit) rows (opened-head .rows) in
-      let b = between-yes (negℤ (pos largestBackoff)) (pos largestBackoff) (half rows) (omega (zarith, shr 2 rows tt)) (omega (zarith, shr 2 rows tt)) in
+      let b = between-yes (negℤ (pos largestBackoff)) (pos largestBackoff) (half (half rows)) (omega (zarith, shr 2 rows tt, shr 2 (half rows) tt)) (omega (zarith, shr 2 rows tt, shr 2 (half rows) tt)) in
       rw (opened-head .root-base, inside, opened-head .root-check) (marker-sound (negsuc 0) rows (and-both _ _ refl b))
 
   pub opened-some : opened base check ≡ some (storeIn base check)
@@ -259,13 +261,13 @@ opened-none base check h = rw h
 -- ---- the walk
 
 module _ (base check : List ℤ) (s : ℕ) where
-  pub look-here : (p b : ℤ) (f : Bool) → markerAt base check s ≡ Sound p b f → lookFrom base check s [] ≡ here (record { p = p; b = b; f = f })
+  pub look-here : (p b : ℤ) (e f : Bool) → markerAt base check s ≡ Sound p b e f → lookFrom base check s [] ≡ here (record { p = p; b = b; e = e; f = f })
   unfolding lookFrom
-  look-here p b f e = rw e
+  look-here p b e f m = rw m
 
-  pub look-down : (p b : ℤ) (f : Bool) (w : ℕ) (ws : List ℕ) → markerAt base check s ≡ Sound p b f → lookFrom base check s (w ∷ ws) ≡ downTo (childAt base check s w) (λ (t : ℕ). lookFrom base check t ws)
+  pub look-down : (p b : ℤ) (e f : Bool) (w : ℕ) (ws : List ℕ) → markerAt base check s ≡ Sound p b e f → lookFrom base check s (w ∷ ws) ≡ downTo (childAt base check s w) (λ (t : ℕ). lookFrom base check t ws)
   unfolding lookFrom
-  look-down p b f w ws e = rw e
+  look-down p b e f w ws m = rw m
 
   pub look-broken : (ws : List ℕ) → markerAt base check s ≡ Broken → lookFrom base check s ws ≡ broken
   unfolding lookFrom

@@ -15,7 +15,7 @@ use Rattle.backoff.specs.Limits.{orderLimit}
 use Rattle.backoff.specs.Refusal.{arrayHead, brokenNode, wordCount}
 use Rattle.backoff.specs.Store.{Look, absent, broken, here, Store, modelIn}
 use Rattle.double_array.specs.DoubleArray.{lookFrom, isArray, orderIn, storeIn, opened}
-use Rattle.double_array.specs.Lookup.{lookupOf, lookupIn, lookupOutcome, numberOf, placeOf, foundOf, pOf, bOf, IsRow, IsNoRow, RefusedBy, no-array, word-count, broken-node, LookupMeans}
+use Rattle.double_array.specs.Lookup.{lookupOf, lookupIn, lookupOutcome, numberOf, placeOf, foundOf, pOf, bOf, leftOf, IsRow, IsNoRow, RefusedBy, no-array, word-count, broken-node, LookupMeans}
 use Rattle.double_array.specs.declared.Lookup.{Lookup}
 use Rattle.double_array.specs.declared.Lookup.the-variants.{Found, NotFound, Refused}
 use Rattle.double_array.proofs.DoubleArray.{opened-some, opened-none, opened-order, look-row}
@@ -27,11 +27,11 @@ reverse-take l k d h = rw (take-suc l k d h, reverse-append (take k l) (getD l k
 module _ (base check : List ℤ) (ws : List ℕ) where
   -- what an answer means, by the numbers that the caller reads
   abbrev pub AnswerMeans : Lookup → Type 0
-  AnswerMeans r = LookupMeans base check ws (numberOf r) (placeOf r) (foundOf r) (pOf r) (bOf r)
+  AnswerMeans r = LookupMeans base check ws (numberOf r) (placeOf r) (foundOf r) (pOf r) (bOf r) (leftOf r)
 
   -- an answer of one kind means nothing of the other two
-  found-means : (p b : ℤ) → IsRow base check ws p b → AnswerMeans (Found p b)
-  found-means p b h = record { yes = λ e. h; no = λ e. absurd (omega arith); refused = λ n. absurd (n refl); no-place = refl }
+  found-means : (p b : ℤ) (left : Bool) → IsRow base check ws p b (cond left 1 0) → AnswerMeans (Found p b left)
+  found-means p b left h = record { yes = λ e. h; no = λ e. absurd (omega arith); refused = λ n. absurd (n refl); no-place = refl }
 
   not-found-means : IsNoRow base check ws → AnswerMeans NotFound
   not-found-means h = record { yes = λ e. absurd (omega arith); no = λ e f. h; refused = λ n. absurd (n refl); no-place = refl }
@@ -44,7 +44,7 @@ module _ (base check : List ℤ) (ws : List ℕ) where
   unfolding modelIn
   look-means S o h absent e = not-found-means (record { store = S; opens = o; no-row = inr (rw e (refl, refl)) })
   look-means S o h broken e = refused-means brokenNode (λ z. omega arith) (broken-node S o h (rw e))
-  look-means S o h (here x) e = found-means (x .p) (x .b) (record { store = S; opens = o; short = h; f = x .f; row = rw e })
+  look-means S o h (here x) e = found-means (x .p) (x .b) (x .e) (record { store = S; opens = o; short = h; e = x .e; f = x .f; row = rw e; left-is = refl })
 
   store-means : (S : Store) → opened base check ≡ some S → AnswerMeans (lookupIn (some S) ws)
   store-means S o = counted (leb 1 (length ws)) (leb (length ws) orderLimit) (leb (length ws) (S .order)) refl refl refl

@@ -22,24 +22,26 @@ use Rattle.double_array.specs.declared.Child.the-variants.{At, Nothing}
 abbrev pub freeCheck : ℤ
 freeCheck = negsuc 2147483647
 
--- "CHECK[0] is n": the order, and what is added to it there
+-- "CHECK[0] becomes n + 8, and any other head gives 11": the order, and what is added to it there
 abbrev pub headOffset : ℕ
-headOffset = 0
+headOffset = 8
 
 abbrev pub headCheck : ℕ → ℤ
 headCheck n = pos (n + headOffset)
 
--- "A row's marker has CHECK = p − 1 and BASE = 2 × b + f"
+-- "A row's marker has CHECK = p − 1", and "BASE becomes 4 × b + 2 × e + f"
 abbrev pub markerCheck : ℤ → ℤ
 markerCheck p = p -ℤ pos 1
 
-abbrev pub markerBase : ℤ → Bool → ℤ
-markerBase b f = twice b f
+abbrev pub markerBase : ℤ → Bool → Bool → ℤ
+markerBase b e f = twice (twice b e) f
 
 -- What a marker says, from its CHECK and BASE. The paper's "sound": "the p and b read from it are in range"
 unfoldable pub markerOf : ℤ → ℤ → Marker
 markerOf check base =
-    cond (inProbability (check +ℤ pos 1) && inBackoff (half base)) (Sound (check +ℤ pos 1) (half base) (odd base)) Broken
+    cond (inProbability (check +ℤ pos 1) && inBackoff (half (half base)))
+    (Sound (check +ℤ pos 1) (half (half base)) (odd (half base)) (odd base))
+    Broken
 
 -- "its child for word w in slot d + w"
 abbrev pub childSlot : ℕ → ℕ → ℕ
@@ -64,12 +66,12 @@ module _ (base check : List ℤ) where
       Nothing
 
 abbrev pub lookMarker : Marker → Look
-lookMarker (Sound p b f) = here (record { p = p; b = b; f = f })
+lookMarker (Sound p b e f) = here (record { p = p; b = b; e = e; f = f })
 lookMarker Broken = broken
 
 -- the rest of a walk past a node, which needs a sound marker
 abbrev pub past : Marker → Look → Look
-past (Sound p b f) rest = rest
+past (Sound p b e f) rest = rest
 past Broken rest = broken
 
 abbrev pub downTo : Child → (ℕ → Look) → Look
@@ -89,7 +91,7 @@ sizesOk base check = eqb (length base) (length check) && (leb 2 (length base) &&
 unfoldable pub orderOk : List ℤ → Bool
 orderOk check = between (headCheck 1) (headCheck orderLimit) (getD check 0 freeCheck)
 
--- "BASE[0] is 1 and CHECK[0] is n. CHECK[1] is −1 and BASE[1] is the number of rows", "with n 1..5 and 3..65,535 rows"
+-- "BASE[0] is 1 .. CHECK[1] is −1 and BASE[1] is the number of rows", "with n 1..5 and 3..65,535 rows"
 unfoldable pub headOk : List ℤ → List ℤ → Bool
 headOk base check =
     eqZ (baseAt base check 0) (pos 1)

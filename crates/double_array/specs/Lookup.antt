@@ -1,4 +1,4 @@
--- The outcome of lookup over any lent arrays: 11, then 14, then 12, else found with p and b, or not found; and what each answer means. Assumes nothing.
+-- The outcome of lookup over any lent arrays: 11, then 14, then 12, else found with p, b and left, or not found; and what each answer means. Assumes nothing.
 use mathlib.Core.Path.{_≡_}
 use mathlib.Core.Logic.{_⊎_}
 use mathlib.Core.Bool.{Bool, true, false, cond, _&&_}
@@ -18,7 +18,7 @@ use Rattle.double_array.specs.declared.Lookup.the-variants.{Found, NotFo
 abbrev pub lookupOf : Look → Lookup
 lookupOf absent = NotFound
 lookupOf broken = Refused brokenNode 0
-lookupOf (here e) = Found (e .p) (e .b)
+lookupOf (here r) = Found (r .p) (r .b) (r .e)
 
 -- "lookup of 0 or above 5 words" is 14; "more than n words are simply not found, without a walk"; the words are given oldest first
 abbrev pub lookupIn : Option Store → List ℕ → Lookup
@@ -33,39 +33,47 @@ lookupOutcome base check ws = lookupIn (opened base check) ws
 
 -- what an answer says as the caller from C reads it: "a refused lookup [returns] two zeros"
 abbrev pub numberOf : Lookup → ℕ
-numberOf (Found p b) = 0
+numberOf (Found p b left) = 0
 numberOf NotFound = 0
 numberOf (Refused n k) = n
 
 abbrev pub placeOf : Lookup → ℕ
-placeOf (Found p b) = 0
+placeOf (Found p b left) = 0
 placeOf NotFound = 0
 placeOf (Refused n k) = k
 
 abbrev pub foundOf : Lookup → ℕ
-foundOf (Found p b) = 1
+foundOf (Found p b left) = 1
 foundOf NotFound = 0
 foundOf (Refused n k) = 0
 
 abbrev pub pOf : Lookup → ℤ
-pOf (Found p b) = p
+pOf (Found p b left) = p
 pOf NotFound = pos 0
 pOf (Refused n k) = pos 0
 
 abbrev pub bOf : Lookup → ℤ
-bOf (Found p b) = b
+bOf (Found p b left) = b
 bOf NotFound = pos 0
 bOf (Refused n k) = pos 0
 
+-- "Lookup gains this yes or no (no where nothing is found)"
+abbrev pub leftOf : Lookup → ℕ
+leftOf (Found p b left) = cond left 1 0
+leftOf NotFound = 0
+leftOf (Refused n k) = 0
+
 -- ---- what an answer means for the rows that the arrays hold, whatever the arrays are
 
--- The arrays open to a store, of order n, whose model has the words as a row with exactly this p and b.
-pub record IsRow (base check : List ℤ) (ws : List ℕ) (p b : ℤ) : Type 0 where
+-- The arrays open to a store, of order n, whose model has the words as a row with exactly this p and b, and e as `left` says.
+pub record IsRow (base check : List ℤ) (ws : List ℕ) (p b : ℤ) (left : ℕ) : Type 0 where
   pub store : Store
   pub opens : opened base check ≡ some store
   pub short : length ws ≤ store .order
+  pub e : Bool
   pub f : Bool
-  pub row : modelIn store .find (reverse ws) ≡ some (record { p = p; b = b; f = f })
+  pub row : modelIn store .find (reverse ws) ≡ some (record { p = p; b = b; e = e; f = f })
+  pub left-is : left ≡ cond e 1 0
 
 -- They open to a store for which the words are more than n, or whose model has no such row though every node on the walk is sound.
 pub record IsNoRow (base check : List ℤ) (ws : List ℕ) : Type 0 where
@@ -80,8 +88,8 @@ pub data RefusedBy (base check : List ℤ) (ws : List ℕ) : ℕ → Type 0 wher
   broken-node : (S : Store) → opened base check ≡ some S → length ws ≤ S .order → isBroken (S .look (reverse ws)) ≡ true → RefusedBy base check ws brokenNode
 
 -- The numbers that were returned: `found` is 1 or 0, and 0 where the lookup is refused.
-pub record LookupMeans (base check : List ℤ) (ws : List ℕ) (number place found : ℕ) (p b : ℤ) : Type 0 where
-  pub yes : found ≡ 1 → IsRow base check ws p b
+pub record LookupMeans (base check : List ℤ) (ws : List ℕ) (number place found : ℕ) (p b : ℤ) (left : ℕ) : Type 0 where
+  pub yes : found ≡ 1 → IsRow base check ws p b left
   pub no : found ≡ 0 → number ≡ 0 → IsNoRow base check ws
   pub refused : (number ≡ 0 → ⊥) → RefusedBy base check ws number
   pub no-place : place ≡ 0

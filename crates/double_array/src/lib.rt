@@ -7,21 +7,27 @@ ghost use lib.ListN.{length, replicate};
 ghost use Rattle.backoff.specs.Limits.{orderLimit, slotLimit};
 ghost use Rattle.backoff.specs.Model.{inProbability, inBackoff};
 ghost use Rattle.double_array.specs.DoubleArray.{headCheck, markerCheck, markerBase, markerOf, markerAt, childAt, lookFrom, sizesOk, orderOk, headOk, isArray, orderIn};
-ghost use Rattle.double_array.specs.Lookup.{lookupOf, lookupOutcome, numberOf, placeOf, foundOf, pOf, bOf, LookupMeans};
+ghost use Rattle.double_array.specs.Lookup.{lookupOf, lookupOutcome, numberOf, placeOf, foundOf, pOf, bOf, leftOf, LookupMeans};
 
 // CHECK of a free slot; its BASE is 0.
 pub const FREE: i32 = -2147483648;
 
 // CHECK[0] is the order and this.
-const HEAD_OFFSET: i32 = 0;
+const HEAD_OFFSET: i32 = 8;
 
 const LEAST_HEAD: i32 = 1 + HEAD_OFFSET;
 
 const LARGEST_HEAD: i32 = backoff::ORDER_LIMIT + HEAD_OFFSET;
 
-// What a marker says. The paper's "sound" marker holds a p and a b in range; `f` is set where some row is this row followed by one more word.
+// BASE of a marker whose b is in range lies between these.
+const LEAST_BASE: i32 = 4 * backoff::LEAST_BACKOFF;
+
+const LARGEST_BASE: i32 = 4 * backoff::LARGEST_BACKOFF + 3;
+
+// What a marker says. The paper's "sound" marker holds a p and a b in range; `e` is set where some row puts a further word in front of this one, `f` where
+// some row is this row followed by one more word.
 pub enum Marker {
-    Sound { p: i32, b: i32, f: bool },
+    Sound { p: i32, b: i32, e: bool, f: bool },
     Broken,
 }
 
@@ -31,9 +37,9 @@ pub enum Child {
     Nothing,
 }
 
-// The answer of a lookup.
+// The answer of a lookup: `left` says whether some row puts a further word in front of the one that was found.
 pub enum Lookup {
-    Found { p: i32, b: i32 },
+    Found { p: i32, b: i32, left: bool },
     NotFound,
     Refused { number: u32, place: u32 },
 }
@@ -54,12 +60,12 @@ pub fn marker_check(p: i32) -> i32
     p - 1
 }
 
-// BASE of the marker of a row with this b and f.
-pub fn marker_base(b: i32, f: bool) -> i32
+// BASE of the marker of a row with this b, e and f.
+pub fn marker_base(b: i32, e: bool, f: bool) -> i32
     requires { ⌜ inBackoff b ≡ true ⌝ }
-    ensures { λ r. ⌜ r ≡ markerBase b f ⌝ }
+    ensures { λ r. ⌜ r ≡ markerBase b e f ⌝ }
 {
-    2 * b + (f as i32)
+    4 * b + 2 * (e as i32) + (f as i32)
 }
 
 // What a marker's CHECK and BASE say.
@@ -70,14 +76,12 @@ fn marker_of(check: i32, base: i32) -> Marker
         return Marker::Broken;
     }
     let p = check + 1;
-    let b = base >> 1;
-    if (backoff::LEAST_PROBABILITY <= p)
-        & (backoff::LEAST_BACKOFF <= b)
-        & (b <= backoff::LARGEST_BACKOFF)
-    {
+    let upper = base >> 1;
+    if (backoff::LEAST_PROBABILITY <= p) & (LEAST_BASE <= base) & (base <= LARGEST_BASE) {
         return Marker::Sound {
             p,
-            b,
+            b: upper >> 1,
+            e: upper & 1 == 1,
             f: base & 1 == 1,
         };
     }
@@ -171,23 +175,23 @@ fn walk(base: &[i32], check: &[i32], words: &[u32]) -> Lookup
         let Child::At(t) = find_child(base, check, s, words[left]) else {
             return Lookup::NotFound;
         };
-        let Marker::Sound { p, b, f: _ } = read_marker(base, check, t) else {
+        let Marker::Sound { p, b, e, f: _ } = read_marker(base, check, t) else {
             return Lookup::Refused {
                 number: backoff::BROKEN_NODE,
                 place: 0,
             };
         };
         if left == 0 {
-            return Lookup::Found { p, b };
+            return Lookup::Found { p, b, left: e };
         }
         s = t;
     }
 }
 
-// The paper's lookup: the p and b of the row that the words are, oldest first.
+// The paper's lookup: the p, b and left extension of the row that the words are, oldest first.
 pub fn look_up(base: &[i32], check: &[i32], words: &[u32]) -> Lookup
     ensures outcome { λ r. ⌜ r ≡ lookupOutcome (now (base .entry)) (now (check .entry)) (now (words .entry)) ⌝ }
-    ensures meaning { λ r. ⌜ LookupMeans (now (base .entry)) (now (check .entry)) (now (words .entry)) (numberOf r) (placeOf r) (foundOf r) (pOf r) (bOf r) ⌝ }
+    ensures meaning { λ r. ⌜ LookupMeans (now (base .entry)) (now (check .entry)) (now (words .entry)) (numberOf r) (placeOf r) (foundOf r) (pOf r) (bOf r) (leftOf r) ⌝ }
 {
     if !is_array(base, check) {
         return Lookup::Refused {

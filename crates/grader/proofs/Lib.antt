@@ -1,5 +1,6 @@
 -- The theorems over the calls' outcomes, and a law of lists.
 pub mod RunsInARow
+pub mod LeftExtension
 pub mod MarkedCases
 pub mod Returns
 pub mod Lookups

@@ -31,10 +31,10 @@ module _ (t : List ℤ) (a : verdict t ≡ Accepted) (ws : List ℕ) where
   said-lookup = rw (reverse-reverse ws) (go (leb 1 (length ws) && leb (length ws) orderLimit) (leb (length ws) (orderOf t)) refl)
     where
       go : (counted short : Bool) → leb (length ws) (orderOf t) ≡ short
-          → cond counted (cond short (lookupOf (lookEntry (entryAt t ws (findIn t ws)))) NotFound) (Refused wordCount 0) ≡ cond counted (answerAt t (findIn t ws)) (Refused wordCount 0)
+          → cond counted (cond short (lookupOf (lookEntry (entryAt t ws (findIn t ws)))) NotFound) (Refused wordCount 0) ≡ cond counted (answerAt t ws (findIn t ws)) (Refused wordCount 0)
       go false short e = refl
       go true true e = looked-up t a ws (findIn t ws)
-      go true false e = ap (answerAt t) (sym (above-order t a ws (leb-false (length ws) (orderOf t) e) (findIn t ws) refl))
+      go true false e = ap (answerAt t ws) (sym (above-order t a ws (leb-false (length ws) (orderOf t) e) (findIn t ws) refl))
 
 -- for any words, those outside 1..65,535 too, and any number of them
 pub unloaded-lookup : (base check table : List ℤ) (work ws : List ℕ) → unloadOutcome base check table work .answer ≡ Accepted

@@ -27,6 +27,7 @@ pub record FoundIs (l : Lookup) (r : Found) : Type 0 where
   pub found : r .found ≡ lookup.foundOf l
   pub p : r .p ≡ lookup.pOf l
   pub b : r .b ≡ lookup.bOf l
+  pub left : r .left ≡ lookup.leftOf l
 
 -- a build's answer, and the three slices at exit
 pub record BuiltIs (o : Built) (r : Status) (base check : List ℤ) (work : List ℕ) : Type 0 where

@@ -1,6 +1,6 @@
 -- Document 01's marked cases K1 to K9 on the sample list, over the outcomes that the contracts cite. Assumes nothing.
 use mathlib.Core.Path.{_≡_}
-use mathlib.Core.Bool.{true}
+use mathlib.Core.Bool.{true, false}
 use mathlib.Core.List.{List, [], _∷_}
 use mathlib.Core.Option.{Option}
 use Prim.Native.Nat.{ℕ}
@@ -42,24 +42,24 @@ pub record MarkedCases : Type 0 where
   -- "K1 from start, 4 5 3: −4000, −1000, −1500."
   pub k1 : Scores (4 ∷ 5 ∷ 3 ∷ []) (minus 6500) (minus 4000 ∷ minus 1000 ∷ minus 1500 ∷ []) (2 ∷ 3 ∷ 2 ∷ []) nineZeros
   -- "K2 5 4 3: −12000, −7000, −12000."
-  pub k2 : Scores (5 ∷ 4 ∷ 3 ∷ []) (minus 31000) (minus 12000 ∷ minus 7000 ∷ minus 12000 ∷ []) (1 ∷ 1 ∷ 1 ∷ []) nineZeros
+  pub k2 : Scores (5 ∷ 4 ∷ 3 ∷ []) (minus 31000) (minus 12000 ∷ minus 7000 ∷ minus 12000 ∷ []) (17 ∷ 17 ∷ 17 ∷ []) nineZeros
   -- "K3 9 3: −23000, −10000."
-  pub k3 : Scores (9 ∷ 3 ∷ []) (minus 33000) (minus 23000 ∷ minus 10000 ∷ []) (9 ∷ 1 ∷ []) nineZeros
+  pub k3 : Scores (9 ∷ 3 ∷ []) (minus 33000) (minus 23000 ∷ minus 10000 ∷ []) (9 ∷ 17 ∷ []) nineZeros
   -- "K4 3 alone: −13000."
-  pub k4 : Scores (3 ∷ []) (minus 13000) (minus 13000 ∷ []) (1 ∷ []) nineZeros
+  pub k4 : Scores (3 ∷ []) (minus 13000) (minus 13000 ∷ []) (17 ∷ []) nineZeros
   -- "K5 state after `<s>` 4 5 is (5), after a further 3 empty": for the latter, see K1
   pub k5 : Scores (4 ∷ 5 ∷ []) (minus 5000) (minus 4000 ∷ minus 1000 ∷ []) (2 ∷ 3 ∷ []) (pos 1 ∷ pos 5 ∷ pos 0 ∷ pos 0 ∷ pos 0 ∷ minus 1000 ∷ pos 0 ∷ pos 0 ∷ pos 0 ∷ [])
   -- "K6 lookup 2 4: −4000, −500; 5 4: not found."
-  pub k6-listed : lookupOutcome (sampleBuilt 20 .base) (sampleBuilt 20 .check) (2 ∷ 4 ∷ []) ≡ Found (minus 4000) (minus 500)
+  pub k6-listed : lookupOutcome (sampleBuilt 20 .base) (sampleBuilt 20 .check) (2 ∷ 4 ∷ []) ≡ Found (minus 4000) (minus 500) false
   pub k6-unlisted : lookupOutcome (sampleBuilt 20 .base) (sampleBuilt 20 .check) (5 ∷ 4 ∷ []) ≡ NotFound
   -- "K7 N = 20 builds, N = 19 gives 10."
   pub k7-enough : sampleBuilt 20 .answer ≡ Accepted
   pub k7-too-few : sampleBuilt 19 .answer ≡ Refused noRoom 0
-  -- "K8 row 2 4 has its node in slot 12 and marker in 16: CHECK −4001, BASE −999." The row is the seventh.
+  -- "K8 row 2 4 has its node in slot 12 and marker in 16: CHECK −4001", and "K8 shows −1999" as BASE. The row is the seventh.
   pub k8-node : getD (sampleBuilt 20 .work) 6 0 ≡ 12
   pub k8-marker : getD (sampleBuilt 20 .base) 12 (pos 0) ≡ pos 16
   pub k8-check : getD (sampleBuilt 20 .check) 16 (pos 0) ≡ minus 4001
-  pub k8-base : getD (sampleBuilt 20 .base) 16 (pos 0) ≡ minus 999
+  pub k8-base : getD (sampleBuilt 20 .base) 16 (pos 0) ≡ minus 1999
   -- "K9 p = 0 is accepted in row 1, p = 1 gives 5, row 1."
   pub k9-zero : verdict (sampleWith (pos 0)) ≡ Accepted
   pub k9-one : verdict (sampleWith (pos 1)) ≡ Refused rowProbability 1

@@ -26,7 +26,7 @@ pub struct Status {
     pub place: u32,
 }
 
-// A lookup's answer: `found` is 1 where the words are a row, whose p and b follow.
+// A lookup's answer: `found` is 1 where the words are a row, whose p and b follow; `left` is 1 where some row puts a further word in front of it.
 #[repr(C)]
 pub struct Found {
     pub number: u32,
@@ -34,6 +34,7 @@ pub struct Found {
     pub found: u32,
     pub p: i32,
     pub b: i32,
+    pub left: u32,
 }
 
 // The answer of a run or of plain scoring: the total of the points, 0 where it was refused.
@@ -63,12 +64,13 @@ fn found_of(l: Lookup) -> Found
     ensures { λ r. ⌜ FoundIs l r ⌝ }
 {
     match l {
-        Lookup::Found { p, b } => Found {
+        Lookup::Found { p, b, left } => Found {
             number: 0,
             place: 0,
             found: 1,
             p,
             b,
+            left: left as u32,
         },
         Lookup::NotFound => Found {
             number: 0,
@@ -76,6 +78,7 @@ fn found_of(l: Lookup) -> Found
             found: 0,
             p: 0,
             b: 0,
+            left: 0,
         },
         Lookup::Refused { number, place } => Found {
             number,
@@ -83,6 +86,7 @@ fn found_of(l: Lookup) -> Found
             found: 0,
             p: 0,
             b: 0,
+            left: 0,
         },
     }
 }
@@ -145,7 +149,7 @@ pub extern "C" fn backoff_build(
 #[no_mangle]
 pub extern "C" fn backoff_lookup(base: &[i32], check: &[i32], words: &[u32]) -> Found
     ensures outcome { λ r. ⌜ FoundIs (lookupOutcome (now (base .entry)) (now (check .entry)) (now (words .entry))) r ⌝ }
-    ensures meaning { λ r. ⌜ LookupMeans (now (base .entry)) (now (check .entry)) (now (words .entry)) (r .number) (r .place) (r .found) (r .p) (r .b) ⌝ }
+    ensures meaning { λ r. ⌜ LookupMeans (now (base .entry)) (now (check .entry)) (now (words .entry)) (r .number) (r .place) (r .found) (r .p) (r .b) (r .left) ⌝ }
 {
     found_of(double_array::look_up(base, check, words))
 }

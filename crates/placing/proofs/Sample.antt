@@ -17,22 +17,22 @@ use Rattle.placing.specs.Trie.{Node, children, nodeAt, HasParent, Ready}
 use Rattle.placing.specs.Placing.{Placed, isFree, update, allFree, fits, search, firstFit, own, reach, give, settle, place, placeAll, unplaced, placing, slots}
 use Rattle.backoff.proofs.Words.{same-eq, same-refl}
 
--- a row's node, from its words, −p, −b and f
-abbrev row : List ℕ → ℕ → ℕ → Bool → Node
-row ws cost fall f = record { words = ws; cost = cost; load = markerBase (negℤ (pos fall)) f }
+-- a row's node, from its words, −p, −b, e and f
+abbrev row : List ℕ → ℕ → ℕ → Bool → Bool → Node
+row ws cost fall e f = record { words = ws; cost = cost; load = markerBase (negℤ (pos fall)) e f }
 
 abbrev pub sampleNodes : List Node
 sampleNodes =
     record { words = []; cost = 0; load = pos 9 }
-    ∷ row (1 ∷ []) 20000 0 false
-    ∷ row (2 ∷ []) 990000 3000 true
-    ∷ row (3 ∷ []) 10000 0 false
-    ∷ row (4 ∷ []) 6000 2000 true
-    ∷ row (5 ∷ []) 9000 1000 true
-    ∷ row (5 ∷ 3 ∷ []) 1500 0 false
-    ∷ row (2 ∷ 4 ∷ []) 4000 500 true
-    ∷ row (4 ∷ 5 ∷ []) 3000 0 false
-    ∷ row (2 ∷ 4 ∷ 5 ∷ []) 1000 0 false
+    ∷ row (1 ∷ []) 20000 0 false false
+    ∷ row (2 ∷ []) 990000 3000 false true
+    ∷ row (3 ∷ []) 10000 0 true false
+    ∷ row (4 ∷ []) 6000 2000 true true
+    ∷ row (5 ∷ []) 9000 1000 true true
+    ∷ row (5 ∷ 3 ∷ []) 1500 0 false false
+    ∷ row (2 ∷ 4 ∷ []) 4000 500 false true
+    ∷ row (4 ∷ 5 ∷ []) 3000 0 true false
+    ∷ row (2 ∷ 4 ∷ 5 ∷ []) 1000 0 false false
     ∷ []
 
 samplePlaced : Placed
@@ -45,12 +45,12 @@ unfolding samplePlaced
 sample-top = refl
 
 sample-base : slots 20 (placing 3 sampleNodes .base)
-    ≡ pos 1 ∷ pos 9 ∷ pos 7 ∷ pos 8 ∷ pos 9 ∷ pos 10 ∷ pos 11 ∷ pos 0 ∷ negsuc 5998 ∷ pos 0 ∷ negsuc 3998 ∷ negsuc 1998 ∷ pos 16 ∷ pos 0 ∷ pos 13 ∷ pos 17 ∷ negsuc 998 ∷ pos 0 ∷ pos 0 ∷ pos 18 ∷ []
+    ≡ pos 1 ∷ pos 9 ∷ pos 7 ∷ pos 8 ∷ pos 9 ∷ pos 10 ∷ pos 11 ∷ pos 0 ∷ negsuc 11998 ∷ pos 2 ∷ negsuc 7996 ∷ negsuc 3996 ∷ pos 16 ∷ pos 0 ∷ pos 13 ∷ pos 17 ∷ negsuc 1998 ∷ pos 2 ∷ pos 0 ∷ pos 18 ∷ []
 unfolding samplePlaced
 sample-base = refl
 
 sample-check : slots 20 (placing 3 sampleNodes .check)
-    ≡ pos 3 ∷ negsuc 0 ∷ pos 0 ∷ pos 0 ∷ pos 0 ∷ pos 0 ∷ pos 0 ∷ negsuc 20000 ∷ negsuc 990000 ∷ negsuc 10000 ∷ negsuc 6000 ∷ negsuc 9000 ∷ pos 5 ∷ negsuc 1500 ∷ pos 4 ∷ pos 6 ∷ negsuc 4000 ∷ negsuc 3000 ∷ negsuc 1000 ∷ pos 15 ∷ []
+    ≡ pos 11 ∷ negsuc 0 ∷ pos 0 ∷ pos 0 ∷ pos 0 ∷ pos 0 ∷ pos 0 ∷ negsuc 20000 ∷ negsuc 990000 ∷ negsuc 10000 ∷ negsuc 6000 ∷ negsuc 9000 ∷ pos 5 ∷ negsuc 1500 ∷ pos 4 ∷ pos 6 ∷ negsuc 4000 ∷ negsuc 3000 ∷ negsuc 1000 ∷ pos 15 ∷ []
 unfolding samplePlaced
 sample-check = refl
 
@@ -60,7 +60,7 @@ unfolding samplePlaced
 sample-slots = refl
 
 -- A d is passed over for a child's sake, which the sample has no case of: slot 3 is free, and slot 3 + 3 is taken by the root's child 5.
-passed-over : placing 2 (row [] 0 0 false ∷ row (1 ∷ []) 0 0 false ∷ row (5 ∷ []) 0 0 false ∷ row (3 ∷ 1 ∷ []) 0 0 false ∷ []) .base 2 ≡ pos 4
+passed-over : placing 2 (row [] 0 0 false false ∷ row (1 ∷ []) 0 0 true false ∷ row (5 ∷ []) 0 0 false false ∷ row (3 ∷ 1 ∷ []) 0 0 false false ∷ []) .base 2 ≡ pos 4
 unfolding samplePlaced
 passed-over = refl
 

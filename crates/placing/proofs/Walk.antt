@@ -48,7 +48,7 @@ pub record LaidOut (nodes : List Node) (slot : List ℕ → ℕ) (base check : L
 -- ---- a layout suffices for walking
 
 past-sound : (k : Marker) → k ≢ Broken → (rest : Look) → past k rest ≡ rest
-past-sound (Sound p b f) h rest = refl
+past-sound (Sound p b e f) h rest = refl
 past-sound Broken h rest = absurd (h refl)
 
 module _ {nodes : List Node} {slot : List ℕ → ℕ} {base check : List ℤ} (R : Ready nodes) (L : LaidOut nodes slot base check)

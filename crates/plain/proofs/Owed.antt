@@ -1,7 +1,7 @@
 -- The loop over the lengths of the history, longest first: back-offs are owed for the histories passed, and the rule goes on with the rest.
 -- Assumes nothing.
 use mathlib.Core.Path.{_≡_, sym, ap, _∙_}
-use mathlib.Core.Bool.{true, false}
+use mathlib.Core.Bool.{Bool, true, false}
 use mathlib.Core.List.{List, [], _∷_}
 use Prim.Native.Nat.{ℕ, zero, suc, _+_, _*_, _-_, _<_, _≤_}
 use native.Mathlib.Numerals.{add-one}
@@ -14,10 +14,10 @@ use mir.Facts.{toZ-ofZ}
 use Rattle.integer.proofs.Arithmetic.{zarith, up, down, add}
 use Rattle.integer.proofs.Ranges.{between-low, between-high}
 use Rattle.backoff.specs.Limits.{orderLimit, leastProbability, largestBackoff}
-use Rattle.backoff.specs.Model.{Model, AcceptedModel, inProbability, inBackoff, listed, probability, backoff}
+use Rattle.backoff.specs.Model.{Model, AcceptedModel, inProbability, inBackoff, listed, probability, backoff, extended}
 use Rattle.backoff.specs.Rule.{Score, addPoints, scoreAfter}
 use Rattle.backoff.proofs.Rule.{addPoints-zero, scoreAfter-here, scoreAfter-down}
-use Rattle.plain.specs.Held.{IsScore}
+use Rattle.plain.specs.Held.{IsExtended, IsScore}
 
 -- The word v after the k newest words of g: its score is `owed` and what it scores after the `left` newest of them.
 pub record Owed (M : Model) (k : ℕ) (g : List ℕ) (v : ℕ) (owed : ℤ) (left : ℕ) : Type 0 where
@@ -37,7 +37,7 @@ owed-none M k g v = record {
 
 addPoints-twice : (a b : ℤ) (s : Score) → addPoints a (addPoints b s) ≡ addPoints (a +ℤ b) s
 unfolding addPoints
-addPoints-twice a b s = λ i. record { points = sym (+ℤ-assoc a b (s .points)) i; matched = s .matched }
+addPoints-twice a b s = λ i. record { points = sym (+ℤ-assoc a b (s .points)) i; matched = s .matched; extended = s .extended }
 
 -- the code's sum of what is owed and x, which is y
 pub record Added (owed x y : ℤ) : Type 0 where
@@ -49,13 +49,13 @@ added e f g = rw e (record { fits = rw (toZ-ofZ f) g; sum-is = rw (toZ-ofZ f) (t
 
 module _ {M : Model} {k : ℕ} {g : List ℕ} {v : ℕ} where
   -- the word with the history that is left is listed
-  pub owed-here : {owed : ℤ} {left : ℕ} → Owed M k g v owed left → 0 < left → listed M (v ∷ take left g) ≡ true → scoreAfter M k g v ≡ record { points = owed +ℤ probability M (v ∷ take left g); matched = left + 1 }
+  pub owed-here : {owed : ℤ} {left : ℕ} → Owed M k g v owed left → 0 < left → listed M (v ∷ take left g) ≡ true → scoreAfter M k g v ≡ record { points = owed +ℤ probability M (v ∷ take left g); matched = left + 1; extended = extended M (v ∷ take left g) }
   unfolding addPoints
   owed-here {left = zero} o l e = absurd (omega arith)
   owed-here {owed} {left = suc j} o l e = o .rest ∙ ap (addPoints owed) (scoreAfter-here M j g v e) ∙ rw (add-one (suc j))
 
   -- no history is left
-  pub owed-end : {owed : ℤ} {left : ℕ} → Owed M k g v owed left → left ≤ 0 → scoreAfter M k g v ≡ record { points = owed +ℤ probability M (v ∷ []); matched = 1 }
+  pub owed-end : {owed : ℤ} {left : ℕ} → Owed M k g v owed left → left ≤ 0 → scoreAfter M k g v ≡ record { points = owed +ℤ probability M (v ∷ []); matched = 1; extended = extended M (v ∷ []) }
   unfolding addPoints scoreAfter
   owed-end {left = zero} o l = o .rest
   owed-end {left = suc j} o l = absurd (omega arith)
@@ -93,5 +93,5 @@ module _ {M : Model} {k : ℕ} {g : List ℕ} {v : ℕ} where
           let h = between-high leastProbability (pos 0) (probability M l) (A .in-probability l) in
           added e (omega zarith) (omega (zarith, o .low, o .high))
 
-pub score-is : {s : Score} {points x : ℤ} {matched : ℕ} → s ≡ record { points = points; matched = matched } → x ≡ points → IsScore s (record { points = x; matched = matched })
-score-is e f = record { points-are = cc; matched-is = cc }
+pub score-is : {t : List ℤ} {s : Score} {points x : ℤ} {matched i : ℕ} {e : Bool} → s ≡ record { points = points; matched = matched; extended = e } → x ≡ points → IsExtended t i e → IsScore t s (record { points = x; matched = matched; row = i })
+score-is {s = s} {e = e} q f h = let z : s .extended ≡ e = cc in record { points-are = cc; matched-is = cc; row-is = rw z h }

@@ -10,11 +10,11 @@ use lib.Seq.{take-take}
 use Rattle.integer.specs.Integer.{between, upTo}
 use Rattle.backoff.specs.Limits.{orderLimit, startWord}
 use Rattle.backoff.specs.Words.{isWord, areWords}
-use Rattle.backoff.specs.Model.{Model, AcceptedModel, reach}
+use Rattle.backoff.specs.Model.{Model, AcceptedModel, listed, reach}
 use Rattle.backoff.specs.Rule.{replaced, scoreAfter, historyLength, lengthByte, rule, ruleByte}
 use Rattle.backoff.specs.Run.{front}
 use Rattle.list.specs.Table.{wordsOf}
-use Rattle.backoff.proofs.Rule.{scoreAfter-matched, matchedHistory-le}
+use Rattle.backoff.proofs.Rule.{scoreAfter-matched, matchedHistory-le, replaced-listed}
 use Rattle.plain.specs.declared.Recent.{Recent}
 use Rattle.plain.specs.Held.{FiveWords, lastWord, wordsBefore, begun, pushed}
 use Rattle.plain.proofs.Words.{replaced-known, replaced-is-word}
@@ -95,6 +95,9 @@ module _ {M : Model} {n : ℕ} {r : Recent} {h : List ℕ} {w : ℕ} (order : n 
       scoreAfter-local M k (wordsBefore (r .words)) (map (replaced M) h) (lastWord (r .words)) (tail-eq-of-cons-eq same)
       ∙ ap₂ (λ (j v : ℕ). scoreAfter M j (map (replaced M) h) v) history-length last-is
 
-  pub byte-held : lengthByte (scoreAfter M (r .count - 1) (wordsBefore (r .words)) (lastWord (r .words)) .matched) (lastWord (r .words)) ≡ ruleByte M h w
+  pub byte-held : lengthByte (scoreAfter M (r .count - 1) (wordsBefore (r .words)) (lastWord (r .words)) .matched) (lastWord (r .words)) (scoreAfter M (r .count - 1) (wordsBefore (r .words)) (lastWord (r .words)) .extended) ≡ ruleByte M h w
   unfolding ruleByte
   byte-held = rw (rule-held, last-is)
+
+  pub last-listed : AcceptedModel M → listed M (lastWord (r .words) ∷ []) ≡ true
+  last-listed A = rw last-is (replaced-listed M A w)

@@ -1,6 +1,6 @@
 -- The loop over the words of a run: i words are scored by the rule, each after all before it, and the rest are left. Assumes nothing.
 use mathlib.Core.Path.{_≡_, ap, _∙_}
-use mathlib.Core.Bool.{Bool}
+use mathlib.Core.Bool.{Bool, true}
 use mathlib.Core.List.{List, [], _∷_}
 use Prim.Native.Nat.{ℕ, _+_, _-_, _<_, _≤_}
 use native.Mathlib.Numerals.{add-one}
@@ -12,13 +12,13 @@ use mir.Syntax.{w32, w64}
 use mir.Val.{SFits}
 use Rattle.integer.specs.Integer.{sum}
 use Rattle.backoff.specs.Limits.{orderLimit, runLimit}
-use Rattle.backoff.specs.Model.{Model, AcceptedModel}
+use Rattle.backoff.specs.Model.{Model, AcceptedModel, listed}
 use Rattle.backoff.specs.Rule.{Score, grow, scoreAfter, rule, ruleByte, rulePoints, ruleBytes}
 use Rattle.backoff.specs.Run.{front, written}
 use Rattle.plain.specs.declared.Recent.{Recent}
 use Rattle.plain.specs.declared.Scored.{Scored}
 use Rattle.plain.specs.Held.{IsScored, FiveWords, lastWord, wordsBefore, begun, pushed}
-use Rattle.plain.proofs.Preceding.{Holds, begun-holds, pushed-holds, rule-held, byte-held}
+use Rattle.plain.proofs.Preceding.{Holds, begun-holds, pushed-holds, rule-held, byte-held, last-listed}
 use Rattle.plain.proofs.Progress.{Progress, progress-none, progress-more, progress-length, progress-end, Summed, summed-none, summed-more, summed-end, total-fits}
 
 -- the rule over the words that are left
@@ -93,6 +93,9 @@ module _ {M : Model} {n : ℕ} {b : Bool} {ws : List ℕ} {points₀ : List ℤ}
 
       pub next-count : (0 < next .count) × (next .count ≤ orderLimit)
       next-count = (omega (arith, next-holds .count-is, low A order), omega (arith, next-holds .count-is, high A order))
+
+      pub next-listed : listed M (lastWord (next .words) ∷ []) ≡ true
+      next-listed = last-listed order (low A order) next-holds A
 
       module _ {r : Scored} (k : IsScored (scoreAfter M (next .count - 1) (wordsBefore (next .words)) (lastWord (next .words))) (lastWord (next .words)) r) (f : SFits w32 (r .points)) where
         points-rest : rulePoints M (s .before) (drop i ws) ≡ r .points ∷ rulePoints M (grow M (s .before) (getD ws i 0)) (drop (i + 1) ws)

@@ -2,33 +2,42 @@
 use mathlib.Core.Path.{_≡_}
 use mathlib.Core.Bool.{Bool, true, false}
 use mathlib.Core.List.{List, [], _∷_, _++_, reverse}
-use Prim.Native.Nat.{ℕ, _+_, min}
+use Prim.Native.Nat.{ℕ, _+_, _<_, min}
 use lib.ListN.{length, getD, take, drop}
 use lib.IntN.{ℤ, pos}
 use Rattle.backoff.specs.Limits.{orderLimit, unknownWord, startWord}
 use Rattle.backoff.specs.Words.{areWords}
-use Rattle.backoff.specs.Model.{Model, listed, probability, backoff}
+use Rattle.backoff.specs.Model.{Model, listed, probability, backoff, extended}
 use Rattle.backoff.specs.Rule as rule
-use Rattle.list.specs.Table.{wordOf, wordsOf}
+use Rattle.list.specs.Table.{rowsOf, wordOf, wordsOf, words}
+use Rattle.list.specs.ListModel.{extendedIn, modelOf}
 use Rattle.plain.specs.declared.Row.{Row}
 use Rattle.plain.specs.declared.Score.{Score}
 use Rattle.plain.specs.declared.Scored.{Scored}
 use Rattle.plain.specs.declared.Recent.{Recent}
 
--- the sequence l, newest word first, in the model M
-pub record IsRow (M : Model) (l : List ℕ) (r : Row) : Type 0 where
-  pub listed-is : r .listed ≡ listed M l
-  pub p-is : r .p ≡ probability M l
-  pub b-is : r .b ≡ backoff M l
+-- row i of the list t, of which e says whether it is extended
+pub record IsExtended (t : List ℤ) (i : ℕ) (e : Bool) : Type 0 where
+  pub within : i < rowsOf t
+  pub extended-is : extendedIn t (words t i) ≡ e
 
-pub record IsScore (s : rule.Score) (r : Score) : Type 0 where
+-- the sequence l, newest word first, in the list t
+pub record IsRow (t : List ℤ) (l : List ℕ) (r : Row) : Type 0 where
+  pub listed-is : r .listed ≡ listed (modelOf t) l
+  pub p-is : r .p ≡ probability (modelOf t) l
+  pub b-is : r .b ≡ backoff (modelOf t) l
+  pub row-is : r .listed ≡ true → IsExtended t (r .at) (extended (modelOf t) l)
+
+-- the score s in the list t
+pub record IsScore (t : List ℤ) (s : rule.Score) (r : Score) : Type 0 where
   pub points-are : r .points ≡ s .points
   pub matched-is : r .matched ≡ s .matched
+  pub row-is : IsExtended t (r .row) (s .extended)
 
 -- the score s of the word v, with its length byte
 pub record IsScored (s : rule.Score) (v : ℕ) (r : Scored) : Type 0 where
   pub points-are : r .points ≡ s .points
-  pub byte-is : r .byte ≡ rule.lengthByte (s .matched) v
+  pub byte-is : r .byte ≡ rule.lengthByte (s .matched) v (s .extended)
 
 -- five places with words in them, oldest first
 pub record FiveWords (ws : List ℤ) : Type 0 where

@@ -1,13 +1,14 @@
 // Plain scoring: the back-off rule over the lent list alone. The definitions that the contracts cite are in specs/.
 ghost use mathlib.Core.Path.{_≡_};
 ghost use mathlib.Core.Bool.{true};
-ghost use mathlib.Core.List.{_∷_, reverse};
+ghost use mathlib.Core.List.{[], _∷_, reverse};
 ghost use Prim.Native.Nat.{_-_, _<_, _≤_, min};
 ghost use lib.IntN.{pos};
 ghost use lib.ListN.{length, take};
 ghost use Rattle.integer.specs.Integer.{sum};
 ghost use Rattle.backoff.specs.Limits.{orderLimit, runLimit};
 ghost use Rattle.backoff.specs.Words.{areWords};
+ghost use Rattle.backoff.specs.Model.{listed};
 ghost use Rattle.backoff.specs.Rule.{replaced, scoreAfter, lengthByte, rulePoints, ruleBytes};
 ghost use Rattle.backoff.specs.Run.{written, front};
 ghost use Rattle.backoff.specs.declared.Verdict.the-variants.{Accepted};
@@ -24,9 +25,10 @@ const UNKNOWN_WORD: i32 = backoff::UNKNOWN_WORD as i32;
 
 const START_WORD: i32 = backoff::START_WORD as i32;
 
-// A sequence as the list has it: p and b are 0 if it is unlisted.
+// A sequence as the list has it: `at` is where its row stands. That, p and b are 0 if it is unlisted.
 struct Row {
     listed: bool,
+    at: usize,
     p: i32,
     b: i32,
 }
@@ -34,18 +36,20 @@ struct Row {
 // The row of these words, oldest first.
 fn row_of(table: &[i32], words: &[i32]) -> Row
     requires { ⌜ (verdict (now table) ≡ Accepted) × (length (now words) ≤ orderLimit) × (areWords (wordsOf (now words)) ≡ true) ⌝ }
-    ensures { λ r. ⌜ IsRow (modelOf (now (table .entry))) (reverse (wordsOf (now (words .entry)))) r ⌝ }
+    ensures { λ r. ⌜ IsRow (now (table .entry)) (reverse (wordsOf (now (words .entry)))) r ⌝ }
 {
     let found = list::find_row(table, words);
     let Found::At(i) = found else {
         return Row {
             listed: false,
+            at: 0,
             p: 0,
             b: 0,
         };
     };
     Row {
         listed: true,
+        at: i,
         p: list::field(table, i, 6),
         b: list::field(table, i, 7),
     }
@@ -73,7 +77,7 @@ fn replaced(table: &[i32], word: u32) -> i32
 // The row of the last recent word with the k words before it.
 fn row_with(table: &[i32], recent: &[i32], k: usize) -> Row
     requires { ⌜ (verdict (now table) ≡ Accepted) × FiveWords (now recent) × (k < orderLimit) ⌝ }
-    ensures { λ r. ⌜ IsRow (modelOf (now (table .entry))) (lastWord (now (recent .entry)) ∷ take k (wordsBefore (now (recent .entry)))) r ⌝ }
+    ensures { λ r. ⌜ IsRow (now (table .entry)) (lastWord (now (recent .entry)) ∷ take k (wordsBefore (now (recent .entry)))) r ⌝ }
 {
     let first = 4 - k;
     row_of(table, &recent[first..5])
@@ -82,21 +86,23 @@ fn row_with(table: &[i32], recent: &[i32], k: usize) -> Row
 // The row of the k words before the last recent word.
 fn row_before(table: &[i32], recent: &[i32], k: usize) -> Row
     requires { ⌜ (verdict (now table) ≡ Accepted) × FiveWords (now recent) × (0 < k) × (k < orderLimit) ⌝ }
-    ensures { λ r. ⌜ IsRow (modelOf (now (table .entry))) (take k (wordsBefore (now (recent .entry)))) r ⌝ }
+    ensures { λ r. ⌜ IsRow (now (table .entry)) (take k (wordsBefore (now (recent .entry)))) r ⌝ }
 {
     let oldest = 4 - k;
     row_of(table, &recent[oldest..4])
 }
 
+// `row` is where the row whose p was used stands.
 struct Score {
     points: i32,
     matched: u8,
+    row: usize,
 }
 
 // The last recent word after the k words before it: the longest history first, and its back-off is owed where it fails.
 fn score_after(table: &[i32], recent: &[i32], k: usize) -> Score
-    requires { ⌜ (verdict (now table) ≡ Accepted) × FiveWords (now recent) × (k < orderLimit) ⌝ }
-    ensures { λ r. ⌜ IsScore (scoreAfter (modelOf (now (table .entry))) k (wordsBefore (now (recent .entry))) (lastWord (now (recent .entry)))) r ⌝ }
+    requires { ⌜ (verdict (now table) ≡ Accepted) × FiveWords (now recent) × (k < orderLimit) × (listed (modelOf (now table)) (lastWord (now recent) ∷ []) ≡ true) ⌝ }
+    ensures { λ r. ⌜ IsScore (now (table .entry)) (scoreAfter (modelOf (now (table .entry))) k (wordsBefore (now (recent .entry))) (lastWord (now (recent .entry)))) r ⌝ }
 {
     let mut owed: i32 = 0;
     let mut left = k;
@@ -106,6 +112,7 @@ fn score_after(table: &[i32], recent: &[i32], k: usize) -> Score
             return Score {
                 points: owed + row.p,
                 matched: (left + 1) as u8,
+                row: row.at,
             };
         }
         let history = row_before(table, recent, left);
@@ -116,18 +123,23 @@ fn score_after(table: &[i32], recent: &[i32], k: usize) -> Score
     Score {
         points: owed + row.p,
         matched: 1,
+        row: row.at,
     }
 }
 
-// The matched length, plus 8 if the word is unknown.
-fn length_byte(matched: u8, word: i32) -> u8
+// The matched length, plus 8 if the word is unknown, plus 16 if the matched row is extended.
+fn length_byte(matched: u8, word: i32, extended: bool) -> u8
     requires { ⌜ matched ≤ orderLimit ⌝ }
-    ensures { λ r. ⌜ r ≡ lengthByte matched (wordOf word) ⌝ }
+    ensures { λ r. ⌜ r ≡ lengthByte matched (wordOf word) «extended» ⌝ }
 {
+    let mut byte = matched;
     if word == UNKNOWN_WORD {
-        return matched + 8;
+        byte += 8;
     }
-    matched
+    if extended {
+        byte += 16;
+    }
+    byte
 }
 
 // The newest words, each replaced, oldest first: the last `count` places. The places before them hold some word and take no part.
@@ -186,14 +198,15 @@ struct Scored {
 
 // The last recent word after the others in use.
 fn score_last(table: &[i32], recent: Recent) -> Scored
-    requires { ⌜ (verdict (now table) ≡ Accepted) × FiveWords (recent .words) × (0 < recent .count) × (recent .count ≤ orderLimit) ⌝ }
+    requires { ⌜ (verdict (now table) ≡ Accepted) × FiveWords (recent .words) × (0 < recent .count) × (recent .count ≤ orderLimit) × (listed (modelOf (now table)) (lastWord (recent .words) ∷ []) ≡ true) ⌝ }
     ensures { λ r. ⌜ IsScored (scoreAfter (modelOf (now (table .entry))) (recent .count - 1) (wordsBefore (recent .words)) (lastWord (recent .words))) (lastWord (recent .words)) r ⌝ }
 {
     let words = recent.words;
     let score = score_after(table, &words, recent.count - 1);
+    let extended = list::extended(table, score.row);
     Scored {
         points: score.points,
-        byte: length_byte(score.matched, words[4]),
+        byte: length_byte(score.matched, words[4], extended),
     }
 }
 

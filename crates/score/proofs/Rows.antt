@@ -7,7 +7,7 @@ use lib.ListN.{length}
 use lib.IntN.{ℤ, pos, natAbs, _+ℤ_}
 use lib.Signed.{leZ, ltZ}
 use Rattle.integer.specs.Integer.{eqZ, between, half, odd}
-use Rattle.backoff.specs.Model.{Entry, listed, probability, backoff, continued, live, inProbability, inBackoff, probabilityOf, backoffOf}
+use Rattle.backoff.specs.Model.{extended, Entry, listed, probability, backoff, continued, live, inProbability, inBackoff, probabilityOf, backoffOf}
 use Rattle.backoff.specs.Store.{Look, absent, broken, here, Store, entryOf, isBroken, modelIn}
 use Rattle.double_array.specs.DoubleArray.{baseAt, checkAt, markerOf, markerAt, childAt, lookMarker, past, downTo, lookFrom, storeIn, lookRow}
 use Rattle.double_array.specs.declared.Marker.{Marker}
@@ -28,6 +28,10 @@ module _ (S : Store) (l : List ℕ) where
   pub here-backoff : {e : Entry} → S .look l ≡ here e → backoff (modelIn S) l ≡ e .b
   unfolding backoff modelIn
   here-backoff h = rw h
+
+  pub here-extended : {e : Entry} → S .look l ≡ here e → extended (modelIn S) l ≡ e .e
+  unfolding extended modelIn
+  here-extended h = rw h
 
   pub here-live : {e : Entry} → S .look l ≡ here e → live (modelIn S) l ≡ (not (eqZ (e .b) (pos 0)) || e .f)
   unfolding live backoff continued modelIn
@@ -59,9 +63,9 @@ InRange (here e) = (inProbability (e .p) ≡ true) × (inBackoff (e .b) ≡ true
 
 marker-in-range : (check base : ℤ) → InRange (lookMarker (markerOf check base))
 unfolding markerOf
-marker-in-range check base = go (inProbability (check +ℤ pos 1)) refl (inBackoff (half base)) refl
+marker-in-range check base = go (inProbability (check +ℤ pos 1)) refl (inBackoff (half (half base))) refl
   where
-    go : (s : Bool) → inProbability (check +ℤ pos 1) ≡ s → (t : Bool) → inBackoff (half base) ≡ t → InRange (lookMarker (cond (s && t) (Sound (check +ℤ pos 1) (half base) (odd base)) Broken))
+    go : (s : Bool) → inProbability (check +ℤ pos 1) ≡ s → (t : Bool) → inBackoff (half (half base)) ≡ t → InRange (lookMarker (cond (s && t) (Sound (check +ℤ pos 1) (half (half base)) (odd (half base)) (odd base)) Broken))
     go true e true f = (e, f)
     go true e false f = tt
     go false e t f = tt
@@ -81,8 +85,8 @@ module _ (base check : List ℤ) where
   look-in-range (w ∷ l) s = go (look-in-range l) (markerAt base check s) (childAt base check s w)
     where
       go : ((t : ℕ) → InRange (lookFrom base check t l)) → (m : Marker) (c : Child) → InRange (past m (downTo c (λ (t : ℕ). lookFrom base check t l)))
-      go ih (Sound p b f) (At t) = ih t
-      go ih (Sound p b f) Nothing = tt
+      go ih (Sound p b e f) (At t) = ih t
+      go ih (Sound p b e f) Nothing = tt
       go ih Broken c = tt
 
   row-in-range : (l : List ℕ) → InRange (lookRow base check l)

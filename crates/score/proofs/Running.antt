@@ -17,7 +17,7 @@ use Rattle.backoff.specs.Limits.{unknownWord, orderLimit, largestBackoff}
 use Rattle.backoff.specs.Refusal.{brokenNode}
 use Rattle.backoff.specs.Model.{inProbability, probability}
 use Rattle.backoff.specs.Rule.{lengthByte, replaced}
-use Rattle.backoff.specs.State.{State as Carried, matchedFrom, stepPoints, stepByte, stepNext}
+use Rattle.backoff.specs.State.{State as Carried, matchedFrom, extendedFrom, stepPoints, stepByte, stepNext}
 use Rattle.backoff.specs.Run.{written, acceptedRun}
 use Rattle.backoff.specs.NineNumbers.{nine}
 use Rattle.backoff.specs.Store.{Store, modelIn, scored, stuck, step, Ran, ran, refusedAt, before, onward, runOver, brokenRun, ranAnswer}
@@ -45,12 +45,12 @@ module _ (S : Store) (in-probability : (l : List ℕ) → inProbability (probabi
       points : natAbs (stepPoints (modelIn S) s w) ≤ orderLimit * largestBackoff
       points = unfold stepPoints in omega (arith, points-size (modelIn S) in-probability b (replaced (modelIn S) w), b .few)
 
-      eight : (u : Bool) → cond u 8 0 ≤ 8
-      eight true = omega arith
-      eight false = omega arith
+      at-most : (n : ℕ) (u : Bool) → cond u n 0 ≤ n
+      at-most n true = omega arith
+      at-most n false = omega arith
 
       byte : stepByte (modelIn S) s w < 256
-      byte = unfold stepByte lengthByte matchedFrom in omega (arith, walk-le (modelIn S) (replaced (modelIn S) w) (s .words), b .few, eight (eqb (replaced (modelIn S) w) unknownWord))
+      byte = unfold stepByte lengthByte matchedFrom in omega (arith, walk-le (modelIn S) (replaced (modelIn S) w) (s .words), b .few, at-most 8 (eqb (replaced (modelIn S) w) unknownWord), at-most 16 (extendedFrom (modelIn S) s (replaced (modelIn S) w)))
 
       go : (u : Bool) → cond u stuck (scored (stepPoints (modelIn S) s w) (stepByte (modelIn S) s w) (stepNext (modelIn S) s w)) ≡ scored x y t → (natAbs x ≤ orderLimit * largestBackoff) × (y < 256)
       go true q = let z : _≡_ {A = ℕ} 0 1 = cc in absurd (omega arith)

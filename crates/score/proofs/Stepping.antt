@@ -1,5 +1,5 @@
 -- One word from a state over a double array: the step of crate backoff from what the code reads. Assumes nothing.
-use mathlib.Core.Path.{_≡_, refl, sym, ap, _∙_}
+use mathlib.Core.Path.{_≡_, refl, sym, ap, ap₂, _∙_}
 use mathlib.Core.Bool.{Bool, true, false, cond, _||_, true≢false, false≢true}
 use mathlib.Core.List.{List, [], _∷_, map}
 use mathlib.Core.Option.{Option, none, some}
@@ -15,7 +15,7 @@ use Rattle.backoff.specs.Limits.{unknownWord, wordLimit, orderLimit}
 use Rattle.backoff.specs.Words.{isWord, radix}
 use Rattle.backoff.specs.Model.{Model, inBackoff, reach}
 use Rattle.backoff.specs.Rule.{lengthByte}
-use Rattle.backoff.specs.State.{State as Carried, backoffsOf, newest, pointsFrom, matchedFrom, nextFrom}
+use Rattle.backoff.specs.State.{State as Carried, backoffsOf, newest, pointsFrom, matchedFrom, extendedFrom, nextFrom}
 use Rattle.backoff.specs.NineNumbers.{all}
 use Rattle.backoff.specs.Store.{isBroken, modelIn, scored, stuck, unknownAt, wordAt, walkedWord, endsBroken, stepFrom, step}
 use Rattle.backoff.proofs.State.{take-backoffsOf, liveLength-le, walk-le}
@@ -38,17 +38,17 @@ use Rattle.score.proofs.Digits.{length-digits, digits-pushed}
 
 -- the word to walk where its node has this marker
 own-word : (w : ℕ) (m : Marker) (other : Option ℕ) → wordAt w (lookMarker m) other ≡ cond (isBroken (lookMarker m)) none (some w)
-own-word w (Sound p b f) other = refl
+own-word w (Sound p b e f) other = refl
 own-word w Broken other = refl
 
 other-word : (m : Marker) → unknownAt (lookMarker m) ≡ cond (isBroken (lookMarker m)) none (some unknownWord)
-other-word (Sound p b f) = refl
+other-word (Sound p b e f) = refl
 other-word Broken = refl
 
 module _ (base check : List ℤ) (h : isArray base check ≡ true) where
   one-word : (w : ℕ) → storeIn base check .look (w ∷ []) ≡ downTo (childAt base check 0 w) (λ (t : ℕ). lookMarker (markerAt base check t))
   unfolding storeIn lookFrom
-  one-word w = look-down base check 0 _ _ _ w [] (root-sound base check h)
+  one-word w = look-down base check 0 _ _ _ _ w [] (root-sound base check h)
 
   at-child : (w : ℕ) (c : Child) → childAt base check 0 w ≡ c → storeIn base check .look (w ∷ []) ≡ downTo c (λ (t : ℕ). lookMarker (markerAt base check t))
   at-child w c e = one-word w ∙ ap (λ (k : Child). downTo k (λ (t : ℕ). lookMarker (markerAt base check t))) e
@@ -105,11 +105,11 @@ module _ (base check : List ℤ) (h : isArray base check ≡ true) where
           go false false q k = absurd (false≢true k)
 
       -- and else scored
-      first-sound : meetsBroken (storeIn base check) (s .words) v ≡ false → step (storeIn base check) s w ≡ scored (pointsFrom (rowsIn base check) s v) (lengthByte (matchedFrom (rowsIn base check) s v) v) (nextFrom (rowsIn base check) s v)
+      first-sound : meetsBroken (storeIn base check) (s .words) v ≡ false → step (storeIn base check) s w ≡ scored (pointsFrom (rowsIn base check) s v) (lengthByte (matchedFrom (rowsIn base check) s v) v (extendedFrom (rowsIn base check) s v)) (nextFrom (rowsIn base check) s v)
       unfolding step
       first-sound m = ap (stepFrom (storeIn base check) s) (walked-from slot v e) ∙ go (isBroken (storeIn base check .look (v ∷ []))) (endsBroken (storeIn base check) (s .words) v) refl m
         where
-          go : (a b : Bool) → endsBroken (storeIn base check) (s .words) v ≡ b → (a || b) ≡ false → stepFrom (storeIn base check) s (cond a none (some v)) ≡ scored (pointsFrom (rowsIn base check) s v) (lengthByte (matchedFrom (rowsIn base check) s v) v) (nextFrom (rowsIn base check) s v)
+          go : (a b : Bool) → endsBroken (storeIn base check) (s .words) v ≡ b → (a || b) ≡ false → stepFrom (storeIn base check) s (cond a none (some v)) ≡ scored (pointsFrom (rowsIn base check) s v) (lengthByte (matchedFrom (rowsIn base check) s v) v (extendedFrom (rowsIn base check) s v)) (nextFrom (rowsIn base check) s v)
           go true b q k = absurd (true≢false k)
           go false true q k = absurd (true≢false k)
           go false false q k = unfold stepFrom in rw q
@@ -117,7 +117,7 @@ module _ (base check : List ℤ) (h : isArray base check ≡ true) where
 -- ---- the state that a word leaves
 
 -- the word v in slot `slot`, walked over the state that is carried; what the walk has read, and left in the lent array
-module _ (base check : List ℤ) (h : isArray base check ≡ true) (c : Packed) (given : List ℤ) (held : Carries (orderIn check) c given) (v slot : ℕ) (child : childAt base check 0 v ≡ At slot) (points : ℤ) (passed : ℕ) (kept : Kept) (backoffs : List ℤ) (d : Read (storeIn base check) (heldIn c given) v points passed kept backoffs) where
+module _ (base check : List ℤ) (h : isArray base check ≡ true) (c : Packed) (given : List ℤ) (held : Carries (orderIn check) c given) (v slot : ℕ) (child : childAt base check 0 v ≡ At slot) (points : ℤ) (passed : ℕ) (kept : Kept) (extended : Bool) (backoffs : List ℤ) (d : Read (storeIn base check) (heldIn c given) v points passed kept extended backoffs) where
   abbrev M : Model
   M = rowsIn base check
 
@@ -150,9 +150,9 @@ module _ (base check : List ℤ) (h : isArray base check ≡ true) (c : Packed) 
   unfolding isWord
   word-high = let l = leb-true v wordLimit (and-right (leb 1 v) (leb v wordLimit) word-is-word) in omega arith
 
-  byte-is : lengthByte (suc passed) v ≡ lengthByte (matchedFrom M s v) v
+  byte-is : lengthByte (suc passed) v extended ≡ lengthByte (matchedFrom M s v) v (extendedFrom M s v)
   unfolding matchedFrom
-  byte-is = ap (λ (k : ℕ). lengthByte (suc k) v) (d .passed-is)
+  byte-is = ap₂ (λ (k : ℕ) (e : Bool). lengthByte (suc k) v e) (d .passed-is) (d .extended-is)
 
   next-newest : nextFrom M s v ≡ newest M (kept .count) (v ∷ s .words)
   unfolding nextFrom matchedFrom
@@ -187,11 +187,11 @@ module _ (base check : List ℤ) (h : isArray base check ≡ true) (c : Packed) 
   }
 
   -- so the step is what the code makes of the walk
-  pub stepped : (w : ℕ) → firstOf w (childAt base check 0 w) (childAt base check 0 unknownWord) ≡ From slot v → (x : Stepped) → ScoredAs (c .words) v points passed kept x → SteppedTo (storeIn base check) s w x backoffs
+  pub stepped : (w : ℕ) → firstOf w (childAt base check 0 w) (childAt base check 0 unknownWord) ≡ From slot v → (x : Stepped) → ScoredAs (c .words) v points passed kept extended x → SteppedTo (storeIn base check) s w x backoffs
   unfolding storeIn
   stepped w e x a = record {
     is = a .word (heldIn (x .next) backoffs) ∙ rw (d .points-are, byte-is, next-is) (sym (first-sound base check h w slot v e s (d .sound)));
-    carries = λ kind y q. rw (a .next) next-carries;
+    carries = λ kind y e q. rw (a .next) next-carries;
   }
     where
       next-is : heldIn (x .next) backoffs ≡ nextFrom M s v

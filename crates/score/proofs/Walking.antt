@@ -16,7 +16,7 @@ use lib.Seq.{take-suc, take-all, take-suc-set, append-snoc}
 use lib.IntN.{ℤ, pos, _+ℤ_}
 use Rattle.integer.specs.Integer.{eqZ, sum}
 use Rattle.backoff.specs.Model.{Model, listed, live, reach}
-use Rattle.backoff.specs.State.{largest, backoffsOf, liveLength, walk, pointsFrom}
+use Rattle.backoff.specs.State.{largest, backoffsOf, liveLength, walk, pointsFrom, extendedFrom}
 use Rattle.backoff.specs.Store.{absent, broken, here, Store, isBroken, modelIn, endsBroken}
 use Rattle.backoff.proofs.Climb.{climb-stops, largest-here, largest-down}
 use Rattle.double_array.specs.DoubleArray.{markerAt, childAt, lookFrom, isArray, orderIn, storeIn}
@@ -26,7 +26,7 @@ use Rattle.double_array.proofs.DoubleArray.{root-sound, look-here, look-down, l
 use Rattle.score.specs.declared.Kept.{Kept}
 use Rattle.score.specs.Meaning.{rowsIn}
 use Rattle.score.specs.Inner.{Owes, longestLive, meetsBroken, Read}
-use Rattle.score.proofs.Rows.{here-listed, here-probability, here-backoff, here-live, absent-unlisted, broken-unlisted, listed-sound}
+use Rattle.score.proofs.Rows.{here-listed, here-probability, here-backoff, here-extended, here-live, absent-unlisted, broken-unlisted, listed-sound}
 
 -- where the walk passes j words, it would go on at the next
 ends-at : (S : Store) (ws : List ℕ) (v j : ℕ) → walk (modelIn S) v ws ≡ j → endsBroken S ws v ≡ isBroken (S .look (v ∷ take (suc j) ws))
@@ -72,7 +72,7 @@ module _ (base check : List ℤ) (v : ℕ) (ws : List ℕ) where
   -- it begins at the root's child for v
   pub walking-begins : (t : ℕ) (backoffs : List ℤ) → isArray base check ≡ true → childAt base check 0 v ≡ At t → Walking base check v ws t 0 (record { count = 0; owed = pos 0 }) backoffs
   walking-begins t backoffs h e = record {
-    reached = λ m. unfold storeIn in look-down base check 0 _ _ _ v m (root-sound base check h) ∙ rw e;
+    reached = λ m. unfold storeIn in look-down base check 0 _ _ _ _ v m (root-sound base check h) ∙ rw e;
     sound = λ i l. absurd (omega arith);
     kept-is = unfold liveLength largest in rw (min-zero (reach (rowsIn base check)));
     read = unfold backoffsOf in refl;
@@ -99,9 +99,9 @@ module _ (base check : List ℤ) (v : ℕ) (ws : List ℕ) where
             rw (ends-at (storeIn base check) ws v j stop, rw q at node) (or-true (isBroken (storeIn base check .look (v ∷ []))))
 
     -- a node with a sound one
-    module _ (p b : ℤ) (f : Bool) (e : markerAt base check s ≡ Sound p b f) where
-      node : storeIn base check .look (v ∷ take passed ws) ≡ here (record { p = p; b = b; f = f })
-      node = at-node ∙ look-here base check s p b f e
+    module _ (p b : ℤ) (x f : Bool) (e : markerAt base check s ≡ Sound p b x f) where
+      node : storeIn base check .look (v ∷ take passed ws) ≡ here (record { p = p; b = b; e = x; f = f })
+      node = at-node ∙ look-here base check s p b x f e
 
       sound-here : (i : ℕ) → i ≤ passed → listed (rowsIn base check) (v ∷ take i ws) ≡ true
       sound-here i h = below-more (λ (k : ℕ). listed (rowsIn base check) (v ∷ take k ws) ≡ true) passed (w .sound) (here-listed (storeIn base check) (v ∷ take passed ws) node) i (omega arith)
@@ -128,7 +128,7 @@ module _ (base check : List ℤ) (v : ℕ) (ws : List ℕ) where
         -- the walk goes on to the child for the next word
         pub walking-on : (u : ℕ) → passed < length ws → passed < length backoffs → childAt base check s (getD ws passed 0) ≡ At u → Walking base check v ws u (passed + 1) noted (set backoffs passed b)
         walking-on u h k c = record {
-          reached = λ m. rw add-one (past-node m h ∙ look-down base check s p b f (getD ws passed 0) m e ∙ rw c);
+          reached = λ m. rw add-one (past-node m h ∙ look-down base check s p b x f (getD ws passed 0) m e ∙ rw c);
           sound = λ i l. sound-here i (omega arith);
           kept-is = noted-is ∙ ap (λ (k : ℕ). liveLength (rowsIn base check) (min (reach (rowsIn base check)) k) (v ∷ ws)) (sym (add-one passed));
           read = rw add-one (read-is k);
@@ -136,35 +136,36 @@ module _ (base check : List ℤ) (v : ℕ) (ws : List ℕ) where
 
         -- it ends here where the node at which it would go on is none, or there are no more words; `left` are the state's back-offs
         module _ (left : List ℤ) (five : length backoffs ≡ 5) (inside : passed < 5) (owed : Owes (noted .count) (noted .owed) (set backoffs passed b)) where
-          ended : passed ≤ length ws → (passed ≡ length ws) ⊎ (listed (rowsIn base check) (v ∷ take (suc passed) ws) ≡ false) → isBroken (storeIn base check .look (v ∷ take (suc passed) ws)) ≡ false → Read (storeIn base check) (record { words = ws; backoffs = left }) v (p +ℤ sum (drop passed left)) passed noted (set backoffs passed b)
-          unfolding pointsFrom
+          ended : passed ≤ length ws → (passed ≡ length ws) ⊎ (listed (rowsIn base check) (v ∷ take (suc passed) ws) ≡ false) → isBroken (storeIn base check .look (v ∷ take (suc passed) ws)) ≡ false → Read (storeIn base check) (record { words = ws; backoffs = left }) v (p +ℤ sum (drop passed left)) passed noted x (set backoffs passed b)
+          unfolding pointsFrom extendedFrom
           ended h o n =
               let stop : walk (rowsIn base check) v ws ≡ passed = walk-stops (rowsIn base check) v ws passed h sound-here o in
               record {
                 sound = rw (listed-sound (storeIn base check) (v ∷ []) (sound-here 0 (omega arith)), ends-at (storeIn base check) ws v passed stop, n);
                 passed-is = sym stop;
                 points-are = rw (stop, here-probability (storeIn base check) (v ∷ take passed ws) node);
+                extended-is = rw (stop, here-extended (storeIn base check) (v ∷ take passed ws) node);
                 kept-is = noted-is;
                 owed = owed;
                 five = length-set backoffs passed b ∙ five;
                 read = read-is (omega arith);
               }
 
-          no-more : passed ≡ length ws → Read (storeIn base check) (record { words = ws; backoffs = left }) v (p +ℤ sum (drop passed left)) passed noted (set backoffs passed b)
+          no-more : passed ≡ length ws → Read (storeIn base check) (record { words = ws; backoffs = left }) v (p +ℤ sum (drop passed left)) passed noted x (set backoffs passed b)
           no-more h = ended (omega arith) (inl h) (ap (λ (l : List ℕ). isBroken (storeIn base check .look (v ∷ l))) same ∙ listed-sound (storeIn base check) (v ∷ take passed ws) (sound-here passed (omega arith)))
             where
               same : take (suc passed) ws ≡ take passed ws
               same = take-all (suc passed) ws (omega arith) ∙ sym (take-all passed ws (omega arith))
 
-          nowhere : passed < length ws → childAt base check s (getD ws passed 0) ≡ Nothing → Read (storeIn base check) (record { words = ws; backoffs = left }) v (p +ℤ sum (drop passed left)) passed noted (set backoffs passed b)
+          nowhere : passed < length ws → childAt base check s (getD ws passed 0) ≡ Nothing → Read (storeIn base check) (record { words = ws; backoffs = left }) v (p +ℤ sum (drop passed left)) passed noted x (set backoffs passed b)
           nowhere h c = ended (omega arith) (inr (absent-unlisted (storeIn base check) (v ∷ take (suc passed) ws) nothing)) (rw nothing)
             where
               nothing : storeIn base check .look (v ∷ take (suc passed) ws) ≡ absent
-              nothing = ap (λ (l : List ℕ). storeIn base check .look (v ∷ l)) (sym (append-nil (take (suc passed) ws))) ∙ past-node [] h ∙ look-down base check s p b f (getD ws passed 0) [] e ∙ rw c
+              nothing = ap (λ (l : List ℕ). storeIn base check .look (v ∷ l)) (sym (append-nil (take (suc passed) ws))) ∙ past-node [] h ∙ look-down base check s p b x f (getD ws passed 0) [] e ∙ rw c
 
-          pub walking-ends : passed ≤ length ws → (passed < length ws → childAt base check s (getD ws passed 0) ≡ Nothing) → Read (storeIn base check) (record { words = ws; backoffs = left }) v (p +ℤ sum (drop passed left)) passed noted (set backoffs passed b)
+          pub walking-ends : passed ≤ length ws → (passed < length ws → childAt base check s (getD ws passed 0) ≡ Nothing) → Read (storeIn base check) (record { words = ws; backoffs = left }) v (p +ℤ sum (drop passed left)) passed noted x (set backoffs passed b)
           walking-ends h c = go (decLe (length ws) passed)
             where
-              go : Dec (length ws ≤ passed) → Read (storeIn base check) (record { words = ws; backoffs = left }) v (p +ℤ sum (drop passed left)) passed noted (set backoffs passed b)
+              go : Dec (length ws ≤ passed) → Read (storeIn base check) (record { words = ws; backoffs = left }) v (p +ℤ sum (drop passed left)) passed noted x (set backoffs passed b)
               go (yes k) = no-more (omega arith)
               go (no k) = nowhere (omega arith) (c (omega arith))

@@ -1,4 +1,5 @@
 -- The code's state as its nine numbers, and the code's answers as those that crate backoff defines. Assumes nothing.
+use mathlib.Core.Bool.{Bool, cond}
 use mathlib.Core.List.{List, _∷_, _++_}
 use Prim.Native.Nat.{ℕ, _+_}
 use lib.IntN.{ℤ}
@@ -18,13 +19,17 @@ unfoldable pub numbersOf : State → List ℤ
 numbersOf s = s .count ∷ (s .words ++ s .backoffs)
 
 -- "its matched length, plus 8 if unknown"
-abbrev pub byteOf : Kind → ℕ
-byteOf (Known matched) = matched
-byteOf (Unknown matched) = matched + 8
+abbrev pub kindByte : Kind → ℕ
+kindByte (Known matched) = matched
+kindByte (Unknown matched) = matched + 8
+
+-- and "16 added" where the matched row is extended
+abbrev pub byteOf : Kind → Bool → ℕ
+byteOf kind extended = kindByte kind + cond extended 16 0
 
 -- a word's answer, with the state that it leaves, as a step
 abbrev pub stepOf : Word → Carried → Step
-stepOf (Scored kind points) next = scored points (byteOf kind) next
+stepOf (Scored kind points extended) next = scored points (byteOf kind extended) next
 stepOf Refused next = stuck
 
 abbrev pub startedOf : Started → StartAnswer

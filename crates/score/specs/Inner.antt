@@ -13,7 +13,7 @@ use Rattle.backoff.specs.Refusal.{arrayHead, badState}
 use Rattle.backoff.specs.Words.{isWord, radix, threeDigits, key}
 use Rattle.backoff.specs.Model.{inBackoff, reach}
 use Rattle.backoff.specs.Rule.{lengthByte}
-use Rattle.backoff.specs.State.{State as Carried, backoffsOf, liveLength, walk, pointsFrom}
+use Rattle.backoff.specs.State.{State as Carried, backoffsOf, liveLength, walk, pointsFrom, extendedFrom}
 use Rattle.backoff.specs.NineNumbers.{all, stateOk}
 use Rattle.backoff.specs.Store.{Store, isBroken, modelIn, scored, endsBroken, step}
 use Rattle.double_array.specs.DoubleArray.{freeCheck, childSlot}
@@ -82,28 +82,29 @@ abbrev pub meetsBroken : Store → List ℕ → ℕ → Bool
 meetsBroken S ws v = isBroken (S .look (v ∷ [])) || endsBroken S ws v
 
 -- what a walk with no such node from the state s has read, and left in the lent array
-pub record Read (S : Store) (s : Carried) (v : ℕ) (points : ℤ) (passed : ℕ) (kept : Kept) (backoffs : List ℤ) : Type 0 where
+pub record Read (S : Store) (s : Carried) (v : ℕ) (points : ℤ) (passed : ℕ) (kept : Kept) (extended : Bool) (backoffs : List ℤ) : Type 0 where
   pub sound : meetsBroken S (s .words) v ≡ false
   pub passed-is : passed ≡ walk (modelIn S) v (s .words)
   pub points-are : points ≡ pointsFrom (modelIn S) s v
+  pub extended-is : extended ≡ extendedFrom (modelIn S) s v
   pub kept-is : kept .count ≡ liveLength (modelIn S) (min (reach (modelIn S)) (suc passed)) (v ∷ s .words)
   pub owed : Owes (kept .count) (kept .owed) backoffs
   pub five : length backoffs ≡ 5
   pub read : take (suc passed) backoffs ≡ backoffsOf (modelIn S) (suc passed) (v ∷ s .words)
 
 abbrev pub WalkedOver : Store → Carried → ℕ → Walked → List ℤ → Type 0
-WalkedOver S s v (Whole points passed kept) backoffs = Read S s v points passed kept backoffs
+WalkedOver S s v (Whole points passed kept extended) backoffs = Read S s v points passed kept extended backoffs
 WalkedOver S s v Stuck backoffs = meetsBroken S (s .words) v ≡ true
 
 -- what a word v and what was read on the walk from it make of a state's words
-pub record ScoredAs (words v : ℕ) (points : ℤ) (passed : ℕ) (kept : Kept) (r : Stepped) : Type 0 where
-  pub word : (t : Carried) → stepOf (r .word) t ≡ scored points (lengthByte (suc passed) v) t
+pub record ScoredAs (words v : ℕ) (points : ℤ) (passed : ℕ) (kept : Kept) (extended : Bool) (r : Stepped) : Type 0 where
+  pub word : (t : Carried) → stepOf (r .word) t ≡ scored points (lengthByte (suc passed) v extended) t
   pub next : r .next ≡ record { count = kept .count; words = pushed v words; owed = kept .owed }
 
 -- one word from the state s: the step, and the state that it leaves is carried
 pub record SteppedTo (S : Store) (s : Carried) (w : ℕ) (r : Stepped) (backoffs : List ℤ) : Type 0 where
   pub is : stepOf (r .word) (heldIn (r .next) backoffs) ≡ step S s w
-  pub carries : (kind : Kind) (points : ℤ) → r .word ≡ Scored kind points → Carries (S .order) (r .next) backoffs
+  pub carries : (kind : Kind) (points : ℤ) (extended : Bool) → r .word ≡ Scored kind points extended → Carries (S .order) (r .next) backoffs
 
 -- 11, then 16, then what 14 and 15 say
 abbrev pub earlyRefusal : Option Store → List ℤ → ℕ → ℕ

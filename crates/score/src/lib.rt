@@ -2,7 +2,7 @@
 use double_array::Child;
 use double_array::Marker;
 ghost use mathlib.Core.Path.{_≡_};
-ghost use mathlib.Core.Bool.{true, cond};
+ghost use mathlib.Core.Bool.{Bool, true, cond};
 ghost use mathlib.Core.List.{[], _∷_, _++_, map};
 ghost use Prim.Native.Nat.{ℕ, _%_, _≤_, _<_};
 ghost use lib.ListN.{length, take, set, replicate};
@@ -17,7 +17,7 @@ ghost use Rattle.backoff.specs.Run.{Run, written, sizeRefusal};
 ghost use Rattle.backoff.specs.NineNumbers.{all, padded, nine, nineZeros, stateIn, stateOk};
 ghost use Rattle.backoff.specs.Store.{runOver, ranAnswer, runOutcome, startOutcome};
 ghost use Rattle.double_array.specs.DoubleArray.{childAt, isArray, orderIn, storeIn, opened};
-ghost use Rattle.score.specs.Answers.{numbersOf, byteOf, answerOf, startedOf};
+ghost use Rattle.score.specs.Answers.{numbersOf, kindByte, byteOf, answerOf, startedOf};
 ghost use Rattle.score.specs.Meaning.{StartMeans, RunMeans};
 ghost use Rattle.score.specs.Inner.{partOk, rootChild, firstOf, packedAs, heldIn, Carries, longestLive, WalkedOver, ScoredAs, SteppedTo, earlyRefusal};
 
@@ -34,9 +34,13 @@ pub enum Kind {
     Unknown(u8),
 }
 
-// A word's answer.
+// A word's answer; `extended` says whether some row puts a further word in front of the matched one.
 pub enum Word {
-    Scored { kind: Kind, points: i32 },
+    Scored {
+        kind: Kind,
+        points: i32,
+        extended: bool,
+    },
     Refused,
 }
 
@@ -75,13 +79,14 @@ struct Kept {
     owed: i32,
 }
 
-// A walk through a state's words: where each node on it had a sound marker, the word's points, how many of the state's words were passed, and the
-// longest live row that a state can hold.
+// A walk through a state's words: where each node on it had a sound marker, the word's points, how many of the state's words were passed, the
+// longest live row that a state can hold, and whether the last row is extended.
 enum Walked {
     Whole {
         points: i32,
         passed: usize,
         kept: Kept,
+        extended: bool,
     },
     Stuck,
 }
@@ -174,12 +179,11 @@ fn first_node(check: &[i32], w: u32) -> First
     }
 }
 
-// The longest live row of fewer than `order` words, once the row of `count` words has been read too. A row is live where BASE of its marker is not 0.
+// The longest live row of fewer than `order` words, once the row of `count` words has been read too.
 fn longest_live(kept: Kept, count: usize, owed: i32, order: usize, b: i32, f: bool) -> Kept
-    requires { ⌜ inBackoff b ≡ true ⌝ }
     ensures { λ r. ⌜ r ≡ longestLive kept (record { count = count; owed = owed }) order b f ⌝ }
 {
-    let live = double_array::marker_base(b, f) != 0;
+    let live = (b != 0) | f;
     if (count < order) & live {
         Kept { count, owed }
     } else {
@@ -223,7 +227,7 @@ fn walk(
     let mut sum = 0;
     let mut kept = Kept { count: 0, owed: 0 };
     loop {
-        let Marker::Sound { p, b, f } = double_array::read_marker(base, check, s) else {
+        let Marker::Sound { p, b, e, f } = double_array::read_marker(base, check, s) else {
             return Walked::Stuck;
         };
         let old = backoffs[passed];
@@ -235,6 +239,7 @@ fn walk(
                 points: p + owed,
                 passed,
                 kept,
+                extended: e,
             };
         };
         owed -= old;
@@ -246,7 +251,7 @@ fn walk(
 
 // The kind of a word that is scored as this one.
 fn kind_of(word: u32, matched: u8) -> Kind
-    ensures { λ r. ⌜ byteOf r ≡ lengthByte matched word ⌝ }
+    ensures { λ r. ⌜ ((e : Bool) → byteOf r e ≡ lengthByte matched word e) ⌝ }
 {
     if word == backoff::UNKNOWN_WORD {
         Kind::Unknown(matched)
@@ -256,10 +261,10 @@ fn kind_of(word: u32, matched: u8) -> Kind
 }
 
 // The answer of a word whose walk is done, and the state that it leaves.
-fn scored(words: u64, word: u32, points: i32, passed: usize, kept: Kept) -> Stepped
+fn scored(words: u64, word: u32, points: i32, passed: usize, kept: Kept, extended: bool) -> Stepped
     requires { ⌜ isWord word ≡ true ⌝ }
     requires { ⌜ passed ≤ 4 ⌝ }
-    ensures { λ r. ⌜ ScoredAs words word points passed kept r ⌝ }
+    ensures { λ r. ⌜ ScoredAs words word points passed kept extended r ⌝ }
 {
     let kind = kind_of(word, passed as u8 + 1);
     let next = Packed {
@@ -267,7 +272,11 @@ fn scored(words: u64, word: u32, points: i32, passed: usize, kept: Kept) -> Step
         words: words % backoff::THREE_DIGITS * backoff::RADIX + word as u64,
         owed: kept.owed,
     };
-    let word = Word::Scored { kind, points };
+    let word = Word::Scored {
+        kind,
+        points,
+        extended,
+    };
     Stepped { word, next }
 }
 
@@ -296,6 +305,7 @@ fn step(
         points,
         passed,
         kept,
+        extended,
     } = walked
     else {
         return Stepped {
@@ -303,18 +313,27 @@ fn step(
             next: carried,
         };
     };
-    scored(carried.words, word, points, passed, kept)
+    scored(carried.words, word, points, passed, kept, extended)
 }
 
-// The paper's length byte.
-fn length_byte(kind: Kind) -> u8
-    requires { ⌜ byteOf kind < 256 ⌝ }
-    ensures { λ r. ⌜ r ≡ byteOf kind ⌝ }
+// The paper's length byte without its 16.
+fn kind_byte(kind: Kind) -> u8
+    requires { ⌜ kindByte kind < 256 ⌝ }
+    ensures { λ r. ⌜ r ≡ kindByte kind ⌝ }
 {
     match kind {
         Kind::Known(matched) => matched,
         Kind::Unknown(matched) => matched + 8,
     }
+}
+
+// The paper's length byte.
+fn length_byte(kind: Kind, extended: bool) -> u8
+    requires { ⌜ byteOf kind extended < 256 ⌝ }
+    ensures { λ r. ⌜ r ≡ byteOf kind extended ⌝ }
+{
+    let byte = kind_byte(kind);
+    if extended { byte + 16 } else { byte }
 }
 
 // A scored word's points, at its place in the run's slice.
@@ -326,14 +345,21 @@ fn write_points(points: &mut [i32], i: usize, scored: i32)
 }
 
 // A scored word's points and length byte, at its place in the run's slices.
-fn write_word(points: &mut [i32], lengths: &mut [u8], i: usize, kind: Kind, scored: i32)
+fn write_word(
+    points: &mut [i32],
+    lengths: &mut [u8],
+    i: usize,
+    kind: Kind,
+    scored: i32,
+    extended: bool,
+)
     requires { ⌜ (i < length (now points)) × (i < length (now lengths)) ⌝ }
-    requires { ⌜ byteOf kind < 256 ⌝ }
+    requires { ⌜ byteOf kind extended < 256 ⌝ }
     ensures points { λ _. ⌜ now (points .exit) ≡ set (now (points .entry)) i scored ⌝ }
-    ensures lengths { λ _. ⌜ now (lengths .exit) ≡ set (now (lengths .entry)) i (byteOf kind) ⌝ }
+    ensures lengths { λ _. ⌜ now (lengths .exit) ≡ set (now (lengths .entry)) i (byteOf kind extended) ⌝ }
 {
     write_points(points, i, scored);
-    lengths[i] = length_byte(kind);
+    lengths[i] = length_byte(kind, extended);
 }
 
 // The run's points and lengths after refusal 12.
@@ -467,6 +493,7 @@ fn score_words(
         let Word::Scored {
             kind,
             points: scored,
+            extended,
         } = word
         else {
             clear(points, lengths, words.len());
@@ -477,7 +504,7 @@ fn score_words(
                 end: state,
             };
         };
-        write_word(points, lengths, i, kind, scored);
+        write_word(points, lengths, i, kind, scored, extended);
         total += scored as i64;
         let next = stepped.next;
         carried = next;

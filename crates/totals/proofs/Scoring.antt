@@ -3,11 +3,11 @@ use mathlib.Core.Path.{_≡_, refl, sym, ap, _∙_}
 use mathlib.Core.Bool.{Bool, true, false, cond}
 use mathlib.Core.List.{List, [], _∷_, map}
 use mathlib.Core.Option.{some}
-use Prim.Native.Nat.{ℕ, zero, suc, _+_, _-_, _≤_, _<_, min}
+use Prim.Native.Nat.{ℕ, zero, suc, _+_, _-_, _/_, _%_, _≤_, _<_, min}
 use native.Mathlib.Omega.{arith}
 use native.Mathlib.Numerals.{add-one}
-use borrow.Author.Tests.{le-leb, lt-leb, le-ltb}
-use lib.Dec.{eqb, leb}
+use borrow.Author.Tests.{eq-eqb, ne-eqb, le-ltb}
+use lib.Dec.{eqb}
 use lib.IntN.{ℤ}
 use lib.ListN.{length, take, drop, getD, length-take, drop-of-length-le}
 use lib.Seq.{take-append-le, drop-cons}
@@ -34,7 +34,7 @@ use Rattle.totals.specs.Steps.{countUnknown, HoldsBuilt, Ready}
 
 -- ---- unknown words
 
-pub count-more : (bytes : List ℕ) (i : ℕ) → i < length bytes → countUnknown (drop i bytes) ≡ cond (leb 8 (getD bytes i 0)) 1 0 + countUnknown (drop (i + 1) bytes)
+pub count-more : (bytes : List ℕ) (i : ℕ) → i < length bytes → countUnknown (drop i bytes) ≡ cond (eqb (getD bytes i 0 / 8 % 2) 1) 1 0 + countUnknown (drop (i + 1) bytes)
 unfolding countUnknown
 count-more bytes i h = rw (add-one, drop-cons bytes i 0 h) refl
 
@@ -50,13 +50,16 @@ module _ (M : Model) (A : AcceptedModel M) where
       let k = min (M .order - 1) (length g) in
       omega (arith, A .order-high, scoreAfter-matched M k g (replaced M w), matchedHistory-le M k g (replaced M w))
 
-  byte-unknown : (h : List ℕ) (w : ℕ) → leb 8 (ruleByte M h w) ≡ eqb (replaced M w) unknownWord
+  -- the matched length is too small to count, and the 16 of an extended row counts twice
+  byte-unknown : (h : List ℕ) (w : ℕ) → eqb (ruleByte M h w / 8 % 2) 1 ≡ eqb (replaced M w) unknownWord
   unfolding ruleByte lengthByte
-  byte-unknown h w = go (eqb (replaced M w) unknownWord)
+  byte-unknown h w = go (eqb (replaced M w) unknownWord) (rule M h w .extended)
     where
-      go : (b : Bool) → leb 8 (rule M h w .matched + cond b 8 0) ≡ b
-      go true = le-leb 8 (rule M h w .matched + 8) (omega arith)
-      go false = lt-leb 8 (rule M h w .matched + 0) (omega (arith, matched-few h w))
+      go : (b e : Bool) → eqb ((rule M h w .matched + cond b 8 0 + cond e 16 0) / 8 % 2) 1 ≡ b
+      go true true = eq-eqb ((rule M h w .matched + 8 + 16) / 8 % 2) 1 (omega (arith, matched-few h w))
+      go true false = eq-eqb ((rule M h w .matched + 8 + 0) / 8 % 2) 1 (omega (arith, matched-few h w))
+      go false true = ne-eqb ((rule M h w .matched + 0 + 16) / 8 % 2) 1 (λ z. omega (arith, matched-few h w))
+      go false false = ne-eqb ((rule M h w .matched + 0 + 0) / 8 % 2) 1 (λ z. omega (arith, matched-few h w))
 
   pub count-unknown : (k : ℕ) (h ws : List ℕ) → countUnknown (take k (ruleBytes M h ws)) ≡ unknownIn M (take k ws)
   unfolding countUnknown unknownIn ruleBytes

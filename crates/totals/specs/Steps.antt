@@ -2,8 +2,8 @@
 use mathlib.Core.Path.{_≡_}
 use mathlib.Core.Bool.{true, false, cond}
 use mathlib.Core.List.{List, [], _∷_, _++_}
-use Prim.Native.Nat.{ℕ, _+_, _*_, _≤_}
-use lib.Dec.{eqb, leb}
+use Prim.Native.Nat.{ℕ, _+_, _*_, _/_, _%_, _≤_}
+use lib.Dec.{eqb}
 use lib.IntN.{ℤ}
 use lib.ListN.{length, take}
 use Rattle.bytes.specs.Bytes.{indexOf}
@@ -37,7 +37,7 @@ Closed line words = isTextLine line ≡ true → take (length (textWords line) +
 -- how many length bytes have 8 added
 unfoldable pub countUnknown : List ℕ → ℕ
 countUnknown [] = 0
-countUnknown (b ∷ bs) = cond (leb 8 b) 1 0 + countUnknown bs
+countUnknown (b ∷ bs) = cond (eqb (b / 8 % 2) 1) 1 0 + countUnknown bs
 
 -- the arrays that an accepted build of a table left
 pub record HoldsBuilt (base check : List ℤ) : Type 0 where

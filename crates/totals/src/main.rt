@@ -32,7 +32,7 @@ const LIST_LINES: usize = 512;
 // The longest line of TEXT, 64 words.
 const TEXT_LINE: usize = 512;
 
-// A length byte has 8 added where the word is unknown.
+// A length byte has 8 added where the word is unknown. The matched length is below it, and all else that is added is a multiple of 16.
 const UNKNOWN: u8 = 8;
 
 // The most pieces of TEXT that are read: 2^53, of 1,024 bytes.
@@ -130,7 +130,7 @@ fn read_sentence(line: &[u8]) -> Sentence
     Sentence { read, words }
 }
 
-// How many length bytes are those of unknown words.
+// How many length bytes are those of unknown words, whose matched row may be extended too.
 fn count_unknown(lengths: &[u8]) -> u32
     requires { ⌜ length (now lengths) ≤ 64 ⌝ }
     ensures { λ r. ⌜ r ≡ countUnknown (now (lengths .entry)) ⌝ }
@@ -138,7 +138,7 @@ fn count_unknown(lengths: &[u8]) -> u32
     let mut count: u32 = 0;
     let mut i = 0;
     while i < lengths.len() {
-        if UNKNOWN <= lengths[i] {
+        if lengths[i] / UNKNOWN % 2 == 1 {
             count += 1;
         }
         i += 1;

@@ -12,9 +12,9 @@ use lib.ListN.{length, take, length-take}
 use lib.IntN.{ℤ}
 use Rattle.backoff.specs.Limits.{orderLimit, unknownWord, startWord}
 use Rattle.backoff.specs.Refusal.{badState}
-use Rattle.backoff.specs.Model.{Model, isSome, probabilityOf, backoffOf, continuedOf, listed, probability, backoff, continued, live, reach}
+use Rattle.backoff.specs.Model.{Model, isSome, probabilityOf, backoffOf, extendedOf, continuedOf, listed, probability, backoff, extended, continued, live, reach}
 use Rattle.backoff.specs.Rule.{replaced}
-use Rattle.backoff.specs.State.{State, empty, climb, backoffsOf, newest, liveLength, walk, matchedFrom, pointsFrom, nextFrom, stepNext}
+use Rattle.backoff.specs.State.{State, empty, climb, backoffsOf, newest, liveLength, walk, matchedFrom, pointsFrom, extendedFrom, nextFrom, stepNext}
 use Rattle.backoff.specs.Run.{Run, refusedRun}
 use Rattle.backoff.specs.NineNumbers.{stateIn, stateOk}
 use Rattle.backoff.specs.Store.{Look, Store, entryOf, isBroken, modelIn, scored, stuck, walkedWord, endsBroken, stepFrom, step, before, onward, runOver, runIn, runOutcome, startOutcome}
@@ -48,6 +48,10 @@ module _ (S T : Store) (order : S .order ≡ T .order) (look : (l : List ℕ) �
     backoff-agrees : backoff M l ≡ backoff K l
     unfolding backoff modelIn
     backoff-agrees = ap (λ (x : Look). backoffOf (entryOf x)) (look l h)
+
+    extended-agrees : extended M l ≡ extended K l
+    unfolding extended modelIn
+    extended-agrees = ap (λ (x : Look). extendedOf (entryOf x)) (look l h)
 
     continued-agrees : continued M l ≡ continued K l
     unfolding continued modelIn
@@ -94,6 +98,10 @@ module _ (S T : Store) (order : S .order ≡ T .order) (look : (l : List ℕ) �
     unfolding matchedFrom
     matchedFrom-agrees v = rw (walk-agrees v)
 
+    extendedFrom-agrees : (v : ℕ) → extendedFrom M s v ≡ extendedFrom K s v
+    unfolding extendedFrom
+    extendedFrom-agrees v = rw (walk-agrees v, extended-agrees (v ∷ take (walk K v (s .words)) (s .words)) (walked-part v (walk K v (s .words))))
+
     nextFrom-agrees : (v : ℕ) → nextFrom M s v ≡ nextFrom K s v
     unfolding nextFrom
     nextFrom-agrees v = rw (matchedFrom-agrees v, reach-agrees, liveLength-agrees (v ∷ s .words) h _) (newest-agrees (v ∷ s .words) h _)
@@ -105,7 +113,7 @@ module _ (S T : Store) (order : S .order ≡ T .order) (look : (l : List ℕ) �
     stepFrom-agrees : (o : Option ℕ) → stepFrom S s o ≡ stepFrom T s o
     unfolding stepFrom
     stepFrom-agrees none = refl
-    stepFrom-agrees (some v) = rw (endsBroken-agrees v, pointsFrom-agrees v, matchedFrom-agrees v, nextFrom-agrees v)
+    stepFrom-agrees (some v) = rw (endsBroken-agrees v, pointsFrom-agrees v, matchedFrom-agrees v, extendedFrom-agrees v, nextFrom-agrees v)
 
     step-agrees : (w : ℕ) → step S s w ≡ step T s w
     unfolding step walkedWord

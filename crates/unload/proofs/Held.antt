@@ -26,7 +26,7 @@ use Rattle.list.specs.Table.{rowsOf, probabilityAt, backoffAt, orderOf, words}
 use Rattle.list.specs.Search.{findIn}
 use Rattle.list.specs.Good.{Good}
 use Rattle.list.specs.Keys.{rowKey}
-use Rattle.list.specs.ListModel.{continuedIn, entryAt, modelOf}
+use Rattle.list.specs.ListModel.{extendedIn, continuedIn, entryAt, modelOf}
 use Rattle.list.specs.declared.Found.{Found}
 use Rattle.list.specs.declared.Found.the-variants.{At as Row, Nothing as NoRow}
 use Rattle.list.proofs.Table.{row-in, words-length}
@@ -69,8 +69,8 @@ module _ (base check : List ℤ) where
       go : (s : ℕ) → walkTo base check us ≡ At s → (m : Marker) (c : Child) → childAt base check s w ≡ c → past m (downTo c (λ (t : ℕ). lookFrom base check t q)) ≡ here y
           → (t : ℕ) × (walkTo base check (w ∷ us) ≡ At t) × (lookFrom base check t q ≡ here y)
       go s e Broken c k h = absurd (let z : _≡_ {A = ℕ} 0 1 = cc in omega arith)
-      go s e (Sound p b f) Nothing k h = absurd (let z : _≡_ {A = ℕ} 0 1 = cc in omega arith)
-      go s e (Sound p b f) (At t) k h = (t, walk-child base check us w s e ∙ k, h)
+      go s e (Sound p b g f) Nothing k h = absurd (let z : _≡_ {A = ℕ} 0 1 = cc in omega arith)
+      go s e (Sound p b g f) (At t) k h = (t, walk-child base check us w s e ∙ k, h)
 
   -- and one that comes to nothing comes to nothing below each of them
   absent-through : (us q : List ℕ) (s : ℕ) → walkTo base check us ≡ At s → lookFrom base check 0 (reverseAux us q) ≡ absent → lookFrom base check s q ≡ absent
@@ -81,17 +81,17 @@ module _ (base check : List ℤ) where
       go (markerAt base check (d .0)) (rw (d .2) at (absent-through us (w ∷ q) (d .0) (d .1) h))
     where
       go : (m : Marker) → past m (lookFrom base check s q) ≡ absent → lookFrom base check s q ≡ absent
-      go (Sound p b f) k = k
+      go (Sound p b g f) k = k
       go Broken k = absurd (let z : _≡_ {A = ℕ} 0 1 = cc in omega arith)
 
-  look-marker : (s : ℕ) (p b : ℤ) (f : Bool) → lookFrom base check s [] ≡ here (record { p = p; b = b; f = f }) → markerAt base check s ≡ Sound p b f
+  look-marker : (s : ℕ) (p b : ℤ) (e f : Bool) → lookFrom base check s [] ≡ here (record { p = p; b = b; e = e; f = f }) → markerAt base check s ≡ Sound p b e f
   unfolding lookFrom
-  look-marker s p b f h = go (markerAt base check s) h
+  look-marker s p b e f h = go (markerAt base check s) h
     where
-      go : (m : Marker) → lookMarker m ≡ here (record { p = p; b = b; f = f }) → m ≡ Sound p b f
-      go (Sound x y z) k =
-          let e : _≡_ {A = Entry} (record { p = x; b = y; f = z }) (record { p = p; b = b; f = f }) = cc in
-          λ i. Sound (e i .p) (e i .b) (e i .f)
+      go : (m : Marker) → lookMarker m ≡ here (record { p = p; b = b; e = e; f = f }) → m ≡ Sound p b e f
+      go (Sound x y u v) k =
+          let q : _≡_ {A = Entry} (record { p = x; b = y; e = u; f = v }) (record { p = p; b = b; e = e; f = f }) = cc in
+          λ i. Sound (q i .p) (q i .b) (q i .e) (q i .f)
       go Broken k = absurd (let z : _≡_ {A = ℕ} 0 1 = cc in omega arith)
 
   node-not-absent : (s : ℕ) → lookFrom base check s [] ≡ absent → ⊥
@@ -99,7 +99,7 @@ module _ (base check : List ℤ) where
   node-not-absent s h = go (markerAt base check s) h
     where
       go : (m : Marker) → lookMarker m ≡ absent → ⊥
-      go (Sound p b f) k = let z : _≡_ {A = ℕ} 0 1 = cc in omega arith
+      go (Sound p b g f) k = let z : _≡_ {A = ℕ} 0 1 = cc in omega arith
       go Broken k = let z : _≡_ {A = ℕ} 0 1 = cc in omega arith
 
 -- ---- the nodes of rows
@@ -210,11 +210,11 @@ module _ (base check t : List ℤ) (H : Holds base check t) where
       (omega (arith, words-length t j (row-in t j h), good .row j h .some), omega (arith, accepted-model t (H .list) .short (reverse (words t j)) l, length-reverse (words t j), H .order))
 
   -- a row's words lead to a node with its marker
-  row-leads : (j : ℕ) → j < rowsOf t → (s : ℕ) × (walkTo base check (words t j) ≡ At s) × (markerAt base check s ≡ Sound (probabilityAt t j) (backoffAt t j) (continuedIn t (words t j)))
+  row-leads : (j : ℕ) → j < rowsOf t → (s : ℕ) × (walkTo base check (words t j) ≡ At s) × (markerAt base check s ≡ Sound (probabilityAt t j) (backoffAt t j) (extendedIn t (words t j)) (continuedIn t (words t j)))
   row-leads j h =
       let k = row-short j h in
       let d = here-through base check (words t j) [] _ (look-words (words t j) (k .0) (k .1) ∙ ap (λ (f : Found). lookEntry (entryAt t (words t j) f)) (finds t good j h)) in
-      (d .0, d .1, look-marker base check (d .0) _ _ _ (d .2))
+      (d .0, d .1, look-marker base check (d .0) _ _ _ _ (d .2))
 
   -- and words that lead to a node are a row's
   leading-is-row : (us : List ℕ) (s : ℕ) → 1 ≤ length us → length us ≤ n → walkTo base check us ≡ At s → (j : ℕ) × (j < rowsOf t) × (words t j ≡ us)
@@ -254,7 +254,7 @@ module _ (base check t : List ℤ) (H : Holds base check t) where
           let s : r .slot ≡ slotIn (walkTo base check (words t (j .0))) = ap slotIn (sym (w .leads) ∙ ap (walkTo base check) (sym (j .2))) in
           Memᴰ·cast (λ i. record { slot = s i; words = sym (j .2) i }) (in-nodes base check t 0 (rowsOf t) (j .0) (omega arith) (omega (arith, j .1)))
 
-  node-marker : (j : ℕ) → j < rowsOf t → markerAt base check (node base check t j .slot) ≡ Sound (probabilityAt t j) (backoffAt t j) (continuedIn t (words t j))
+  node-marker : (j : ℕ) → j < rowsOf t → markerAt base check (node base check t j .slot) ≡ Sound (probabilityAt t j) (backoffAt t j) (extendedIn t (words t j)) (continuedIn t (words t j))
   node-marker j h = let d = row-leads j h in rw (d .1) (d .2)
 
   nodes-table : (i k : ℕ) → i + k ≡ rowsOf t → tableOf base check (nodesFrom base check t i k) ≡ drop (8 * i) t
@@ -270,11 +270,13 @@ module _ (base check t : List ℤ) (H : Holds base check t) where
   unfolding nodesFrom allRight
   nodes-right i zero h = refl
   nodes-right i (suc k) h =
-      rw (node-marker i (omega arith), nodes-right (suc i) k (omega arith)) (same (continuedIn t (words t i)))
+      rw (node-marker i (omega arith), nodes-right (suc i) k (omega arith)) (same (extendedIn t (words t i)) (continuedIn t (words t i)))
     where
-      same : (f : Bool) → (isRight (Sound (probabilityAt t i) (backoffAt t i) f) f && true) ≡ true
-      same true = refl
-      same false = refl
+      same : (e f : Bool) → (isRight (Sound (probabilityAt t i) (backoffAt t i) e f) e f && true) ≡ true
+      same true true = refl
+      same true false = refl
+      same false true = refl
+      same false false = refl
 
   -- The table of the nodes reached is the list, and passes.
   pub held-table : tableOf base check (reached base check n) ≡ t

@@ -72,10 +72,10 @@ module _ (base check : List ℤ) (array : isArray base check ≡ true) (ok : isL
   rows : rowsOf t ≡ rowsIn base
   rows = eqb-true (rowsOf t) (rowsIn base) (tests .3)
 
-  sound-at : (us : List ℕ) (s : ℕ) → length us ≤ n → walkTo base check us ≡ At s → (p b : ℤ) × (f : Bool) × (markerAt base check s ≡ Sound p b f)
+  sound-at : (us : List ℕ) (s : ℕ) → length us ≤ n → walkTo base check us ≡ At s → (p b : ℤ) × (e f : Bool) × (markerAt base check s ≡ Sound p b e f)
   unfolding walkTo
-  sound-at [] s h e = let z : 0 ≡ s = cc in (_, _, _, rw z at (root-sound base check array))
-  sound-at (w ∷ us) s h e = (_, _, _, all-sound base check t rs (tests .0) (record { slot = s; words = w ∷ us }) (reached-shown base check n (record { slot = s; words = w ∷ us }) (record { some = omega arith; few = h; leads = e })))
+  sound-at [] s h e = let z : 0 ≡ s = cc in (_, _, _, _, rw z at (root-sound base check array))
+  sound-at (w ∷ us) s h e = (_, _, _, _, all-sound base check t rs (tests .0) (record { slot = s; words = w ∷ us }) (reached-shown base check n (record { slot = s; words = w ∷ us }) (record { some = omega arith; few = h; leads = e })))
 
   -- ---- the walk of lookup and run comes to where the words lead
 
@@ -85,7 +85,7 @@ module _ (base check : List ℤ) (array : isArray base check ≡ true) (ok : isL
   look-through (w ∷ us) q s h e =
       let d = walk-slot base check w us s e in
       let m = sound-at us (d .0) (omega arith) (d .1) in
-      look-through us (w ∷ q) (d .0) (omega arith) (d .1) ∙ look-down base check (d .0) (m .0) (m .1) (m .2) w q (m .3) ∙ rw (d .2)
+      look-through us (w ∷ q) (d .0) (omega arith) (d .1) ∙ look-down base check (d .0) (m .0) (m .1) (m .2) (m .3) w q (m .4) ∙ rw (d .2)
 
   look-astray : (us q : List ℕ) → length us ≤ n → walkTo base check us ≡ Nothing → lookFrom base check 0 (reverseAux us q) ≡ absent
   unfolding walkTo
@@ -97,7 +97,7 @@ module _ (base check : List ℤ) (array : isArray base check ≡ true) (ok : isL
       go (At s) k ih =
           let m = sound-at us s (omega arith) k in
           let c : childAt base check s w ≡ Nothing = sym (walk-child base check us w s k) ∙ e in
-          look-through us (w ∷ q) s (omega arith) k ∙ look-down base check s (m .0) (m .1) (m .2) w q (m .3) ∙ rw c
+          look-through us (w ∷ q) s (omega arith) k ∙ look-down base check s (m .0) (m .1) (m .2) (m .3) w q (m .4) ∙ rw c
 
   -- ---- and the list has what is found there
 
@@ -120,7 +120,7 @@ module _ (base check : List ℤ) (array : isArray base check ≡ true) (ok : isL
       let d = node-row base check rs (readable base check array) r m in
       let f : findIn t us ≡ Row (d .0) = ap (findIn t) (sym (d .2 .same)) ∙ finds t (accepted-good t list) (d .0) (omega (arith, d .1, rows-tableOf base check rs)) in
       look-through us [] s h e
-      ∙ look-here base check s _ _ _ (all-sound base check t rs (tests .0) r m)
+      ∙ look-here base check s _ _ _ _ (all-sound base check t rs (tests .0) r m)
       ∙ rw (f, d .2 .probability, d .2 .backoff)
 
   look-unloaded : (l : List ℕ) → length l ≤ n → lookRow base check l ≡ lookEntry (modelOf t .find l)

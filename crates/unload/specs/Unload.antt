@@ -1,6 +1,6 @@
 -- The nodes that walking from the root of any double array reaches, the rows that they are, and the outcome of unload. Words are oldest first, as in
 -- the list: the parent of `w ∷ us` is `us`. Assumes nothing.
-use mathlib.Core.Bool.{Bool, true, false, not, cond, _&&_}
+use mathlib.Core.Bool.{Bool, true, false, cond, _&&_, Bool·beq}
 use mathlib.Core.List.{List, [], _∷_, _++_, map}
 use Prim.Native.Nat.{ℕ, zero, suc, _*_}
 use lib.Dec.{eqb, leb}
@@ -13,7 +13,7 @@ use Rattle.backoff.specs.declared.Verdict.{Verdict}
 use Rattle.backoff.specs.declared.Verdict.the-variants.{Accepted, Refused}
 use Rattle.list.specs.Table.{rowsOf, orderOf}
 use Rattle.list.specs.Check.{verdict}
-use Rattle.list.specs.ListModel.{continuedIn}
+use Rattle.list.specs.ListModel.{extendedIn, continuedIn}
 use Rattle.double_array.specs.DoubleArray.{markerAt, childAt, isArray, orderIn}
 use Rattle.double_array.specs.declared.Marker.{Marker}
 use Rattle.double_array.specs.declared.Marker.the-variants.{Sound, Broken}
@@ -72,18 +72,17 @@ module _ (base check : List ℤ) where
 
 -- p and b of a marker, 0 where it is not sound
 abbrev pub markerP : Marker → ℤ
-markerP (Sound p b f) = p
+markerP (Sound p b e f) = p
 markerP Broken = pos 0
 
 abbrev pub markerB : Marker → ℤ
-markerB (Sound p b f) = b
+markerB (Sound p b e f) = b
 markerB Broken = pos 0
 
--- the marker is sound, and its f is this one
-abbrev pub isRight : Marker → Bool → Bool
-isRight (Sound p b true) f = f
-isRight (Sound p b false) f = not f
-isRight Broken f = false
+-- the marker is sound, and its e and f are these
+abbrev pub isRight : Marker → Bool → Bool → Bool
+isRight (Sound p b x y) e f = Bool·beq x e && Bool·beq y f
+isRight Broken e f = false
 
 -- "m, five words oldest first (unused ones 0), log-probability p, back-off b"
 abbrev pub row : List ℕ → ℤ → ℤ → List ℤ
@@ -98,10 +97,10 @@ module _ (base check : List ℤ) where
   tableOf [] = []
   tableOf (r ∷ rs) = rowOf r ++ tableOf rs
 
-  -- every marker is sound, and "f is 1 if some row is this row followed by one more word, else 0"
+  -- every marker is sound, e is 1 if "some listed row puts a further word in front of it", and "f is 1 if some row is this row followed by one more word, else 0"
   unfoldable pub allRight : List ℤ → List Reached → Bool
   allRight t [] = true
-  allRight t (r ∷ rs) = isRight (markerAt base check (r .slot)) (continuedIn t (r .words)) && allRight t rs
+  allRight t (r ∷ rs) = isRight (markerAt base check (r .slot)) (extendedIn t (r .words)) (continuedIn t (r .words)) && allRight t rs
 
 unfoldable pub slotsOf : List Reached → List ℕ
 slotsOf rs = map (λ (r : Reached). r .slot) rs
@@ -112,7 +111,7 @@ slotsOf rs = map (λ (r : Reached). r .slot) rs
 unfoldable pub rowsIn : List ℤ → ℕ
 rowsIn base = natAbs (getD base 1 (pos 0))
 
--- what 12 leaves: every node reached has a sound marker with the right f, and their rows are "an accepted list of order n and BASE[1] rows"
+-- what 12 leaves: every node reached has a sound marker with the right e and f, and their rows are "an accepted list of order n and BASE[1] rows"
 unfoldable pub isList : List ℤ → List ℤ → List Reached → Bool
 isList base check rs =
     allRight base check (tableOf base check rs) rs

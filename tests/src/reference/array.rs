@@ -1,4 +1,4 @@
-//! "The double array" of document 01 as it is read: any two lent slices, whoever wrote them.
+//! "The double array" of document 01, with the markers and the head of T-01, as it is read: any two lent slices, whoever wrote them.
 
 use super::list::{Refusal, ACCEPTED, LARGEST_B, LARGEST_WORD, LOWEST_P, MOST_ROWS};
 use std::collections::HashMap;
@@ -6,11 +6,15 @@ use std::collections::HashMap;
 pub const MOST_SLOTS: usize = 1_048_576;
 pub const ROOT: usize = 0;
 
+/// "CHECK[0] becomes n + 8" (T-01).
+pub const HEAD: i32 = 8;
+
 /// What a sound marker holds.
 #[derive(Clone, Copy, Debug, PartialEq, Eq)]
 pub struct Marker {
     pub p: i32,
     pub b: i32,
+    pub e: i32,
     pub f: i32,
 }
 
@@ -31,13 +35,14 @@ pub struct Array<'a> {
 impl<'a> Array<'a> {
     /// Nothing where 11 refuses.
     pub fn new(base: &'a [i32], check: &'a [i32]) -> Option<Array<'a>> {
-        let head = |array: &Array| base[0] == 1 && (1..=5).contains(&check[0]) && check[1] == -1 && (3..=MOST_ROWS).contains(&array.rows());
+        let orders = HEAD + 1..=HEAD + 5;
+        let head = |array: &Array| base[0] == 1 && orders.contains(&check[0]) && check[1] == -1 && (3..=MOST_ROWS).contains(&array.rows());
         let array = Array { base, check };
         (lengths_fit(base, check) && head(&array)).then_some(array)
     }
 
     pub fn order(&self) -> usize {
-        self.check[0] as usize
+        (self.check[0] - HEAD) as usize
     }
 
     /// The number of rows that the head tells.
@@ -76,9 +81,10 @@ impl<'a> Array<'a> {
     pub fn marker(&self, node: usize) -> Option<Marker> {
         let d = usize::try_from(self.base[node]).ok().filter(|&d| 1 <= d && d < self.slots())?;
         let p = self.check[d].checked_add(1)?;
-        let (b, f) = (self.base[d].div_euclid(2), self.base[d].rem_euclid(2));
+        // "A marker's BASE becomes 4 × b + 2 × e + f" (T-01).
+        let (b, bits) = (self.base[d].div_euclid(4), self.base[d].rem_euclid(4));
         let in_range = (LOWEST_P..=0).contains(&p) && (-LARGEST_B..=LARGEST_B).contains(&b);
-        in_range.then_some(Marker { p, b, f })
+        in_range.then_some(Marker { p, b, e: bits / 2, f: bits % 2 })
     }
 }
 
@@ -87,13 +93,13 @@ pub fn lengths_fit(base: &[i32], check: &[i32]) -> bool {
     base.len() == check.len() && (2..=MOST_SLOTS).contains(&base.len())
 }
 
-/// The answer of a lookup: number and place, found or not, p and b.
-pub type Found = (Refusal, bool, i32, i32);
+/// The answer of a lookup: number and place, found or not, p and b, and whether some row puts a further word in front (T-01).
+pub type Found = (Refusal, bool, i32, i32, bool);
 
 /// Looks a sequence up, oldest word first: 11, 14, 12.
 pub fn lookup(base: &[i32], check: &[i32], words: &[u32]) -> Found {
-    let refused = |number| ((number, 0), false, 0, 0);
-    let not_found = (ACCEPTED, false, 0, 0);
+    let refused = |number| ((number, 0), false, 0, 0, false);
+    let not_found = (ACCEPTED, false, 0, 0, false);
     let Some(array) = Array::new(base, check) else { return refused(11) };
     if words.is_empty() || words.len() > 5 {
         return refused(14);
@@ -107,7 +113,7 @@ pub fn lookup(base: &[i32], check: &[i32], words: &[u32]) -> Found {
         let Some(child) = array.child(node, word) else { return not_found };
         let Some(marker) = array.marker(child) else { return refused(12) };
         node = child;
-        found = (ACCEPTED, true, marker.p, marker.b);
+        found = (ACCEPTED, true, marker.p, marker.b, marker.e == 1);
     }
     found
 }

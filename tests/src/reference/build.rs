@@ -1,8 +1,8 @@
-//! The placing rule of document 01, in room without an upper end, and the build.
+//! The placing rule of document 01, in room without an upper end, and the build, with the markers and the head of T-01.
 
-use super::array::lengths_fit;
-use super::list::{rows, verdict, Refusal, Row, ACCEPTED};
-use std::collections::{HashMap, HashSet};
+use super::array::{lengths_fit, HEAD};
+use super::list::{continued, extended, rows, verdict, Refusal, Row, ACCEPTED};
+use std::collections::HashMap;
 
 pub const FREE: i32 = i32::MIN;
 
@@ -119,15 +119,15 @@ impl Room {
 
 /// Writes the nodes, their markers and the head into free slots.
 pub fn write(rows: &[Row], nodes: &[Node], base: &mut [i32], check: &mut [i32]) {
-    let continued: HashSet<&[i32]> = rows.iter().map(|row| &row.words[..row.words.len() - 1]).collect();
+    let (extended, continued) = (extended(rows), continued(rows));
     for (row, node) in rows.iter().zip(&nodes[1..]) {
         base[node.slot] = node.d as i32;
         check[node.slot] = node.parent as i32;
-        base[node.d] = 2 * row.b + continued.contains(&row.words[..]) as i32;
+        base[node.d] = 4 * row.b + 2 * extended.contains(&row.words[..]) as i32 + continued.contains(&row.words[..]) as i32;
         check[node.d] = row.p - 1;
     }
     base[0] = 1;
-    check[0] = rows.last().map_or(0, |row| row.words.len() as i32);
+    check[0] = HEAD + rows.last().map_or(0, |row| row.words.len() as i32);
     base[1] = rows.len() as i32;
     check[1] = -1;
 }

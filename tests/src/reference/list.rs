@@ -41,6 +41,16 @@ pub fn rows(table: &[i32]) -> Vec<Row> {
     table.chunks(8).map(Row::read).collect()
 }
 
+/// The sequences that some row follows with one more word: a row's f is 1 if its words are one of them.
+pub fn continued<'a>(rows: impl IntoIterator<Item = &'a Row>) -> HashSet<&'a [i32]> {
+    rows.into_iter().map(|row| &row.words[..row.words.len() - 1]).collect()
+}
+
+/// The sequences in front of which some row puts a further word: a row's e is 1 if its words are one of them.
+pub fn extended<'a>(rows: impl IntoIterator<Item = &'a Row>) -> HashSet<&'a [i32]> {
+    rows.into_iter().map(|row| &row.words[1..]).collect()
+}
+
 /// The verdict on a lent list: 1, then row by row 3 to 8, then 9.
 pub fn verdict(table: &[i32]) -> Refusal {
     if table.is_empty() || !table.len().is_multiple_of(8) || table.len() / 8 > MOST_ROWS {

@@ -1,7 +1,7 @@
-//! "The back-off rule" of document 01 over the plain list, and plain scoring.
+//! "The back-off rule" of document 01 over the plain list, with the left extension of T-01, and plain scoring.
 
-use super::list::{rows, verdict, Refusal, Row, ACCEPTED};
-use std::collections::{HashMap, HashSet};
+use super::list::{continued, extended, rows, verdict, Refusal, Row, ACCEPTED};
+use std::collections::HashMap;
 
 pub const LONGEST_RUN: usize = 65_535;
 pub const UNKNOWN: i32 = 1;
@@ -13,12 +13,14 @@ pub struct Scored {
     pub points: i32,
     pub matched: usize,
     pub unknown: bool,
+    /// Whether some row puts a further word in front of the row whose p was used.
+    pub extended: bool,
 }
 
 impl Scored {
-    /// "Its matched length, plus 8 if unknown."
+    /// "Its matched length, plus 8 if unknown", and 16 for the left extension (T-01).
     pub fn length_byte(self) -> u8 {
-        self.matched as u8 + if self.unknown { 8 } else { 0 }
+        self.matched as u8 + if self.unknown { 8 } else { 0 } + if self.extended { 16 } else { 0 }
     }
 }
 
@@ -26,6 +28,7 @@ struct Entry {
     p: i32,
     b: i32,
     live: bool,
+    extended: bool,
 }
 
 /// An accepted list, to be asked for any sequence of words.
@@ -36,10 +39,10 @@ pub struct Rule {
 
 impl Rule {
     pub fn new(rows: &[Row]) -> Rule {
-        let continued: HashSet<&[i32]> = rows.iter().map(|row| &row.words[..row.words.len() - 1]).collect();
+        let (extended, continued) = (extended(rows), continued(rows));
         let entry = |row: &Row| {
             let live = row.b != 0 || continued.contains(&row.words[..]);
-            (row.words.clone(), Entry { p: row.p, b: row.b, live })
+            (row.words.clone(), Entry { p: row.p, b: row.b, live, extended: extended.contains(&row.words[..]) })
         };
         Rule { order: rows.last().map_or(0, |row| row.words.len()), entries: rows.iter().map(entry).collect() }
     }
@@ -47,18 +50,18 @@ impl Rule {
     /// The points of a word after all the words that precede it.
     pub fn score(&self, preceding: &[u32], word: u32) -> Scored {
         let word = self.replaced(word);
-        let (points, matched) = self.back_off(&self.history(preceding), word);
-        Scored { points, matched, unknown: word == UNKNOWN }
+        let (points, matched, extended) = self.back_off(&self.history(preceding), word);
+        Scored { points, matched, unknown: word == UNKNOWN, extended }
     }
 
     /// "If history and word together are listed, the points are that row's p. Otherwise they are b of the history (0 if it is
-    /// unlisted) plus the points of the word after the history without its oldest word." And the matched length.
-    fn back_off(&self, history: &[i32], word: i32) -> (i32, usize) {
+    /// unlisted) plus the points of the word after the history without its oldest word." And the matched length, and whether the row is extended.
+    fn back_off(&self, history: &[i32], word: i32) -> (i32, usize, bool) {
         if let Some(entry) = self.entries.get(&[history, &[word]].concat()) {
-            return (entry.p, history.len() + 1);
+            return (entry.p, history.len() + 1, entry.extended);
         }
-        let (points, matched) = self.back_off(&history[1..], word);
-        (self.entries.get(history).map_or(0, |entry| entry.b) + points, matched)
+        let (points, matched, extended) = self.back_off(&history[1..], word);
+        (self.entries.get(history).map_or(0, |entry| entry.b) + points, matched, extended)
     }
 
     /// "First every word without a one-word row is replaced by 1."

@@ -43,7 +43,8 @@ fn step(array: &Array, carried: &Carried, word: u32) -> Option<(Scored, Carried)
     let matched = walk.len();
     // "That row's p plus the state's back-offs of lengths L to count."
     let points = walk[matched - 1].p + carried.back_offs[matched - 1..].iter().sum::<i32>();
-    Some((Scored { points, matched, unknown }, next(array, word, carried, &walk)))
+    let extended = walk[matched - 1].e == 1;
+    Some((Scored { points, matched, unknown, extended }, next(array, word, carried, &walk)))
 }
 
 /// "A word w is walked from the root, then through the state's words": the markers on the walk.

@@ -1,12 +1,12 @@
 //! Unloading: the rows of any lent array, if they are an accepted list.
 
 use super::array::{Array, ROOT};
-use super::list::{verdict, Refusal, Row, ACCEPTED};
-use std::collections::HashSet;
+use super::list::{continued, extended, verdict, Refusal, Row, ACCEPTED};
 
-/// A node found by walking: the row that it stands for, its f, and its slot.
+/// A node found by walking: the row that it stands for, its e and f, and its slot.
 struct Node {
     row: Row,
+    e: i32,
     f: i32,
     slot: usize,
 }
@@ -42,7 +42,7 @@ fn found(array: &Array) -> Option<Vec<Node>> {
             for &(word, slot) in children.get(&parent).into_iter().flatten() {
                 let words = [&[word as i32], &words[..]].concat();
                 let marker = array.marker(slot)?;
-                nodes.push(Node { row: Row { words: words.clone(), p: marker.p, b: marker.b }, f: marker.f, slot });
+                nodes.push(Node { row: Row { words: words.clone(), p: marker.p, b: marker.b }, e: marker.e, f: marker.f, slot });
                 next.push((slot, words));
             }
         }
@@ -52,12 +52,13 @@ fn found(array: &Array) -> Option<Vec<Node>> {
     Some(nodes)
 }
 
-/// They are "an accepted list of order n and BASE[1] rows", and no f is wrong.
+/// They are "an accepted list of order n and BASE[1] rows", and no e and no f is wrong.
 fn fits(array: &Array, nodes: &[Node]) -> bool {
     let table: Vec<i32> = nodes.iter().flat_map(|node| node.row.cells()).collect();
-    let continued: HashSet<&[i32]> = nodes.iter().map(|node| &node.row.words[..node.row.words.len() - 1]).collect();
+    let (extended, continued) = (extended(nodes.iter().map(|node| &node.row)), continued(nodes.iter().map(|node| &node.row)));
     nodes.len() == array.rows()
         && verdict(&table) == ACCEPTED
         && nodes[nodes.len() - 1].row.words.len() == array.order()
+        && nodes.iter().all(|node| node.e == extended.contains(&node.row.words[..]) as i32)
         && nodes.iter().all(|node| node.f == continued.contains(&node.row.words[..]) as i32)
 }

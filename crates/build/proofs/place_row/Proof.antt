@@ -26,7 +26,7 @@ row-node-requires : tie.Need-row-node-requires
 row-node-requires c κs = search needs
 
 children-requires : tie.Need-children-requires
-children-requires c κs = let s = c .before .before .before in (row-in _ _ (s .pre .0 .1), accepted-good _ (s .pre .0 .0))
+children-requires c κs = let s = c .before in (row-in _ _ (s .pre .0 .1), accepted-good _ (s .pre .0 .0))
 
 abbrev from : tie.After-children → ℕ
 from c = c .children .result .from
@@ -35,7 +35,7 @@ abbrev to : tie.After-children → ℕ
 to c = c .children .result .to
 
 abbrev start : tie.After-children → tie.Start
-start c = c .before .before .before .before
+start c = c .before .before
 
 abbrev table : tie.After-children → List ℤ
 table c = now (start c .args .table)
@@ -48,42 +48,43 @@ rows-are : (c : tie.After-children) → take (8 * to c - 8 * from c) (drop (8 * 
 rows-are c = let e : 8 * to c - 8 * from c ≡ 8 * (to c - from c) = omega arith in rw e
 
 mul-first : tie.Need-mul-first
-mul-first c = omega (arith, bounds c)
+mul-first c = omega (arith, bounds (c .before .before))
 
 mul-end : tie.Need-mul-end
 mul-end c = search needs
 
 mul-place-node : tie.Need-mul-place-node
-mul-place-node c = omega (arith, bounds (c .before .before))
+mul-place-node c = omega (arith, bounds (c .before .before .before .before))
 
 sub-place-node : tie.Need-sub-place-node
-sub-place-node c = omega (arith, bounds (c .before .before))
+sub-place-node c = omega (arith, bounds (c .before .before .before .before))
 
 part-place-node-start : tie.Need-part-place-node-start
-part-place-node-start c = omega (arith, bounds (c .before .before))
+part-place-node-start c = omega (arith, bounds (c .before .before .before .before))
 
 part-place-node-end : tie.Need-part-place-node-end
-part-place-node-end c = omega (arith, bounds (c .before .before))
+part-place-node-end c = omega (arith, bounds (c .before .before .before .before))
 
 mul-place-node-2 : tie.Need-mul-place-node-2
-mul-place-node-2 c = omega (arith, bounds (c .before .before .before))
+mul-place-node-2 c = omega (arith, bounds (c .before .before .before .before .before))
 
 sub-place-node-2 : tie.Need-sub-place-node-2
-sub-place-node-2 c = omega (arith, bounds (c .before .before .before))
+sub-place-node-2 c = omega (arith, bounds (c .before .before .before .before .before))
 
 part-place-node-start-2 : tie.Need-part-place-node-start-2
-part-place-node-start-2 c = omega (arith, bounds (c .before .before .before))
+part-place-node-start-2 c = omega (arith, bounds (c .before .before .before .before .before))
 
 part-place-node-end-2 : tie.Need-part-place-node-end-2
 part-place-node-end-2 c = search needs
 
 place-node-requires : tie.Need-place-node-requires
 place-node-requires c κs =
-    let k = c .before .before .before .before in
+    let n = c .before .before .before .before in
+    let k = n .before .before in
     let s = start k in
     let t = table k in
     let fits = row-fits t (s .pre .0 .0) (s .args .i) (s .pre .0 .1) (s .pre .1) (from k) (to k) (k .children .ensures) in (
-      (rw (rows-are k) (child-rows t (s .pre .0 .0) (from k) (to k - from k) fits), row-has-slot t (s .pre .0 .0) (s .args .i) (s .pre .0 .1) (s .pre .1) _ (k .before .row-node .ensures .0)),
+      (rw (rows-are k) (child-rows t (s .pre .0 .0) (from k) (to k - from k) fits), row-has-slot t (s .pre .0 .0) (s .args .i) (s .pre .0 .1) (s .pre .1) _ (n .row-node .ensures .0)),
       (rw (rows-are k, count-rows t (from k) (to k - from k) fits) (length-take-le _ _ (rw length-drop (omega (arith, bounds k, k .children .ensures .within, s .pre .1 .each)))), s .pre .0 .2),
     )
 
@@ -99,9 +100,10 @@ same-length-3 c = search needs
 returns : tie.Need-returns
 returns c =
     let p = c .before .before .before .before in
-    let k = p .before .before .before .before .before in
+    let r = p .before .before .before .before .before in
+    let k = r .before .before in
     let s = start k in
-    let n = k .before .row-node .ensures in
+    let n = r .row-node .ensures in
     row-tried (table k) (s .pre .0 .0) (s .args .i) (s .pre .0 .1) (s .pre .1) (from k) (to k) (k .children .ensures) (n .0) (n .1) (n .2)
     (rw (rows-are k) at (p .place-node .ensures))
 
@@ -109,10 +111,10 @@ pub place-row-spec : {M : Type 1} → statement M
 place-row-spec =
     tie.close
     (tie.spec
+    children-requires
     mul-row-node
     slice-read-row-node
     row-node-requires
-    children-requires
     mul-first
     mul-end
     mul-place-node

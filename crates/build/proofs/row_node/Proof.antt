@@ -15,8 +15,8 @@ use Rattle.list.proofs.Check.{backoff-in, accepted-row}
 use Rattle.build.proofs.row_node.Statement.{statement}
 use Rattle.build.proofs.row_node.Tie as tie
 
-cast-t5 : tie.Need-cast-t5
-cast-t5 c = search needs
+cast-t6 : tie.Need-cast-t6
+cast-t6 c = search needs
 
 field-requires : tie.Need-field-requires
 field-requires c κs = (row-in _ _ (c .pre .1), lit< tt)
@@ -42,14 +42,14 @@ returns c =
     let m = c .before .before in (
       refl,
       toZ-ofZ {w = w32} {z = m .marker-check .result} (sfits-of (m .marker-check .ok)) ∙ m .marker-check .ensures ∙ ap markerCheck (p-is (m .before)),
-      toZ-ofZ {w = w32} {z = c .marker-base .result} (sfits-of (c .marker-base .ok)) ∙ c .marker-base .ensures ∙ ap (λ (b : ℤ). markerBase b (eqb (m .before .before .args .item % 2) 1)) (b-is (c .before)),
+      toZ-ofZ {w = w32} {z = c .marker-base .result} (sfits-of (c .marker-base .ok)) ∙ c .marker-base .ensures ∙ ap (λ (b : ℤ). markerBase b (m .before .before .args .extended) (eqb (m .before .before .args .item % 2) 1)) (b-is (c .before)),
     )
 
 pub row-node-spec : {M : Type 1} → statement M
 row-node-spec =
     tie.close
     (tie.spec
-    cast-t5
+    cast-t6
     field-requires
     marker-check-requires
     field-requires-2

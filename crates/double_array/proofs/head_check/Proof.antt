@@ -7,7 +7,7 @@ use mir.Val.{SFits, toZ}
 use mir.Facts.{toZ-ofZ, toZ-pos}
 use borrow.Author.Needs.{needs}
 use Rattle.integer.proofs.Arithmetic.{zarith, add}
-use Rattle.double_array.specs.DoubleArray.{headOffset, headCheck}
+use Rattle.double_array.specs.DoubleArray.{headOffset}
 use Rattle.double_array.proofs.head_check.Statement.{statement}
 use Rattle.double_array.proofs.head_check.Tie as tie
 

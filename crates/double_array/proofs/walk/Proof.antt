@@ -33,8 +33,9 @@ record Walked (base check : List ℤ) (words : List ℕ) (s left : ℕ) : Type 0
   few : left ≤ length words
   p : ℤ
   b : ℤ
+  e : Bool
   f : Bool
-  sound : markerAt base check s ≡ Sound p b f
+  sound : markerAt base check s ≡ Sound p b e f
   rest : lookFrom base check 0 (reverse words) ≡ lookFrom base check s (reverse (take left words))
 
 -- the newest of the words that are left leads on
@@ -44,7 +45,7 @@ turn base check words s left w =
     w .rest
     ∙ ap (λ (k : ℕ). lookFrom base check s (reverse (take k words))) e
     ∙ ap (lookFrom base check s) (reverse-take words (left - 1) 0 (omega arith))
-    ∙ look-down base check s (w .p) (w .b) (w .f) (getD words (left - 1) 0) (reverse (take (left - 1) words)) (w .sound)
+    ∙ look-down base check s (w .p) (w .b) (w .e) (w .f) (getD words (left - 1) 0) (reverse (take (left - 1) words)) (w .sound)
 
 abbrev Inv-loop : tie.InvT-loop
 Inv-loop base check words s₀ left₀ s left = Walked base check words s left
@@ -65,7 +66,8 @@ loop-holds c =
       some-left = s .pre .1;
       few = omega arith;
       p = pos 0;
-      b = half rows;
+      b = half (half rows);
+      e = odd (half rows);
       f = odd rows;
       sound = root-sound (s .args .base .now) (s .args .check .now) (s .pre .0);
       rest = rw (take-length (s .args .words .now));
@@ -150,8 +152,8 @@ returns-3 c =
     let k : SFits w32 (m .0 .0) = sfits-of (c .before .known-told2 .given .0 .1) in
     let n : SFits w32 (m .0 .1 .0) = sfits-of (c .before .known-told2 .given .1 .0 .1) in
     let e : whole l ≡ lookFrom (a .base .now) (a .check .now) t [] = reached (r .before .before) ∙ ap (λ (i : ℕ). lookFrom (a .base .now) (a .check .now) t (reverse (take i (a .words .now)))) (c .if1 .taken) in
-    ap₂ Found (toZ-ofZ k) (toZ-ofZ n)
-    ∙ sym (ap lookupOf (e ∙ look-here (a .base .now) (a .check .now) t (m .0 .0) (m .0 .1 .0) (m .0 .1 .1 .0) (marker-is r _ (m .1))))
+    ap₂ (λ (p b : ℤ). Found p b (m .0 .1 .1 .0)) (toZ-ofZ k) (toZ-ofZ n)
+    ∙ sym (ap lookupOf (e ∙ look-here (a .base .now) (a .check .now) t (m .0 .0) (m .0 .1 .0) (m .0 .1 .1 .0) (m .0 .1 .1 .1 .0) (marker-is r _ (m .1))))
 
 loop-less : tie.Need-loop-less Inv-loop μ-loop
 loop-less c = search needs
@@ -166,7 +168,8 @@ loop-again c =
       few = search needs;
       p = m .0 .0;
       b = m .0 .1 .0;
-      f = m .0 .1 .1 .0;
+      e = m .0 .1 .1 .0;
+      f = m .0 .1 .1 .1 .0;
       sound = marker-is r _ (m .1);
       rest = reached (r .before .before);
     }

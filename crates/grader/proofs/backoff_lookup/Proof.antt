@@ -15,7 +15,7 @@ found-of-requires c κs = search needs
 returns : tie.Need-returns
 returns c =
     let found = c .found-of .ensures in
-    (subst (λ (l : Lookup). FoundIs l (c .found-of .result)) (c .before .look-up .ensures .0) found, rw (found .number, found .place, found .found, found .p, found .b) (c .before .look-up .ensures .1))
+    (subst (λ (l : Lookup). FoundIs l (c .found-of .result)) (c .before .look-up .ensures .0) found, rw (found .number, found .place, found .found, found .p, found .b, found .left) (c .before .look-up .ensures .1))
 
 pub backoff-lookup-spec : {M : Type 1} → statement M
 backoff-lookup-spec = tie.close (tie.spec look-up-requires found-of-requires returns)

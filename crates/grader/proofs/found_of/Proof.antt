@@ -1,8 +1,10 @@
 -- `grader::found_of` meets its contract: each case's numbers are those of its definition. Assumes nothing.
 use borrow.Author.Needs.{needs, sfits-of}
-use mathlib.Core.Path.{sym, ap, _∙_}
+use mathlib.Core.Path.{_≡_, refl, sym, ap, _∙_}
+use mathlib.Core.Bool.{Bool, true, false, cond}
+use mir.Val.{boolByte}
 use mir.Facts.{toZ-ofZ}
-use Rattle.double_array.specs.Lookup.{numberOf, placeOf, foundOf, pOf, bOf}
+use Rattle.double_array.specs.Lookup.{numberOf, placeOf, foundOf, pOf, bOf, leftOf}
 use Rattle.grader.proofs.found_of.Statement.{statement}
 use Rattle.grader.proofs.found_of.Tie as tie
 
@@ -15,6 +17,14 @@ enum-told c = search needs
 enum-known-l-2 : tie.Need-enum-known-l-2
 enum-known-l-2 c = search needs
 
+cast-t8 : tie.Need-cast-t8
+cast-t8 c = search needs
+
+-- a flag that is cast to u32
+flag : (f : Bool) → boolByte f ≡ cond f 1 0
+flag true = refl
+flag false = refl
+
 returns : tie.Need-returns
 returns c =
     let e = sym (c .before .l .given .1) in
@@ -24,6 +34,7 @@ returns c =
       found = ap foundOf e;
       p = toZ-ofZ (sfits-of (c .known-told .given .0 .1)) ∙ ap pOf e;
       b = toZ-ofZ (sfits-of (c .known-told .given .1 .0 .1)) ∙ ap bOf e;
+      left = flag (c .before .l .given .0 .1 .1 .0) ∙ ap leftOf e;
     }
 
 returns-2 : tie.Need-returns-2
@@ -34,4 +45,4 @@ returns-3 c = search needs
 
 pub found-of-spec : {M : Type 1} → statement M
 found-of-spec =
-    tie.close (tie.spec enum-known-l enum-told enum-known-l-2 returns returns-2 returns-3)
+    tie.close (tie.spec enum-known-l cast-t8 enum-told enum-known-l-2 returns returns-2 returns-3)

@@ -45,7 +45,8 @@ returns : tie.Need-returns Inv-loop μ-loop
 returns c =
     let w = c .before .before .before in
     let l = w .before .before in
-    score-is (owed-here (l .loop .inv) (w .before .loop-test .taken) (sym (w .row-with .ensures .listed-is) ∙ c .before .before .if1 .taken)) (p-added w .sum-is)
+    let i = c .before .before .if1 .taken in
+    score-is (owed-here (l .loop .inv) (w .before .loop-test .taken) (sym (w .row-with .ensures .listed-is) ∙ i)) (p-added w .sum-is) (w .row-with .ensures .row-is i)
 
 row-before-requires : tie.Need-row-before-requires Inv-loop μ-loop
 row-before-requires c κs = search needs
@@ -89,7 +90,8 @@ returns-2 : tie.Need-returns-2 Inv-loop μ-loop
 returns-2 c =
     let w = c .before .before in
     let l = w .before .before in
-    score-is (owed-end (l .loop .inv) (w .before .loop-test .left)) (last-added w .sum-is)
+    let r = w .row-with2 .ensures in
+    score-is (owed-end (l .loop .inv) (w .before .loop-test .left)) (last-added w .sum-is) (r .row-is (r .listed-is ∙ l .before .pre .3))
 
 pub score-after-spec : {M : Type 1} → statement M
 score-after-spec =

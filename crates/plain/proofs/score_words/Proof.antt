@@ -11,7 +11,7 @@ use Rattle.integer.proofs.Arithmetic.{to-wide}
 use Rattle.backoff.specs.Model.{Model, AcceptedModel}
 use Rattle.list.specs.ListModel.{modelOf}
 use Rattle.list.proofs.ListModel.{accepted-model}
-use Rattle.plain.proofs.Run.{Scoring, scoring-none, scoring-more, total-added, points-length, lengths-length, recent-count, next-words, next-count, scored-all}
+use Rattle.plain.proofs.Run.{Scoring, scoring-none, scoring-more, total-added, points-length, lengths-length, recent-count, next-words, next-count, next-listed, scored-all}
 use Rattle.plain.proofs.score_words.Statement.{statement}
 use Rattle.plain.proofs.score_words.Tie as tie
 
@@ -58,8 +58,13 @@ score-last-requires c κs =
     let t = c .before .before in
     let l = t .before in
     let s = l .before .before .before .before in
-    let k = next-count (l .loop .inv) (accepted s) (order-is s) (t .loop-test .taken) (c .push .ensures) in
-    (s .pre .0, next-words (l .loop .inv) (accepted s) (order-is s) (t .loop-test .taken) (c .push .ensures), k .0, k .1)
+    let k = next-count (l .loop .inv) (accepted s) (order-is s) (t .loop-test .taken) (c .push .ensures) in (
+      s .pre .0,
+      next-words (l .loop .inv) (accepted s) (order-is s) (t .loop-test .taken) (c .push .ensures),
+      k .0,
+      k .1,
+      next-listed (l .loop .inv) (accepted s) (order-is s) (t .loop-test .taken) (c .push .ensures),
+    )
 
 mul-p : tie.Need-mul-p Inv-loop μ-loop
 mul-p c = search needs

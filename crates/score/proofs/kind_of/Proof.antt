@@ -8,11 +8,11 @@ use Rattle.score.proofs.kind_of.Tie as tie
 
 returns : tie.Need-returns
 unfolding lengthByte
-returns c = rw (eq-eqb _ unknownWord (c .if1 .taken))
+returns c e = rw (eq-eqb _ unknownWord (c .if1 .taken))
 
 returns-2 : tie.Need-returns-2
 unfolding lengthByte
-returns-2 c = rw (ne-eqb _ unknownWord (c .if1 .left)) (omega arith)
+returns-2 c e = rw (ne-eqb _ unknownWord (c .if1 .left)) (omega arith)
 
 pub kind-of-spec : {M : Type 1} → statement M
 kind-of-spec = tie.close (tie.spec returns returns-2)

@@ -1,28 +1,26 @@
 -- `score::length_byte` meets its contract. Assumes nothing.
-use mathlib.Core.Path.{sym, ap, subst}
+use mathlib.Core.Path.{_≡_, ap}
+use Prim.Native.Nat.{ℕ, _+_, _<_}
 use native.Mathlib.Omega.{arith}
-use Prim.Native.Nat.{_<_}
-use Rattle.score.specs.declared.Kind.{Kind}
-use Rattle.score.specs.Answers.{byteOf}
+use Rattle.score.specs.Answers.{kindByte, byteOf}
 use borrow.Author.Needs.{needs}
 use Rattle.score.proofs.length_byte.Statement.{statement}
 use Rattle.score.proofs.length_byte.Tie as tie
 
-enum-known-kind : tie.Need-enum-known-kind
-enum-known-kind c = search needs
-
-enum-known-kind-2 : tie.Need-enum-known-kind-2
-enum-known-kind-2 c = search needs
+kind-byte-requires : tie.Need-kind-byte-requires
+kind-byte-requires c κs = omega (arith, c .pre)
 
 add-result : tie.Need-add-result
-add-result c = omega (arith, subst (λ (k : Kind). byteOf k < 256) (c .before .kind2 .given .1) (c .before .before .before .pre))
+add-result c =
+    let s = c .before .before in
+    let h : kindByte (s .args .kind) + 16 < 256 = rw (c .if1 .taken) at (s .pre) in
+    omega (arith, c .before .kind-byte .ensures)
 
 returns : tie.Need-returns
-returns c = search needs
+returns c = rw (c .if1 .taken) (ap (λ (n : ℕ). n + 16) (c .before .kind-byte .ensures))
 
 returns-2 : tie.Need-returns-2
-returns-2 c = sym (ap byteOf (c .before .kind2 .given .1))
+returns-2 c = rw (c .if1 .left) (omega (arith, c .before .kind-byte .ensures))
 
 pub length-byte-spec : {M : Type 1} → statement M
-length-byte-spec =
-    tie.close (tie.spec enum-known-kind enum-known-kind-2 add-result returns returns-2)
+length-byte-spec = tie.close (tie.spec kind-byte-requires add-result returns returns-2)

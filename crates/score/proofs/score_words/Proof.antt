@@ -1,5 +1,6 @@
 -- `score::score_words` meets its contract. The loop's invariant: what is left is the run of the words from the i-th on. Assumes nothing.
 use mathlib.Core.Path.{_≡_, sym, ap, _∙_}
+use mathlib.Core.Bool.{Bool}
 use mathlib.Core.List.{List}
 use Prim.Native.Nat.{ℕ, _*_, _-_, _≤_, _<_}
 use native.Mathlib.Omega.{arith}
@@ -104,13 +105,13 @@ clear-requires c κs =
     let s = l .before .before .before .before .before in
     (omega (arith, l .loop .inv .running .points-long, s .pre), omega (arith, l .loop .inv .running .lengths-long, s .pre))
 
-cast-t30 : tie.Need-cast-t30 Inv-loop μ-loop
-cast-t30 c =
+cast-t31 : tie.Need-cast-t31 Inv-loop μ-loop
+cast-t31 c =
     let n = c .before .before .before .before .before .before .before .before .before .before .before in
     omega (arith, n .loop-test .taken, n .before .before .before .before .before .before .pre .1 .1 .1 .0)
 
-add-t31 : tie.Need-add-t31 Inv-loop μ-loop
-add-t31 c =
+add-t32 : tie.Need-add-t32 Inv-loop μ-loop
+add-t32 c =
     let n = c .before .before .before .before .before .before .before .before .before .before .before in
     omega (arith, n .loop-test .taken, n .before .before .before .before .before .before .pre .1 .1 .1 .0)
 
@@ -130,24 +131,27 @@ returns c =
     let s = l .before .before .before .before .before in
     running-refused (storeIn (s .args .base .now) (s .args .check .now)) (stateIn (numbersOf (s .args .state))) (s .args .words .now) (s .args .points .now) (s .args .lengths .now) (heldIn (l .loop .carried) (l .loop .backoffs)) (toZ w64 (l .loop .total)) (l .loop .i) (l .loop .points) (l .loop .lengths) (l .loop .inv .running) (n .loop-test .taken) (step-is d Refused (e .enum-told .given .1)) (numbersOf (s .args .state)) (k .clear .last .0) (k .clear .last .1 .0) (k .clear .ensures .0) (k .clear .ensures .1)
 
--- the word's kind and points
+-- the word's kind and points, and whether its row is extended
 abbrev kind : tie.After-word Inv-loop μ-loop → Kind
 kind c = c .word .given .0 .0
 
 abbrev x : tie.After-word Inv-loop μ-loop → ℤ
 x c = c .word .given .0 .1 .0
 
+abbrev extended : tie.After-word Inv-loop μ-loop → Bool
+extended c = c .word .given .0 .1 .1 .0
+
 x-fits : (c : tie.After-known-told Inv-loop μ-loop) → SFits w32 (x (c .before))
 x-fits c = sfits-of (c .known-told .given .1 .0 .1)
 
-sizes : (c : tie.After-word Inv-loop μ-loop) → (natAbs (x c) ≤ orderLimit * largestBackoff) × (byteOf (kind c) < 256)
+sizes : (c : tie.After-word Inv-loop μ-loop) → (natAbs (x c) ≤ orderLimit * largestBackoff) × (byteOf (kind c) (extended c) < 256)
 sizes c =
     let d = c .before .before in
     let l = d .before .before .before .before in
     let s = l .before .before .before .before .before in
     let o = order-is s .1 in
     let S = storeIn (s .args .base .now) (s .args .check .now) in
-    scored-sizes S (rows-in-probability (s .args .base .now) (s .args .check .now)) (S .order - 1) (omega arith) (heldIn (l .loop .carried) (l .loop .backoffs)) (carries-bounded (S .order) o (l .loop .carried) (l .loop .backoffs) (l .loop .inv .carries)) (getD (s .args .words .now) (l .loop .i) 0) (x c) (byteOf (kind c)) (heldIn (d .step .result .next) (backoffs d)) (step-is d _ (c .word .given .1))
+    scored-sizes S (rows-in-probability (s .args .base .now) (s .args .check .now)) (S .order - 1) (omega arith) (heldIn (l .loop .carried) (l .loop .backoffs)) (carries-bounded (S .order) o (l .loop .carried) (l .loop .backoffs) (l .loop .inv .carries)) (getD (s .args .words .now) (l .loop .i) 0) (x c) (byteOf (kind c) (extended c)) (heldIn (d .step .result .next) (backoffs d)) (step-is d _ (c .word .given .1))
 
 write-word-requires : tie.Need-write-word-requires Inv-loop μ-loop
 write-word-requires c κs =
@@ -197,8 +201,8 @@ loop-again c =
     let l = n .before in
     let s = l .before .before .before .before .before in
     let S = storeIn (s .args .base .now) (s .args .check .now) in
-    again (cc (toZ-ofZ (add-total b), x-wide b)) (w .write-word .ensures .0 ∙ ap (set (l .loop .points) (l .loop .i)) (toZ-ofZ (x-fits k))) (w .write-word .ensures .1) (d .step .ensures .carries _ _ (m .word .given .1))
-    (running-on S (stateIn (numbersOf (s .args .state))) (s .args .words .now) (s .args .points .now) (s .args .lengths .now) (heldIn (l .loop .carried) (l .loop .backoffs)) (toZ w64 (l .loop .total)) (l .loop .i) (l .loop .points) (l .loop .lengths) (l .loop .inv .running) (x m) (byteOf (kind m)) (heldIn (d .step .result .next) (backoffs d)) (n .loop-test .taken) (s .pre .1 .1 .1 .1 .0) (s .pre .1 .1 .1 .1 .1) (sizes m .0) (step-is d _ (m .word .given .1)))
+    again (cc (toZ-ofZ (add-total b), x-wide b)) (w .write-word .ensures .0 ∙ ap (set (l .loop .points) (l .loop .i)) (toZ-ofZ (x-fits k))) (w .write-word .ensures .1) (d .step .ensures .carries _ _ _ (m .word .given .1))
+    (running-on S (stateIn (numbersOf (s .args .state))) (s .args .words .now) (s .args .points .now) (s .args .lengths .now) (heldIn (l .loop .carried) (l .loop .backoffs)) (toZ w64 (l .loop .total)) (l .loop .i) (l .loop .points) (l .loop .lengths) (l .loop .inv .running) (x m) (byteOf (kind m) (extended m)) (heldIn (d .step .result .next) (backoffs d)) (n .loop-test .taken) (s .pre .1 .1 .1 .1 .0) (s .pre .1 .1 .1 .1 .1) (sizes m .0) (step-is d _ (m .word .given .1)))
 
 unpack-requires : tie.Need-unpack-requires Inv-loop μ-loop
 unpack-requires c κs = let l = c .before in omega (arith, l .loop .inv .carries .few, order-is (l .before .before .before .before .before))
@@ -231,8 +235,8 @@ score-words-spec =
     enum-known-word
     enum-told
     clear-requires
-    cast-t30
-    add-t31
+    cast-t31
+    add-t32
     same-length
     same-length-2
     returns

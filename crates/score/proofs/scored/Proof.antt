@@ -28,15 +28,15 @@ add-kind-of c = search needs
 kind-of-requires : tie.Need-kind-of-requires
 kind-of-requires c κs = search needs
 
-mul-t12 : tie.Need-mul-t12
-mul-t12 c = search needs
+mul-t13 : tie.Need-mul-t13
+mul-t13 c = search needs
 
 word-high : (s : tie.Start) → s .args .word ≤ wordLimit
 unfolding isWord
 word-high s = leb-true (s .args .word) wordLimit (and-right (leb 1 (s .args .word)) (leb (s .args .word) wordLimit) (s .pre .0))
 
-add-t14 : tie.Need-add-t14
-add-t14 c = omega (arith, word-high (c .before))
+add-t15 : tie.Need-add-t15
+add-t15 c = omega (arith, word-high (c .before))
 
 returns : tie.Need-returns
 returns c =
@@ -44,10 +44,10 @@ returns c =
     let s = k .before in
     let o : SFits w32 (s .args .kept .owed) = search needs in
     record {
-      word = λ t. ap₂ (λ (y : ℤ) (b : ℕ). scored y b t) (toZ-ofZ (s .fits .points)) (k .kind-of .ensures ∙ rw add-one);
+      word = λ t. ap₂ (λ (y : ℤ) (b : ℕ). scored y b t) (toZ-ofZ (s .fits .points)) (k .kind-of .ensures (s .args .extended) ∙ rw add-one);
       next = ap {B = Packed} (λ (z : ℤ). record { count = s .args .kept .count; words = pushed (s .args .word) (s .args .words); owed = z }) (toZ-ofZ o);
     }
 
 pub scored-spec : {M : Type 1} → statement M
 scored-spec =
-    tie.close (tie.spec cast-kind-of add-kind-of kind-of-requires mul-t12 add-t14 returns)
+    tie.close (tie.spec cast-kind-of add-kind-of kind-of-requires mul-t13 add-t15 returns)

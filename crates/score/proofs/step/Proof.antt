@@ -1,5 +1,6 @@
 -- `score::step` meets its contract. Assumes nothing.
 use mathlib.Core.Path.{_≡_, sym, ap₂, _∙_, subst}
+use mathlib.Core.Bool.{Bool}
 use mathlib.Core.List.{List}
 use Prim.Native.Nat.{ℕ}
 use native.Mathlib.Omega.{arith}
@@ -37,7 +38,7 @@ enum-told c = search needs
 
 -- a word that is refused
 refused : {S : Store} {s : Carried} {w : ℕ} {next : Packed} {backoffs : List ℤ} → step S s w ≡ stuck → SteppedTo S s w (record { word = Refused; next = next }) backoffs
-refused e = record { is = sym e; carries = λ kind points q. let z : _≡_ {A = ℕ} 0 1 = cc in absurd (omega arith) }
+refused e = record { is = sym e; carries = λ kind points extended q. let z : _≡_ {A = ℕ} 0 1 = cc in absurd (omega arith) }
 
 -- the first node is what `first_node` answered
 first-told : (c : tie.After-first-node) (r : First) → c .first-node .result ≡ r → firstOf (c .before .args .w) (childAt (c .before .args .base .now) (c .before .args .check .now) 0 (c .before .args .w)) (childAt (c .before .args .base .now) (c .before .args .check .now) 0 unknownWord) ≡ r
@@ -105,11 +106,14 @@ passed c = c .walked .given .0 .1 .0
 abbrev kept : tie.After-walked → Kept
 kept c = c .walked .given .0 .1 .1 .0
 
+abbrev extended : tie.After-walked → Bool
+extended c = c .walked .given .0 .1 .1 .1 .0
+
 points-fits : (c : tie.After-known-told2) → SFits w32 (points (c .before))
 points-fits c = sfits-of (c .known-told2 .given .0 .1)
 
-read : (c : tie.After-walked) → Read (storeIn (c .before .before .before .before .before .before .before .before .args .base .now) (c .before .before .before .before .before .before .before .before .args .check .now)) (heldIn (c .before .before .before .before .before .before .before .before .args .carried) (c .before .before .before .before .before .before .before .before .args .backoffs .now)) (word (c .before .before .before .before .before)) (points c) (passed c) (kept c) (backoffs (c .before .before))
-read c = walked (c .before .before) (Whole (points c) (passed c) (kept c)) (c .walked .given .1)
+read : (c : tie.After-walked) → Read (storeIn (c .before .before .before .before .before .before .before .before .args .base .now) (c .before .before .before .before .before .before .before .before .args .check .now)) (heldIn (c .before .before .before .before .before .before .before .before .args .carried) (c .before .before .before .before .before .before .before .before .args .backoffs .now)) (word (c .before .before .before .before .before)) (points c) (passed c) (kept c) (extended c) (backoffs (c .before .before))
+read c = walked (c .before .before) (Whole (points c) (passed c) (kept c) (extended c)) (c .walked .given .1)
 
 -- the state that was given, by the array's own order
 held : (s : tie.Start) → Carries (orderIn (s .args .check .now)) (s .args .carried) (s .args .backoffs .now)
@@ -122,8 +126,8 @@ scored-requires c κs =
     let t = k .before .before .before in
     let s = t .before .before .before in
     let a = s .args in (
-      word-is-word (a .base .now) (a .check .now) (s .pre .0) (a .carried) (a .backoffs .now) (held s) (word t) (slot t) (child-is t) (points m) (passed m) (kept m) (backoffs k) (read m),
-      passed-few (a .base .now) (a .check .now) (s .pre .0) (a .carried) (a .backoffs .now) (held s) (word t) (slot t) (child-is t) (points m) (passed m) (kept m) (backoffs k) (read m),
+      word-is-word (a .base .now) (a .check .now) (s .pre .0) (a .carried) (a .backoffs .now) (held s) (word t) (slot t) (child-is t) (points m) (passed m) (kept m) (extended m) (backoffs k) (read m),
+      passed-few (a .base .now) (a .check .now) (s .pre .0) (a .carried) (a .backoffs .now) (held s) (word t) (slot t) (child-is t) (points m) (passed m) (kept m) (extended m) (backoffs k) (read m),
     )
 
 returns-3 : tie.Need-returns-3
@@ -133,8 +137,8 @@ returns-3 c =
     let t = k .before .before .before in
     let s = t .before .before .before in
     let a = s .args in
-    stepped (a .base .now) (a .check .now) (s .pre .0) (a .carried) (a .backoffs .now) (held s) (word t) (slot t) (child-is t) (points m) (passed m) (kept m) (backoffs k) (read m) (a .w) (first-is t) (c .scored .result)
-    (subst (λ (x : ℤ). ScoredAs (a .carried .words) (word t) x (passed m) (kept m) (c .scored .result)) (toZ-ofZ (points-fits (c .before))) (c .scored .ensures))
+    stepped (a .base .now) (a .check .now) (s .pre .0) (a .carried) (a .backoffs .now) (held s) (word t) (slot t) (child-is t) (points m) (passed m) (kept m) (extended m) (backoffs k) (read m) (a .w) (first-is t) (c .scored .result)
+    (subst (λ (x : ℤ). ScoredAs (a .carried .words) (word t) x (passed m) (kept m) (extended m) (c .scored .result)) (toZ-ofZ (points-fits (c .before))) (c .scored .ensures))
 
 pub step-spec : {M : Type 1} → statement M
 step-spec =

@@ -133,8 +133,11 @@ p c = c .p .given .0 .0
 abbrev b : tie.After-p Inv-loop μ-loop → ℤ
 b c = c .p .given .0 .1 .0
 
+abbrev extended : tie.After-p Inv-loop μ-loop → Bool
+extended c = c .p .given .0 .1 .1 .0
+
 abbrev f : tie.After-p Inv-loop μ-loop → Bool
-f c = c .p .given .0 .1 .1 .0
+f c = c .p .given .0 .1 .1 .1 .0
 
 p-fits : (c : tie.After-known-told Inv-loop μ-loop) → SFits w32 (p (c .before))
 p-fits c = sfits-of (c .known-told .given .0 .1)
@@ -142,14 +145,14 @@ p-fits c = sfits-of (c .known-told .given .0 .1)
 b-fits : (c : tie.After-known-told Inv-loop μ-loop) → SFits w32 (b (c .before))
 b-fits c = sfits-of (c .known-told .given .1 .0 .1)
 
-marker-sound : (c : tie.After-p Inv-loop μ-loop) → markerAt (c .before .before .before .before .before .args .base .now) (c .before .before .before .before .before .args .check .now) (c .before .before .before .loop .s) ≡ Sound (p c) (b c) (f c)
+marker-sound : (c : tie.After-p Inv-loop μ-loop) → markerAt (c .before .before .before .before .before .args .base .now) (c .before .before .before .before .before .args .check .now) (c .before .before .before .loop .s) ≡ Sound (p c) (b c) (extended c) (f c)
 marker-sound c = marker-is (c .before .before) _ (c .p .given .1)
 
-in-range : (c : tie.After-p Inv-loop μ-loop) → IsMarker (c .before .before .before .before .before .args .base .now) (c .before .before .before .before .before .args .check .now) (c .before .before .before .loop .s) (p c) (b c) (f c)
+in-range : (c : tie.After-p Inv-loop μ-loop) → IsMarker (c .before .before .before .before .before .args .base .now) (c .before .before .before .before .before .args .check .now) (c .before .before .before .loop .s) (p c) (b c) (extended c) (f c)
 in-range c =
     let l = c .before .before .before in
     let s = l .before .before in
-    marker-told (s .args .base .now) (s .args .check .now) (l .loop .s) (p c) (b c) (f c) (marker-sound c)
+    marker-told (s .args .base .now) (s .args .check .now) (l .loop .s) (p c) (b c) (extended c) (f c) (marker-sound c)
 
 -- the sum of the back-offs up to the node
 abbrev total : tie.After-p Inv-loop μ-loop → ℤ
@@ -173,7 +176,7 @@ add-longest-live : tie.Need-add-longest-live Inv-loop μ-loop
 add-longest-live c = search needs
 
 longest-live-requires : tie.Need-longest-live-requires Inv-loop μ-loop
-longest-live-requires c κs = rw (toZ-ofZ (b-fits (c .before))) (in-range (c .before .before) .b-in-range)
+longest-live-requires c κs = search needs
 
 next-node-requires : tie.Need-next-node-requires Inv-loop μ-loop
 next-node-requires c κs =
@@ -220,9 +223,9 @@ found false x u e = let z : _≡_ {A = ℕ} 0 1 = cc in absurd (omega arith)
 next-is : (c : tie.After-next-node Inv-loop μ-loop) (r : Child) → c .next-node .result ≡ r → cond (ltb (c .before .before .before .before .before .before .before .loop .passed) (c .before .before .before .before .before .before .before .before .before .args .carried .count)) (childAt (c .before .before .before .before .before .before .before .before .before .args .base .now) (c .before .before .before .before .before .before .before .before .before .args .check .now) (c .before .before .before .before .before .before .before .loop .s) (c .before .before .before .before .before .before .before .loop .older % radix)) Nothing ≡ r
 next-is c r e = sym (c .next-node .ensures .0) ∙ e
 
-add-t28 : tie.Need-add-t28 Inv-loop μ-loop
+add-t29 : tie.Need-add-t29 Inv-loop μ-loop
 unfolding inProbability
-add-t28 c =
+add-t29 c =
     let k = c .before .before .before .before .before in
     let l = k .before .before .before .before in
     let s = l .before .before in
@@ -232,7 +235,7 @@ add-t28 c =
     rw (toZ-ofZ (p-fits k)) (omega (zarith, low, high, owed, owed-size s (l .loop .passed), abs (sum (drop (l .loop .passed) (left s)))))
 
 -- a sound walk that ends at this node, as the code returns it
-told : {S : Store} {s : Carried} {v passed : ℕ} {points x : ℤ} {kept noted : Kept} {bs cs : List ℤ} → x ≡ points → noted ≡ kept → cs ≡ bs → Read S s v points passed kept bs → Read S s v x passed noted cs
+told : {S : Store} {s : Carried} {v passed : ℕ} {points x : ℤ} {kept noted : Kept} {extended : Bool} {bs cs : List ℤ} → x ≡ points → noted ≡ kept → cs ≡ bs → Read S s v points passed kept extended bs → Read S s v x passed noted extended cs
 told e g h r = rw (e, g, h) r
 
 returns-2 : tie.Need-returns-2 Inv-loop μ-loop
@@ -244,8 +247,8 @@ returns-2 c = λ v e.
     let l = m .before .before .before in
     let s = l .before .before in
     let o = l .loop .inv .owing in
-    told (cc (toZ-ofZ (add-t28 c), toZ-ofZ (p-fits k), o .owed-is)) (noted-is g) (read-is k)
-    (walking-ends (s .args .base .now) (s .args .check .now) v (words s) (l .loop .s) (l .loop .passed) (l .loop .kept) (l .loop .backoffs) (l .loop .inv .walking v e) (p m) (b m) (f m) (marker-sound m) (total m) (left s) (o .long ∙ five s) (omega (arith, passed-inside m, five s))
+    told (cc (toZ-ofZ (add-t29 c), toZ-ofZ (p-fits k), o .owed-is)) (noted-is g) (read-is k)
+    (walking-ends (s .args .base .now) (s .args .check .now) v (words s) (l .loop .s) (l .loop .passed) (l .loop .kept) (l .loop .backoffs) (l .loop .inv .walking v e) (p m) (b m) (extended m) (f m) (marker-sound m) (total m) (left s) (o .long ∙ five s) (omega (arith, passed-inside m, five s))
     (now-owed (s .args .carried .count) (s .args .backoffs .now) (l .loop .passed) (l .loop .kept) (toZ w32 (l .loop .sum)) (toZ w32 (l .loop .owed)) (l .loop .backoffs) o (passed-inside m) (b m) (in-range m .b-in-range) (live m))
     (omega (arith, length-words s, l .loop .inv .few))
     (λ h. let n : l .loop .passed < s .args .carried .count = omega (arith, length-words s) in rw (sym (word-is l n)) (rw (lt-ltb (l .loop .passed) (s .args .carried .count) n) at (next-is d Nothing (c .enum-told2 .given .1)))))
@@ -304,7 +307,7 @@ loop-again c =
       few = omega (arith, passed-few t);
       older-is = rw add-one (ap (λ (n : ℕ). n / radix) (l .loop .inv .older-is));
       owing = owing-on (s .args .carried .count) (s .args .backoffs .now) (l .loop .passed) (l .loop .kept) (toZ w32 (l .loop .sum)) (toZ w32 (l .loop .owed)) (l .loop .backoffs) o (passed-inside m) (b m) (in-range m .b-in-range) (omega (arith, count-few s, five s)) (passed-few t) (live m);
-      walking = λ v e. walking-on (s .args .base .now) (s .args .check .now) v (words s) (l .loop .s) (l .loop .passed) (l .loop .kept) (l .loop .backoffs) (l .loop .inv .walking v e) (p m) (b m) (f m) (marker-sound m) (total m) u (omega (arith, passed-few t, length-words s)) (omega (arith, passed-inside m, o .long)) (rw (sym (word-is l (passed-few t))) (went-on t .1));
+      walking = λ v e. walking-on (s .args .base .now) (s .args .check .now) v (words s) (l .loop .s) (l .loop .passed) (l .loop .kept) (l .loop .backoffs) (l .loop .inv .walking v e) (p m) (b m) (extended m) (f m) (marker-sound m) (total m) u (omega (arith, passed-few t, length-words s)) (omega (arith, passed-inside m, o .long)) (rw (sym (word-is l (passed-few t))) (went-on t .1));
     })
 
 pub walk-spec : {M : Type 1} → statement M
@@ -328,7 +331,7 @@ walk-spec =
     next-node-requires
     enum-known-t
     enum-told-2
-    add-t28
+    add-t29
     returns-2
     sub-owed
     add-passed

@@ -1,10 +1,10 @@
 -- `totals::count_unknown` meets its contract. Assumes nothing.
 use mathlib.Core.Path.{_≡_}
 use mathlib.Core.Logic.{⊎-elim}
-use Prim.Native.Nat.{_+_, _≤_, _-_}
+use Prim.Native.Nat.{_+_, _-_, _/_, _%_, _≤_}
 use native.Mathlib.Omega.{arith}
 use borrow.Author.Needs.{needs}
-use borrow.Author.Tests.{le-leb, lt-leb}
+use borrow.Author.Tests.{eq-eqb, ne-eqb}
 use lib.ListN.{length, drop, getD}
 use Rattle.totals.specs.Steps.{countUnknown}
 use Rattle.totals.proofs.Scoring.{count-more, count-none}
@@ -38,8 +38,8 @@ loop-again c =
     let bytes = l .before .args .lengths .now in
     let step = count-more bytes (l .loop .i) (search needs) in (
       search needs,
-      ⊎-elim (λ w. (omega (arith, w .1), omega (arith, w .1, l .loop .inv .1 .1, rw (le-leb 8 (getD bytes (l .loop .i) 0) (w .0 .taken)) at step)))
-          (λ w. (omega (arith, w .1), omega (arith, w .1, l .loop .inv .1 .1, rw (lt-leb 8 (getD bytes (l .loop .i) 0) (w .0 .left)) at step))) (c .if1 .came),
+      ⊎-elim (λ w. (omega (arith, w .1), omega (arith, w .1, l .loop .inv .1 .1, rw (eq-eqb (getD bytes (l .loop .i) 0 / 8 % 2) 1 (w .0 .taken)) at step)))
+          (λ w. (omega (arith, w .1), omega (arith, w .1, l .loop .inv .1 .1, rw (ne-eqb (getD bytes (l .loop .i) 0 / 8 % 2) 1 (w .0 .left)) at step))) (c .if1 .came),
     )
 
 returns : tie.Need-returns Inv-loop μ-loop
