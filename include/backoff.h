@@ -36,7 +36,8 @@
 extern "C" {
 #endif
 
-/* The numbers of refusals. The place is the row for 3 to 8, the word (from 1) for 12 in a run, and 0 otherwise. */
+/* The numbers of refusals. The place is the row for 3 to 8, the word (from 1) for 12 in a run, the line (from 1) for 17 to
+ * 19 and, where an ARPA text is read, for 15; otherwise it is 0. */
 enum backoff_number {
     BACKOFF_ACCEPTED = 0,
     BACKOFF_TABLE_LENGTH = 1,    /* the table has no items, no multiple of 8 items, or more than 65,535 rows */
@@ -59,8 +60,11 @@ enum backoff_number {
     BACKOFF_TEXT_LINE = 13,      /* a text line is not in form; only the totals program gives this */
     BACKOFF_WORD_COUNT = 14,     /* a lookup has no or more than 5 words; a run has more than 65,535 */
     BACKOFF_SHORT_SLICE = 15,    /* a slice to be written is too short */
-    BACKOFF_BAD_STATE = 16       /* the state has not nine numbers, its count is outside 0..n-1, an unused number is
+    BACKOFF_BAD_STATE = 16,      /* the state has not nine numbers, its count is outside 0..n-1, an unused number is
                                     not 0, a word is outside 1..65,535, or a back-off is out of range */
+    BACKOFF_ARPA_LINE = 17,      /* a line of an ARPA text is not in form, or missing at its end */
+    BACKOFF_ARPA_WORD = 18,      /* a word of an ARPA text has no line among the rows of one word */
+    BACKOFF_ARPA_COUNT = 19      /* a section of an ARPA text has not as many lines as its count says */
 };
 
 /* Sizes and limits. */
@@ -72,6 +76,8 @@ enum backoff_limit {
     BACKOFF_WORD_LIMIT = 65535,   /* the largest word */
     BACKOFF_RUN_LIMIT = 65535,    /* the most words of a run */
     BACKOFF_SLOT_LIMIT = 1048576, /* the most slots of an array */
+    BACKOFF_RECORD_BYTES = 64,    /* the bytes of a word's record in a store of texts */
+    BACKOFF_TEXT_LIMIT = 63,      /* the most bytes of a word's text */
     BACKOFF_LEAST_PROBABILITY = -990000,
     BACKOFF_LEAST_BACKOFF = -990000,
     BACKOFF_LARGEST_BACKOFF = 990000,
@@ -174,6 +180,41 @@ struct backoff_total backoff_plain(const int32_t *table, size_t table_len, bool 
  * After 12: table and work are 0 for each row, and untouched past the rows. */
 struct backoff_status backoff_unload(const int32_t *base, size_t base_len, const int32_t *check, size_t check_len,
                                      int32_t *table, size_t table_len, uint32_t *work, size_t work_len);
+
+/* The answer of reading an ARPA text: rows is the number of rows, and 0 where the call refuses. The place may be a line, so
+ * it has 64 bits. */
+struct backoff_rows {
+    uint32_t number;
+    uint32_t rows;
+    uint64_t place;
+};
+
+/* Reads an ARPA text: fills table with its rows in list order, and store with the texts of its words.
+ *
+ * The text has these lines, in this order; each ends with LF, and empty lines may stand anywhere.
+ *   \data\            begins the counts
+ *   ngram 1=COUNT     one such line for each length, from 1 upwards, five at most; one space may stand before = and one
+ *                     after it; a count has one to nine digits
+ *   \1-grams:         begins the rows of one word, which come in any order; such a section follows for each length
+ *   \end\             ends the text
+ * A row is p, a tab, as many words as its section says with one space between two, and, where it has one, a tab and b. A
+ * missing b is 0. p and b are base-10 logarithms: a minus or none, one to three digits, and optionally a point with one to
+ * seven digits; they are rounded to the nearest point, a half away from zero. A word is 1 to 63 bytes, all above the space.
+ *
+ * The words <unk>, <s> and </s> are 1, 2 and 3; the others count up from 4 as the one-word section brings them, and one
+ * that comes again keeps its number. Record k of the store, the 64 bytes from 64 * k, is the length of the text of word k,
+ * then the text; record 0 is unused. Rows of equal words stay as they came, so that the second of them gives 7.
+ *
+ * The first i rows need 8 * i items of table, word k needs 64 * (k + 1) bytes of store: for a text of so many lines,
+ * 8 * lines items and 64 * (lines + 4) bytes are always enough.
+ *
+ * Refusals: line by line 17, 18, 15, and 19 at the next heading or the end line; then, of the rows in list order, 1; row by
+ * row 3, 4, 5, 6, 7, 8; then 9. The place is the line for 15, 17, 18 and 19, the row in list order for 3 to 8, and 0 for 1
+ * and 9. Where the text ends too early, 17 has the number of its lines + 1; what follows its last LF is a line not in form.
+ * Accepted: table has the rows, store the records of the words; everything else in both is 0.
+ * Refused: table and store are 0 throughout. */
+struct backoff_rows backoff_arpa(const uint8_t *text, size_t text_len, int32_t *table, size_t table_len, uint8_t *store,
+                                 size_t store_len);
 
 #ifdef __cplusplus
 }

@@ -1,6 +1,7 @@
-//! The calls against Rust written by the team for the same work. Without arguments it prints Markdown tables of ratios, times and memory;
-//! `instructions KIND LENGTH` runs the scorers once, for `bench/instructions` to count.
+//! The calls against Rust written by the team for the same work. Without arguments it prints Markdown tables of ratios, times and memory,
+//! `reading` prints those of ARPA texts alone; `instructions KIND LENGTH` runs the scorers once, for `bench/instructions` to count.
 
+mod arpa;
 mod array;
 mod instructions;
 mod list;
@@ -8,6 +9,7 @@ mod lists;
 mod measure;
 mod packed;
 mod plain;
+mod reading;
 mod report;
 mod score;
 mod time;
@@ -19,6 +21,7 @@ fn main() -> ExitCode {
     let arguments: Vec<String> = std::env::args().skip(1).collect();
     match &arguments.iter().map(String::as_str).collect::<Vec<_>>()[..] {
         [] => report::print(),
+        ["reading"] => reading::print_tables(),
         ["instructions", kind, length] => instructions::run(kind, length),
         _ => return ExitCode::from(2),
     }

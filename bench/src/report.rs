@@ -2,6 +2,7 @@
 
 use crate::lists::{List, KINDS};
 use crate::measure::{build, measure, unload, Measured};
+use crate::reading;
 use tests::reference::array::MOST_SLOTS;
 
 /// The lists of a kind and what was measured on them, 1,000 rows first.
@@ -21,6 +22,7 @@ pub fn print() {
     print_times(&results);
     print_memory(&results);
     print_largest(&results);
+    reading::print_tables();
 }
 
 fn print_ratios(results: &[Result]) {

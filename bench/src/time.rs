@@ -27,6 +27,13 @@ pub fn compare(ours: &mut dyn FnMut(), rust: &mut dyn FnMut()) -> Compared {
     Compared { ours: median_of(|round| round.0), rust: median_of(|round| round.1), ratio: median_of(|round| round.0 / round.1) }
 }
 
+/// The seconds of one call, and what it answers.
+pub fn once<T>(call: impl FnOnce() -> T) -> (f64, T) {
+    let begin = processor_time();
+    let answer = call();
+    ((processor_time() - begin).as_secs_f64(), answer)
+}
+
 /// The seconds of one call, by the time of several.
 fn time(call: &mut dyn FnMut(), repetitions: usize) -> f64 {
     let begin = processor_time();

@@ -1,5 +1,5 @@
 //! Safe calls of the proved back-off scorer, one for each function of `include/backoff.h`, which has the list's form, the numbers of the
-//! refusals and the limits. Slices may have any lengths and hold any numbers: a call that does not accept them says so by a number and a place.
+//! refusals and the limits; and two functions over the texts that reading an ARPA file leaves. Slices may have any lengths and hold any numbers: a call that does not accept them says so by a number and a place.
 //! No call allocates, panics or keeps anything; an array may be shared by threads while nobody writes it.
 //!
 //! ```
@@ -77,8 +77,18 @@ pub struct Total {
     pub total: i64,
 }
 
+/// The answer of reading an ARPA text: `rows` is the number of rows, and 0 where the call refuses. The place is the line for 15, 17, 18 and 19, the
+/// row in list order for 3 to 8, and 0 for 1 and 9.
+#[repr(C)]
+#[derive(Clone, Copy, Debug, PartialEq, Eq)]
+pub struct Rows {
+    pub number: u32,
+    pub rows: u32,
+    pub place: u64,
+}
+
 mod raw {
-    use super::{Found, Status, Total};
+    use super::{Found, Rows, Status, Total};
 
     // A slice crosses as a pointer and a length.
     extern "C" {
@@ -150,6 +160,8 @@ mod raw {
             work: *mut u32,
             work_len: usize,
         ) -> Status;
+
+        pub fn backoff_arpa(text: *const u8, text_len: usize, table: *mut i32, table_len: usize, store: *mut u8, store_len: usize) -> Rows;
     }
 }
 
@@ -258,4 +270,43 @@ pub fn unload(base: &[i32], check: &[i32], table: &mut [i32], work: &mut [u32]) 
             work.len(),
         )
     }
+}
+
+/// Reads an ARPA text, whose form `include/backoff.h` gives: `table` gets its rows in list order, `store` the texts of its words, 64 bytes to a word. For a
+/// text of so many lines, `8 * lines` numbers and `64 * (lines + 4)` bytes are always enough.
+///
+/// Refusals: line by line 17, 18, 15, and 19 at the next heading or the end line; then, of the rows in list order, 1; row by row 3 to 8; then 9. They leave
+/// `table` and `store` 0 throughout. Where the call accepts, all that holds no row and no text is 0.
+///
+/// ```
+/// let text = b"\\data\\\nngram 1=4\nngram 2=1\n\n\\1-grams:\n-2\t<unk>\n-99\t<s>\t-0.3\n-1\t</s>\n-0.6\tgood\t-0.2\n\n\\2-grams:\n-0.4\t<s> good\n\n\\end\\\n";
+/// let lines = text.iter().filter(|&&byte| byte == b'\n').count();
+/// let (mut table, mut store) = (vec![0; 8 * lines], vec![0; 64 * (lines + 4)]);
+/// let read = backoff::read_arpa(text, &mut table, &mut store);
+/// assert_eq!(read, backoff::Rows { number: 0, rows: 5, place: 0 });
+/// table.truncate(8 * read.rows as usize);
+/// assert_eq!(table[8 * 3..8 * 4], [1, 4, 0, 0, 0, 0, -6_000, -2_000]);
+/// assert_eq!(backoff::check(&table).number, 0);
+///
+/// // Word 4 is `good`; `bad` has no number.
+/// assert_eq!(backoff::find_text(&store, b"good"), Some(4));
+/// assert_eq!(backoff::find_text(&store, b"bad"), None);
+/// assert_eq!(backoff::texts(&store).last(), Some((4, &b"good"[..])));
+/// ```
+pub fn read_arpa(text: &[u8], table: &mut [i32], store: &mut [u8]) -> Rows {
+    unsafe { raw::backoff_arpa(text.as_ptr(), text.len(), table.as_mut_ptr(), table.len(), store.as_mut_ptr(), store.len()) }
+}
+
+/// The bytes of a word's record in a store: its text's length, then the text.
+const RECORD: usize = 64;
+
+/// The words of a store with their texts, by ascending number: what a map from texts to numbers is made of.
+pub fn texts(store: &[u8]) -> impl Iterator<Item = (u32, &[u8])> {
+    let (records, _) = store.as_chunks::<RECORD>();
+    (0..).zip(records).filter(|(_, record)| record[0] != 0).filter_map(|(word, record)| Some((word, record.get(1..=record[0] as usize)?)))
+}
+
+/// The number of the word that has this text in a store. It looks at one record after another; for many texts make a map of [`texts`].
+pub fn find_text(store: &[u8], text: &[u8]) -> Option<u32> {
+    texts(store).find(|&(_, other)| other == text).map(|(word, _)| word)
 }

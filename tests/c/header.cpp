@@ -9,6 +9,7 @@ int main() {
     const backoff_status missing = backoff_check(table, BACKOFF_ROW_ITEMS);
     int32_t state[BACKOFF_STATE_LENGTH];
     const backoff_status none = backoff_start(nullptr, 0, nullptr, 0, state, BACKOFF_STATE_LENGTH);
+    const backoff_rows no_text = backoff_arpa(nullptr, 0, nullptr, 0, nullptr, 0);
     const bool holds = missing.number == BACKOFF_RESERVED_WORD && none.number == BACKOFF_ARRAY_HEAD && state[0] == 0;
-    return holds ? 0 : 1;
+    return holds && no_text.number == BACKOFF_ARPA_LINE ? 0 : 1;
 }

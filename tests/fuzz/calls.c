@@ -4,7 +4,7 @@
 #include <stdio.h>
 
 /* In one call of LOCKED the slices that are not to be written lie in pages that cannot be written. */
-enum { NUMBERS = 17, SMALL_LIST = 8 * 300, LOCKED = 10 };
+enum { NUMBERS = 20, SMALL_LIST = 8 * 300, SMALL_TEXT = 1 << 16, LOCKED = 10 };
 
 #define LIST_NUMBERS (1u << 1 | 0x3Fu << 3 | 1u << 9)
 
@@ -23,6 +23,7 @@ static const struct form FORMS[CALLS] = {
     {"backoff_run", 6, {false, false, true, false, true, true}, 1u << 11 | 1u << 12 | 1u << 14 | 1u << 15 | 1u << 16},
     {"backoff_plain", 4, {false, false, true, true}, LIST_NUMBERS | 1u << 14 | 1u << 15},
     {"backoff_unload", 4, {false, false, true, true}, 1u << 11 | 1u << 12 | 1u << 15},
+    {"backoff_arpa", 3, {false, true, true}, (LIST_NUMBERS & ~(1u << 3)) | 1u << 15 | 7u << 17},
 };
 
 /* How often each call gave each number. */
@@ -43,6 +44,12 @@ static struct answer of_total(struct backoff_total total) {
     return answer;
 }
 
+/* The rows count as the total. */
+static struct answer of_rows(struct backoff_rows rows) {
+    struct answer answer = {.number = rows.number, .place = rows.place, .total = rows.rows};
+    return answer;
+}
+
 static struct answer perform(enum call call, bool after_start, void *const *p, const struct slice *s) {
     switch (call) {
     case CHECK:
@@ -58,6 +65,8 @@ static struct answer perform(enum call call, bool after_start, void *const *p, c
                                     p[5], s[5].count));
     case PLAIN:
         return of_total(backoff_plain(p[0], s[0].count, after_start, p[1], s[1].count, p[2], s[2].count, p[3], s[3].count));
+    case ARPA:
+        return of_rows(backoff_arpa(p[0], s[0].count, p[1], s[1].count, p[2], s[2].count));
     default:
         return of_status(backoff_unload(p[0], s[0].count, p[1], s[1].count, p[2], s[2].count, p[3], s[3].count));
     }
@@ -102,6 +111,22 @@ static void see_verdict(struct slice table, struct answer answer) {
         return;
     struct answer verdict = verdict_on(table);
     require(answer.number == verdict.number && answer.place == verdict.place, "number and place of the list");
+}
+
+/* All that the rules say; of a large text, what they say of a refused one. */
+static void see_arpa(const struct slice *before, const struct slice *after, struct answer answer) {
+    if (answer.number != BACKOFF_ACCEPTED)
+        require(answer.total == 0 && is_all(after[1], after[1].count, 0) && is_all(after[2], after[2].count, 0),
+                "no rows, and table and store 0, where refused");
+    if (before[0].count > SMALL_TEXT)
+        return;
+    struct slice table = copy_of(before[1]), store = copy_of(before[2]);
+    struct answer ruled = arpa_by_rules(before[0], table, store);
+    require(answer.number == ruled.number, "the number of an ARPA text");
+    require(answer.place == ruled.place, "the place of an ARPA text");
+    require(answer.total == ruled.total, "the rows of an ARPA text");
+    require(same(after[1], table), "the table of an ARPA text");
+    require(same(after[2], store), "the store of an ARPA text");
 }
 
 static bool sizes_fit(struct slice base, struct slice check) {
@@ -300,6 +325,9 @@ static void see(enum call call, bool after_start, const struct slice *before, co
         break;
     case PLAIN:
         see_plain(after_start, before, after, answer);
+        break;
+    case ARPA:
+        see_arpa(before, after, answer);
         break;
     default:
         see_unload(before, after, answer);

@@ -1,4 +1,5 @@
-/* The cases: lists, built arrays, arrays that no build wrote, and lengths, with what must hold between calls. */
+/* The cases: lists, built arrays, arrays that no build wrote, lengths, and ARPA texts (arpa.c), with what must hold between
+ * calls. */
 #include "fuzz.h"
 
 struct arrays {
@@ -334,6 +335,9 @@ static void limit_case(size_t kind) {
         require(plain(table, true, text(table, words + 1), words, words).answer.number == 14,
                 "one word more gives 14 to plain scoring");
         break;
+    case 3:
+        arpa_limit_case();
+        break;
     default:
         built = build_fitting(table);
         see_split(built, empty_state(), text(table, words));
@@ -342,11 +346,11 @@ static void limit_case(size_t kind) {
     }
 }
 
-enum { LIMITS = 4 };
+enum { LIMITS = 5 };
 
 /* The first cases are those of the limits; later they are rare. */
 void run_case(uint64_t number) {
-    size_t kind = below(1000);
+    size_t kind = below(1300);
     if (number < LIMITS)
         limit_case((size_t)number);
     else if (kind < 1)
@@ -357,6 +361,8 @@ void run_case(uint64_t number) {
         built_case();
     else if (kind < 850)
         lent_case();
-    else
+    else if (kind < 1000)
         length_case();
+    else
+        arpa_case();
 }

@@ -1,8 +1,6 @@
 /* Wrong libraries, which the fuzzer must catch. Linked with --wrap for every call, so that a call comes here first; the
  * environment variable FAULT says which fault it has. Compiled without sanitizers, as the library is. */
-#include "backoff.h"
-#include <stdlib.h>
-#include <string.h>
+#include "faults.h"
 
 struct backoff_status __real_backoff_check(const int32_t *, size_t);
 struct backoff_status __real_backoff_build(const int32_t *, size_t, int32_t *, size_t, int32_t *, size_t, uint32_t *,
@@ -17,11 +15,6 @@ struct backoff_status __real_backoff_unload(const int32_t *, size_t, const int32
                                             size_t);
 
 static volatile int32_t sink;
-
-static bool has(const char *fault) {
-    const char *chosen = getenv("FAULT");
-    return chosen != NULL && strcmp(chosen, fault) == 0;
-}
 
 /* CHECK with the head of T-01 where it has the older one, for a library that takes both. */
 static const int32_t *with_new_head(const int32_t *check, size_t check_len, int32_t *copy) {

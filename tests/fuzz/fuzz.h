@@ -19,13 +19,13 @@ static inline uint32_t *words_of(struct slice slice) { return (uint32_t *)slice.
 static inline uint8_t *bytes_of(struct slice slice) { return (uint8_t *)slice.items; }
 
 /* The calls, the most slices that one of them takes, and their answers put into one form. */
-enum call { CHECK, BUILD, LOOKUP, START, RUN, PLAIN, UNLOAD, CALLS };
+enum call { CHECK, BUILD, LOOKUP, START, RUN, PLAIN, UNLOAD, ARPA, CALLS };
 
 enum { MOST_SLICES = 6 };
 
 struct answer {
     uint32_t number;
-    uint32_t place;
+    uint64_t place;
     uint32_t found;
     int32_t p;
     int32_t b;
@@ -86,11 +86,18 @@ bool is_head(struct slice base, struct slice check);
 int32_t order_in(struct slice check);
 bool is_state(struct slice state, int32_t order);
 
+/* What document 02 says of an ARPA text (arpa_rules.c): fills table and store as the call must leave them. */
+struct answer arpa_by_rules(struct slice text, struct slice table, struct slice store);
+
 /* A call in every placement, with all that must hold of any call (calls.c). Slices that it writes hold afterwards what it
  * left. */
 extern const char *call_name;
 struct answer ask(enum call call, bool after_start, struct slice *slices);
 bool report_calls(enum call call);
+
+/* ARPA texts, drawn and read (arpa.c). */
+void arpa_case(void);
+void arpa_limit_case(void);
 
 /* The relations between calls (cases.c). */
 void run_case(uint64_t number);

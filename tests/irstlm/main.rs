@@ -1,9 +1,11 @@
 //! Our points and matched lengths against those of irstlm; `tests/irstlm/run` calls this.
 //!
 //! `train` and `unseen` print the two texts, one sentence a line. `compare FOLDER NAME..` reads FOLDER/unseen.txt and, of each list, NAME.arpa and what
-//! `compile-lm` printed of the text: NAME.eval by `--eval --debug=2`, with two decimals, and NAME.score by `--score`, with all digits.
+//! `compile-lm` printed of the text: NAME.eval by `--eval --debug=2`, with two decimals, and NAME.score by `--score`, with all digits. NAME.form is
+//! NAME.arpa as `tests/irstlm/in-form` prints it, for `backoff_arpa`.
 
 mod arpa;
+mod direct;
 mod printed;
 mod texts;
 
@@ -19,6 +21,12 @@ const ORDER: usize = 3;
 
 /// p and two back-offs are each rounded by half a point at most; irstlm's own numbers have 24 bits, which is far below a tenth of a point.
 const ROUNDED: f64 = 1.5 + 0.1;
+
+/// Where irstlm has its first count, padded with spaces.
+const COUNTS_LINE: u64 = 3;
+
+/// The refusal of a list in which a shorter row is missing.
+const SHORTER_ROW: u32 = 8;
 
 /// Half of the second decimal.
 const TWO_DECIMALS: f64 = 50.0;
@@ -40,16 +48,39 @@ fn compare_all(folder: &str, names: &[&str]) -> ExitCode {
     for name in names {
         let list = arpa::read(&file(&format!("{name}.arpa"))).unwrap_or_else(|error| panic!("{name}.arpa: {error}"));
         println!("{name}: {} rows, {} of them added", list.rows.len(), list.added.len());
-        let words = score(&list, &file("unseen.txt"));
-        let eval = printed::eval(&file(&format!("{name}.eval")));
-        let scored = printed::score(&file(&format!("{name}.score")), ORDER);
-        count.compare(&format!("{name}, --eval --debug=2"), &words.iter().collect::<Vec<_>>(), &eval, TWO_DECIMALS + ROUNDED);
-        // `--score` tells nothing of words with fewer than two words before them.
-        let with_history: Vec<&Scored> = words.iter().filter(|word| word.preceding >= ORDER - 1).collect();
-        count.compare(&format!("{name}, --score"), &with_history, &scored, ROUNDED);
+        let answers = Answers {
+            text: file("unseen.txt"),
+            eval: printed::eval(&file(&format!("{name}.eval"))),
+            score: printed::score(&file(&format!("{name}.score")), ORDER),
+        };
+        count.compare_list(name, &list, &answers);
+        let refused = direct::read(file(&format!("{name}.arpa")).as_bytes()).err();
+        count.test(&format!("{name}: as irstlm spells it, the text is refused by {refused:?}"), refused == Some((17, COUNTS_LINE)));
+        match direct::read(file(&format!("{name}.form")).as_bytes()) {
+            Ok(direct) => {
+                let same_words =
+                    direct.numbers == list.numbers && direct.rows.iter().map(|row| &row.words).eq(list.rows.iter().map(|row| &row.words));
+                count.test(
+                    &format!("{name}, read directly: the same {} rows and texts", direct.rows.len()),
+                    same_words && list.added.is_empty(),
+                );
+                count.compare_list(&format!("{name}, read directly"), &direct, &answers);
+            }
+            Err(refused) => count.test(
+                &format!("{name}, read directly: refused by {refused:?}, since shorter rows are absent"),
+                refused.0 == SHORTER_ROW && !list.added.is_empty(),
+            ),
+        }
     }
     println!("{} passed, {} failed", count.passed, count.failed);
     ExitCode::from((count.failed > 0) as u8)
+}
+
+/// What irstlm answers to a text.
+struct Answers {
+    text: String,
+    eval: Vec<Printed>,
+    score: Vec<Printed>,
 }
 
 /// A word of the text with our answer.
@@ -98,6 +129,15 @@ struct Count {
 }
 
 impl Count {
+    /// The list is built and scores the text, beside both of irstlm's answers.
+    fn compare_list(&mut self, name: &str, list: &Arpa, answers: &Answers) {
+        let words = score(list, &answers.text);
+        self.compare(&format!("{name}, --eval --debug=2"), &words.iter().collect::<Vec<_>>(), &answers.eval, TWO_DECIMALS + ROUNDED);
+        // `--score` tells nothing of words with fewer than two words before them.
+        let with_history: Vec<&Scored> = words.iter().filter(|word| word.preceding >= ORDER - 1).collect();
+        self.compare(&format!("{name}, --score"), &with_history, &answers.score, ROUNDED);
+    }
+
     /// Three tests: the words, the matched lengths, the points.
     fn compare(&mut self, name: &str, ours: &[&Scored], irstlm: &[Printed], bound: f64) {
         let pairs = || ours.iter().zip(irstlm);

@@ -11,9 +11,12 @@ use Rattle.double_array.specs.Lookup as lookup
 use Rattle.double_array.specs.declared.Lookup.{Lookup}
 use Rattle.build.specs.Build.{Built}
 use Rattle.unload.specs.Unload.{Unloaded}
+use Rattle.arpa.specs.Outcome as arpa
+use Rattle.arpa.specs.declared.Rows.{Rows}
 use Rattle.grader.specs.declared.Status.{Status}
 use Rattle.grader.specs.declared.Found.{Found}
 use Rattle.grader.specs.declared.Total.{Total}
+use Rattle.grader.specs.declared.RowCount.{RowCount}
 
 -- a verdict as its number and place
 pub record StatusIs (v : Verdict) (r : Status) : Type 0 where
@@ -60,3 +63,15 @@ pub record UnloadedIs (o : Unloaded) (r : Status) (table : List ℤ) (work : Lis
   pub status : StatusIs (o .answer) r
   pub table-is : table ≡ o .table
   pub work-is : work ≡ o .work
+
+-- a reading's answer: the row count, or a refusal's number with its line or row
+pub record RowCountIs (a : Rows) (r : RowCount) : Type 0 where
+  pub number : r .number ≡ arpa.numberOf a
+  pub rows : r .rows ≡ arpa.rowCount a
+  pub place : r .place ≡ arpa.placeOf a
+
+-- a reading's answer, and the table and store at exit
+pub record ReadIs (o : arpa.Outcome) (r : RowCount) (table : List ℤ) (store : List ℕ) : Type 0 where
+  pub count : RowCountIs (o .answer) r
+  pub table-is : table ≡ o .table
+  pub store-is : store ≡ o .store

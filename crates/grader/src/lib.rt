@@ -1,4 +1,5 @@
 // The calls that cross to C. A slice is a pointer and then a length. Each export is thin: one call, and its answer as numbers.
+use arpa::Rows;
 use backoff::Verdict;
 use double_array::Lookup;
 use score::State;
@@ -17,7 +18,9 @@ ghost use Rattle.score.specs.Meaning.{StartMeans, RunMeans};
 ghost use Rattle.plain.specs.Plain.{runOf, plainOutcome, PlainMeans};
 ghost use Rattle.unload.specs.Unload.{unloadOutcome};
 ghost use Rattle.unload.specs.Meaning.{UnloadMeans};
-ghost use Rattle.grader.specs.Exports.{StatusIs, FoundIs, BuiltIs, StartedIs, TotalIs, RanIs, UnloadedIs};
+ghost use Rattle.arpa.specs.Outcome.{readArpa};
+ghost use Rattle.arpa.specs.Meaning.{ReadMeans};
+ghost use Rattle.grader.specs.Exports.{StatusIs, FoundIs, BuiltIs, StartedIs, TotalIs, RanIs, UnloadedIs, RowCountIs, ReadIs};
 
 // The refusal's number and place, 0 and 0 where nothing is refused.
 #[repr(C)]
@@ -43,6 +46,14 @@ pub struct Total {
     pub number: u32,
     pub place: u32,
     pub total: i64,
+}
+
+// The answer of a reading: the row count, or the refusal's number with its line or row.
+#[repr(C)]
+pub struct RowCount {
+    pub number: u32,
+    pub rows: u32,
+    pub place: u64,
 }
 
 // A state crosses as nine numbers.
@@ -87,6 +98,23 @@ fn found_of(l: Lookup) -> Found
             p: 0,
             b: 0,
             left: 0,
+        },
+    }
+}
+
+fn row_count_of(a: Rows) -> RowCount
+    ensures { λ r. ⌜ RowCountIs a r ⌝ }
+{
+    match a {
+        Rows::Read { rows } => RowCount {
+            number: 0,
+            rows,
+            place: 0,
+        },
+        Rows::Refused { number, place } => RowCount {
+            number,
+            rows: 0,
+            place,
         },
     }
 }
@@ -237,4 +265,13 @@ pub extern "C" fn backoff_unload(
     ensures meaning { λ r. ⌜ UnloadMeans (now (base .entry)) (now (check .entry)) (now (table .entry)) (now (work .entry)) (r .number) (r .place) (now (table .exit)) (now (work .exit)) ⌝ }
 {
     status_of(unload::unload(base, check, table, work))
+}
+
+// Reads an ARPA text: 17, 18, 15, 19 with the line, then the list checks with the row. Refused, table and store are 0.
+#[no_mangle]
+pub extern "C" fn backoff_arpa(text: &[u8], table: &mut [i32], store: &mut [u8]) -> RowCount
+    ensures outcome { λ r. ⌜ ReadIs (readArpa (length (now (table .entry))) (length (now (store .entry))) (now (text .entry))) r (now (table .exit)) (now (store .exit)) ⌝ }
+    ensures meaning { λ r. ⌜ ReadMeans (now (text .entry)) (r .number) (r .rows) (now (table .exit)) (now (store .exit)) ⌝ }
+{
+    row_count_of(arpa::read_arpa(text, table, store))
 }

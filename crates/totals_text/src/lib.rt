@@ -2,7 +2,7 @@
 ghost use mathlib.Core.Path.{_≡_};
 ghost use mathlib.Core.Bool.{true, cond};
 ghost use mathlib.Core.List.{map};
-ghost use Prim.Native.Nat.{ℕ, _+_, _*_, _-_, _<_, _≤_};
+ghost use Prim.Native.Nat.{ℕ, _+_, _*_, _-_, _^_, _<_, _≤_};
 ghost use lib.IntN.{pos, natAbs};
 ghost use lib.ListN.{length, drop, replicate};
 ghost use lib.Seq.{sets};
@@ -41,7 +41,7 @@ fn skip_spaces(text: &[u8]) -> usize
 }
 
 // Whether every character is a digit.
-fn all_digits(text: &[u8]) -> bool
+pub fn all_digits(text: &[u8]) -> bool
     ensures { λ r. ⌜ r ≡ allDigits (now (text .entry)) ⌝ }
 {
     let mut i = 0;
@@ -71,11 +71,12 @@ fn is_natural(text: &[u8]) -> bool
     all_digits(text)
 }
 
-// The number that up to eight digits make.
-fn value(text: &[u8]) -> u32
-    requires { ⌜ (allDigits (now text) ≡ true) × (length (now text) ≤ 8) ⌝ }
+// The number that up to nine digits make.
+pub fn value(text: &[u8]) -> u32
+    requires { ⌜ (allDigits (now text) ≡ true) × (length (now text) ≤ 9) ⌝ }
     ensures number { λ r. ⌜ r ≡ valueFrom 0 (now (text .entry)) ⌝ }
-    ensures small { λ r. ⌜ r < 100000000 ⌝ }
+    ensures fits { λ r. ⌜ r < 1000000000 ⌝ }
+    ensures small { λ r. ⌜ r < 10 ^ length (now (text .entry)) ⌝ }
 {
     let mut sum: u32 = 0;
     let mut i = 0;

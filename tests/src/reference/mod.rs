@@ -1,5 +1,6 @@
 //! The second implementation. It shares no code with the calls under test, but each function has the shape of its call.
 
+pub mod arpa;
 pub mod array;
 pub mod build;
 pub mod list;

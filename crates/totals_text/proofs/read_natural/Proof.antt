@@ -20,7 +20,7 @@ unfolding readNatural
 returns c = rw (sym (c .before .is-natural .ensures) ∙ not-true _ (c .if1 .taken)) refl
 
 value-requires : tie.Need-value-requires
-value-requires c κs = (natural-all _ (sym (c .before .is-natural .ensures) ∙ not-false _ (c .if1 .left)), c .before .before .before .pre)
+value-requires c κs = (natural-all _ (sym (c .before .is-natural .ensures) ∙ not-false _ (c .if1 .left)), omega (arith, c .before .before .before .pre))
 
 cast-t5 : tie.Need-cast-t5
 cast-t5 c = search needs

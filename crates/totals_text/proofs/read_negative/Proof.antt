@@ -23,7 +23,7 @@ unfolding readNegative
 returns c = rw (sym (c .before .is-natural .ensures) ∙ not-true _ (c .if1 .taken)) refl
 
 value-requires : tie.Need-value-requires
-value-requires c κs = (natural-all _ (sym (c .before .is-natural .ensures) ∙ not-false _ (c .if1 .left)), c .before .before .before .pre)
+value-requires c κs = (natural-all _ (sym (c .before .is-natural .ensures) ∙ not-false _ (c .if1 .left)), omega (arith, c .before .before .before .pre))
 
 -- the text is a number
 natural : (c : tie.After-value) → isNatural (c .before .before .before .before .args .text .now) ≡ true

@@ -1,0 +1,383 @@
+-- What an accepted reading means: `reads-the-lines`, and for every answer `read-means`. Assumes nothing.
+use mathlib.Core.Path.{_≡_, refl, sym, ap, ap₂, _∙_, subst}
+use mathlib.Core.Logic.{_↔_, ⊎-elim}
+use mathlib.Core.Bool.{true, _&&_}
+use mathlib.Core.List.{List, [], _∷_, _++_, map, List·Memᴰ, List·Memᴰ·head, Memᴰ·of-map}
+use Prim.Native.Nat.{ℕ, zero, suc, _+_, _*_, _-_, _/_, _<_, _≤_}
+use native.Mathlib.Omega.{arith}
+use lib.Dec.{lit<}
+use lib.IntN.{ℤ, pos}
+use lib.ListN.{length, getD, take, drop, replicate, length-map, length-drop}
+use lib.Seq.{getD-drop, take-at}
+use Rattle.integer.proofs.Ranges.{and-left, and-right, lt-or-ge}
+use Rattle.backoff.specs.Limits.{textLimit, unknownWord, startWord, endWord}
+use Rattle.backoff.specs.Model.{AcceptedModel}
+use Rattle.backoff.specs.Refusal.{numberOf as verdictNumber}
+use Rattle.backoff.specs.Words.{sameWords}
+use Rattle.backoff.specs.NineNumbers.{padded}
+use Rattle.backoff.proofs.NineNumbers.{length-padded}
+use Rattle.backoff.specs.declared.Verdict.{Verdict}
+use Rattle.backoff.specs.declared.Verdict.the-variants.{Accepted, Refused}
+use Rattle.list.specs.Table.{rowsOf, words}
+use Rattle.list.specs.Search.{findIn, isAt}
+use Rattle.list.specs.Check.{reservedListed, verdict, orElse}
+use Rattle.list.specs.ListModel.{modelOf}
+use Rattle.list.specs.declared.Found.{Found}
+use Rattle.list.proofs.Search.{found-words, is-at}
+use Rattle.list.proofs.Check.{accepted-reserved, accepted-refused, number-accepted}
+use Rattle.list.proofs.ListModel.{accepted-model}
+use Rattle.row_order.specs.RowOrder.{rowAt, joined, sortBy, rowBefore}
+use Rattle.row_order.proofs.Tags.{alone-words}
+use Rattle.word_index.specs.Texts.{textOf, textsFrom, searchFrom, givenBy}
+use Rattle.arpa_text.specs.Parts.{parts}
+use Rattle.arpa_text.specs.Lines.{Listed, isText, allAbove}
+use Rattle.arpa.specs.Words.{unknownText, startText, endText, reservedNumber, numberMet, recordsOf, storeWith}
+use Rattle.arpa.specs.Reading.{Reading, begun, Lines, done, stopped, readLines, rowOf}
+use Rattle.arpa.specs.Outcome.{refusedOutcome, ordered, judged, linesOutcome, readArpa, Leaves, numberOf, rowCount}
+use Rattle.arpa.specs.Meaning.{rowLines, textsIn, lineTexts, rowWith, lineRow, wordTexts, newTexts, numberStored, ReadsTheLines, ReadMeans}
+use Rattle.arpa.specs.declared.Rows.{Rows}
+use Rattle.arpa.specs.declared.Rows.the-variants.{Read}
+use Rattle.arpa.proofs.Searches.{search-told, texts-are}
+use Rattle.arpa.proofs.Words.{text-some, text-short, none-met, no-texts-sound, reserved-same, placed-at}
+use Rattle.arpa.proofs.Stores.{zeroed-length, record-text-there}
+use Rattle.arpa.proofs.JoinedRows.{Eights, row-eight, joined-length}
+use Rattle.arpa.proofs.RowsHeld.{padded-zeros, order-length}
+use Rattle.arpa.proofs.RowLines.{map-equal, row-same-numbers}
+use Rattle.arpa.proofs.NewTexts.{numberIn, Known, search-more, known-is-number, known-number}
+use Rattle.arpa.proofs.LineRows.{Sound, Brings, LinesBring, lines-read}
+use Rattle.arpa.proofs.Refusals.{LinesNumbered, lines-numbered}
+use Rattle.arpa.proofs.OrderedRows.{order-joined, sorted-row, one-word-row}
+
+-- ---- before the first line
+begun-sound : (room size : ℕ) → Sound room size begun
+begun-sound room size = record { texts = no-texts-sound; records = λ j l n. absurd (n (none-met j)); rows = omega arith }
+
+-- ---- numbers from 4 on
+searched-number : (text : List ℕ) (news : List (List ℕ)) (k : ℕ) → k < 3 → givenBy (searchFrom text 4 news) 0 ≡ suc k → ⊥
+searched-number text news k l e =
+    ⊎-elim
+    (λ w. let f : givenBy (searchFrom text 4 news) 0 ≡ 0 = ap (λ (x : Found). givenBy x 0) (w .0) in omega arith)
+    (λ w. let f : givenBy (searchFrom text 4 news) 0 ≡ 4 + w .0 = ap (λ (x : Found). givenBy x 0) (w .1 .found) in omega arith)
+    (search-told text 4 news)
+
+reserved-number : (text : List ℕ) (news : List (List ℕ)) (k : ℕ) → k < 3 → numberIn news text ≡ suc k → reservedNumber text ≡ suc k
+unfolding numberIn
+reserved-number text news k l e = go (reservedNumber text) e
+  where
+    go : (r : ℕ) → orElse r (givenBy (searchFrom text 4 news) 0) ≡ suc k → r ≡ suc k
+    go zero f = absurd (searched-number text news k l f)
+    go (suc r) f = f
+
+-- a list of one number is that of one text
+one-number : (f : List ℕ → ℕ) (us : List (List ℕ)) (k : ℕ) → map f us ≡ k ∷ [] → (u : List ℕ) × List·Memᴰ u us × (f u ≡ k)
+one-number f [] k e = absurd (let z : _≡_ {A = ℕ} 0 1 = cc in omega arith)
+one-number f (u ∷ us) k e = (u, List·Memᴰ·head refl, cc)
+
+first-three : (us : List (List ℕ)) → 3 ≤ length us → us ≡ getD us 0 [] ∷ getD us 1 [] ∷ getD us 2 [] ∷ drop 3 us
+first-three [] l = absurd (omega arith)
+first-three (a ∷ []) l = absurd (omega arith)
+first-three (a ∷ b ∷ []) l = absurd (omega arith)
+first-three (a ∷ b ∷ c ∷ us) l = refl
+
+texts-split : (s : List ℕ) (k a b : ℕ) → textsFrom s k (a + b) ≡ textsFrom s k a ++ textsFrom s (k + a) b
+unfolding textsFrom
+texts-split s k zero b = let e : 0 + b ≡ b = omega arith in let f : k + 0 ≡ k = omega arith in rw (e, f) refl
+texts-split s k (suc a) b =
+    let e : suc a + b ≡ suc (a + b) = omega arith in
+    let f : k + suc a ≡ suc k + a = omega arith in
+    rw (e, f) (ap (λ (us : List (List ℕ)). textOf s k ∷ us) (texts-split s (suc k) a b))
+
+-- ---- an accepted reading
+module _ (room size : ℕ) (r : Reading) (sound : Sound room size r) (lines : List (List ℕ)) (brings : Brings begun r lines) (accepted : verdict (ordered r) ≡ Accepted) where
+  abbrev news : List (List ℕ)
+  news = newTexts [] (wordTexts lines)
+
+  abbrev table : List ℤ
+  table = padded room (ordered r)
+
+  abbrev store : List ℕ
+  store = storeWith size (r .texts)
+
+  -- ---- rows
+  line-eight : (number : List ℕ → ℕ) (line : List ℕ) → List·Memᴰ line lines → length (lineRow number line) ≡ 8
+  unfolding lineRow
+  line-eight number line m =
+      let s = brings .said line m in
+      ap (λ (o : _). length (rowWith number o)) (s .1) ∙ row-eight (map number (s .0 .texts)) (s .0 .p) (s .0 .b)
+
+  eights : Eights (r .rows)
+  eights row m =
+      let x = Memᴰ·of-map (lineRow (numberIn (drop 3 (r .texts)))) lines (subst (λ (rows : List (List ℤ)). List·Memᴰ row rows) (brings .rows) m) in
+      ap length (sym (x .2)) ∙ line-eight (numberIn (drop 3 (r .texts))) (x .0) (x .1)
+
+  ordered-is : ordered r ≡ joined (sortBy rowBefore (r .rows))
+  unfolding ordered
+  ordered-is = order-joined (r .rows) eights
+
+  ordered-long : length (ordered r) ≡ 8 * length (r .rows)
+  unfolding ordered
+  ordered-long = order-length (joined (r .rows)) (length (r .rows)) (joined-length (r .rows) eights)
+
+  table-front : take (8 * length (r .rows)) table ≡ ordered r
+  table-front =
+      let l = sound .rows in
+      let e = ordered-long in
+      ap (take (8 * length (r .rows))) (padded-zeros room (ordered r) (omega arith)) ∙ take-at (ordered r) (replicate (room - length (ordered r)) (pos 0)) (8 * length (r .rows)) ordered-long
+
+  row-count : length (r .rows) ≡ length lines
+  row-count = ap length (brings .rows) ∙ simp length-map refl
+
+  -- ---- the reserved texts are met
+  abbrev number : List ℕ → ℕ
+  number = numberIn (drop 3 (r .texts))
+
+  -- the line that a row comes from, and what it says
+  line-of-row : (row : List ℤ) → List·Memᴰ row (r .rows) → (line : List ℕ) × List·Memᴰ line lines × (l : Listed) × (lineTexts line ≡ l .texts) × (rowOf (map number (l .texts)) (l .p) (l .b) ≡ row)
+  unfolding lineTexts lineRow
+  line-of-row row m =
+      let x = Memᴰ·of-map (lineRow number) lines (subst (λ (rows : List (List ℤ)). List·Memᴰ row rows) (brings .rows) m) in
+      let s = brings .said (x .0) (x .1) in
+      (x .0, x .1, s .0, ap textsIn (s .1), ap (rowWith number) (sym (s .1)) ∙ x .2)
+
+  listed-row : (i : ℕ) → i < rowsOf (ordered r) → List·Memᴰ (rowAt (ordered r) i) (r .rows)
+  listed-row i l =
+      subst (λ (t : List ℤ). List·Memᴰ (rowAt t i) (r .rows)) (sym ordered-is) (sorted-row (r .rows) eights i (subst (λ (t : List ℤ). i < rowsOf t) ordered-is l))
+
+  -- a line of the reserved word k + 1 has its text
+  reserved-line : (k : ℕ) → k < 3 → (line : List ℕ) → List·Memᴰ line lines → (l : Listed) → lineTexts line ≡ l .texts → map number (l .texts) ≡ suc k ∷ []
+      → (u : List ℕ) × (reservedNumber u ≡ suc k) × (isText u ≡ true) × Known (r .texts) u
+  reserved-line k small line m l e f =
+      let u = one-number number (l .texts) (suc k) f in
+      let here : List·Memᴰ (u .0) (lineTexts line) = subst (λ (us : List (List ℕ)). List·Memᴰ (u .0) us) (sym e) (u .1) in
+      (u .0, reserved-number (u .0) (drop 3 (r .texts)) k small (u .2), brings .in-form line m (u .0) here, brings .known line m (u .0) here)
+
+  reserved-row : (k i : ℕ) → k < 3 → i < rowsOf (ordered r) → words (ordered r) i ≡ suc k ∷ [] → (u : List ℕ) × (reservedNumber u ≡ suc k) × (isText u ≡ true) × Known (r .texts) u
+  reserved-row k i small l e =
+      let x = line-of-row (rowAt (ordered r) i) (listed-row i l) in
+      reserved-line k small (x .0) (x .1) (x .2) (x .3)
+      (one-word-row (map number (x .2 .texts)) (x .2 .p) (x .2 .b) k (ap (λ (t : List ℤ). words t 0) (x .4) ∙ alone-words (ordered r) i ∙ e))
+
+  reserved-known : (k : ℕ) (spelling u : List ℕ) → reservedNumber spelling ≡ suc k → reservedNumber u ≡ suc k → isText u ≡ true → Known (r .texts) u → getD (r .texts) k [] ≡ spelling
+  reserved-known k spelling u e f g known =
+      let place = placed-at (r .texts) (sound .texts) u g (known .0) k (known .1) (known .2) f in
+      ap (λ (j : ℕ). getD (r .texts) j []) (sym place) ∙ known .2 ∙ reserved-same u spelling k f e
+
+  reserved-met : (k : ℕ) (spelling : List ℕ) → k < 3 → reservedNumber spelling ≡ suc k → isAt (findIn (ordered r) (suc k ∷ [])) ≡ true → getD (r .texts) k [] ≡ spelling
+  reserved-met k spelling small e at =
+      let f = is-at (findIn (ordered r) (suc k ∷ [])) at in
+      let g = found-words (ordered r) (suc k ∷ []) (f .0) (f .1) in
+      let u = reserved-row k (f .0) small (g .0) (g .1) in
+      reserved-known k spelling (u .0) e (u .1) (u .2) (u .3)
+
+  both-listed : (isAt (findIn (ordered r) (unknownWord ∷ [])) && isAt (findIn (ordered r) (startWord ∷ []))) ≡ true
+  unfolding reservedListed
+  both-listed =
+      and-left (isAt (findIn (ordered r) (unknownWord ∷ [])) && isAt (findIn (ordered r) (startWord ∷ []))) (isAt (findIn (ordered r) (endWord ∷ []))) (accepted-reserved (ordered r) accepted)
+
+  end-listed : isAt (findIn (ordered r) (endWord ∷ [])) ≡ true
+  unfolding reservedListed
+  end-listed =
+      and-right (isAt (findIn (ordered r) (unknownWord ∷ [])) && isAt (findIn (ordered r) (startWord ∷ []))) (isAt (findIn (ordered r) (endWord ∷ []))) (accepted-reserved (ordered r) accepted)
+
+  unknown-met : getD (r .texts) 0 [] ≡ unknownText
+  unfolding reservedNumber sameWords
+  unknown-met = reserved-met 0 unknownText (lit< tt) refl (and-left (isAt (findIn (ordered r) (unknownWord ∷ []))) (isAt (findIn (ordered r) (startWord ∷ []))) both-listed)
+
+  start-met : getD (r .texts) 1 [] ≡ startText
+  unfolding reservedNumber sameWords
+  start-met = reserved-met 1 startText (lit< tt) refl (and-right (isAt (findIn (ordered r) (unknownWord ∷ []))) (isAt (findIn (ordered r) (startWord ∷ []))) both-listed)
+
+  end-met : getD (r .texts) 2 [] ≡ endText
+  unfolding reservedNumber sameWords
+  end-met = reserved-met 2 endText (lit< tt) refl end-listed
+
+  texts-met : r .texts ≡ unknownText ∷ startText ∷ endText ∷ news
+  texts-met = first-three (r .texts) (sound .texts .long) ∙ rw (unknown-met, start-met, end-met, brings .news) refl
+
+  -- ---- the store's texts
+  abbrev records : ℕ
+  records = length store / 64 - 1
+
+  store-long : length store ≡ size
+  unfolding storeWith
+  store-long = zeroed-length size (recordsOf ([] ∷ r .texts))
+
+  met-some : (j : ℕ) → j < length (r .texts) → (1 ≤ length (getD (r .texts) j [])) × (length (getD (r .texts) j []) ≤ textLimit)
+  met-some j l =
+      ⊎-elim
+      (λ (m : j < 3). by j m)
+      (λ (m : 3 ≤ j). let f = sound .texts .in-form j m l in (text-some (getD (r .texts) j []) f, text-short (getD (r .texts) j []) f))
+      (lt-or-ge j 3)
+    where
+      by : (k : ℕ) → k < 3 → (1 ≤ length (getD (r .texts) k [])) × (length (getD (r .texts) k []) ≤ textLimit)
+      by zero m = rw unknown-met (omega arith)
+      by (suc zero) m = rw start-met (omega arith)
+      by (suc (suc zero)) m = rw end-met (omega arith)
+      by (suc (suc (suc k))) m = absurd (omega arith)
+
+  record-fits : (j : ℕ) → j < length (r .texts) → 64 * suc j + 64 ≤ size
+  record-fits j l =
+      let f = met-some j l .0 in
+      let g = sound .records j l (λ z. let e : length (getD (r .texts) j []) ≡ 0 = ap length z in absurd (omega arith)) in
+      omega arith
+
+  text-there : (j : ℕ) → j < length (r .texts) → textOf store (1 + j) ≡ getD (r .texts) j []
+  unfolding storeWith
+  text-there j l =
+      let e : 1 + j ≡ suc j = omega arith in
+      rw e (record-text-there size ([] ∷ r .texts) (suc j) (record-fits j l) (omega arith) (met-some j l .1))
+
+  all-fit : length (r .texts) ≤ records
+  all-fit =
+      let e = store-long in
+      let long = sound .texts .long in
+      let f = record-fits (length (r .texts) - 1) (omega arith) in
+      omega arith
+
+  stored-texts : textsFrom store 1 records ≡ r .texts ++ textsFrom store (1 + length (r .texts)) (records - length (r .texts))
+  stored-texts =
+      let f = all-fit in
+      let e : records ≡ length (r .texts) + (records - length (r .texts)) = omega arith in
+      ap (textsFrom store 1) e
+      ∙ texts-split store 1 (length (r .texts)) (records - length (r .texts))
+      ∙ ap (λ (us : List (List ℕ)). us ++ textsFrom store (1 + length (r .texts)) (records - length (r .texts))) (texts-are store 1 (r .texts) text-there)
+
+  stored-number : (u : List ℕ) → isText u ≡ true → Known (r .texts) u → numberStored store u ≡ numberIn news u
+  unfolding numberStored numberMet
+  stored-number u f k =
+      ⊎-elim
+      (λ w. absurd (w .1 (k .0) (k .1) (k .2)))
+      (λ w.
+      ap (λ (us : List (List ℕ)). givenBy (searchFrom u 1 us) 0) stored-texts
+      ∙ ap (λ (x : Found). givenBy x 0) (search-more u 1 (1 + w .0) (r .texts) (textsFrom store (1 + length (r .texts)) (records - length (r .texts))) (w .1 .found) ∙ sym (w .1 .found)))
+      (search-told u 1 (r .texts))
+      ∙ known-is-number (r .texts) (sound .texts) u f k
+      ∙ ap (λ (ns : List (List ℕ)). numberIn ns u) (brings .news)
+
+  -- the text of the word that a number is
+  stored-text : (u : List ℕ) → 0 < numberStored store u → getD (textsFrom store 1 records) (numberStored store u - 1) [] ≡ u
+  unfolding numberStored numberMet
+  stored-text u l =
+      ⊎-elim
+      (λ w. absurd (let f : givenBy (searchFrom u 1 (textsFrom store 1 records)) 0 ≡ 0 = ap (λ (x : Found). givenBy x 0) (w .0) in omega arith))
+      (λ w.
+      let f : givenBy (searchFrom u 1 (textsFrom store 1 records)) 0 ≡ 1 + w .0 = ap (λ (x : Found). givenBy x 0) (w .1 .found) in
+      let g : givenBy (searchFrom u 1 (textsFrom store 1 records)) 0 - 1 ≡ w .0 = omega arith in
+      ap (λ (j : ℕ). getD (textsFrom store 1 records) j []) g ∙ w .1 .same)
+      (search-told u 1 (textsFrom store 1 records))
+
+  same-text : (u v : List ℕ) → 0 < numberStored store u → 0 < numberStored store v → (numberStored store u ≡ numberStored store v) ↔ (u ≡ v)
+  same-text u v l m =
+      (λ e. sym (stored-text u l) ∙ ap (λ (n : ℕ). getD (textsFrom store 1 records) (n - 1) []) e ∙ stored-text v m, λ e. ap (numberStored store) e)
+
+  -- ---- the numbers
+  reserved-stored : (k : ℕ) (spelling : List ℕ) → k < 3 → reservedNumber spelling ≡ suc k → isText spelling ≡ true → getD (r .texts) k [] ≡ spelling → numberStored store spelling ≡ suc k
+  unfolding numberIn
+  reserved-stored k spelling small e f met =
+      let long = sound .texts .long in
+      stored-number spelling f (k, omega arith, met) ∙ rw e refl
+
+  new-place : (i : ℕ) → i < length news → (3 + i < length (r .texts)) × (getD (r .texts) (3 + i) [] ≡ getD news i [])
+  new-place i l =
+      let e = ap length (brings .news) in
+      let f = length-drop 3 (r .texts) in
+      (omega arith, sym (getD-drop 3 (r .texts) i []) ∙ ap (λ (us : List (List ℕ)). getD us i []) (brings .news))
+
+  new-same : (i j : ℕ) → i < length news → j < length news → getD news j [] ≡ getD news i [] → i ≡ j
+  new-same i j l m e =
+      let p = new-place i l in
+      let q = new-place j m in
+      let a = p .0 in
+      let b = q .0 in
+      ⊎-elim
+      (λ (x : i < j). absurd (sound .texts .distinct (3 + i) (3 + j) (omega arith) (omega arith) (q .0) (p .1 ∙ sym e ∙ sym (q .1))))
+      (λ (x : j ≤ i).
+      ⊎-elim
+      (λ (y : j < i). absurd (sound .texts .distinct (3 + j) (3 + i) (omega arith) (omega arith) (p .0) (q .1 ∙ e ∙ sym (p .1))))
+      (λ (y : i ≤ j). omega arith)
+      (lt-or-ge j i))
+      (lt-or-ge i j)
+
+  new-stored : (i : ℕ) → i < length news → numberStored store (getD news i []) ≡ 4 + i
+  unfolding numberIn
+  new-stored i l =
+      let p = new-place i l in
+      let e : reservedNumber (getD news i []) ≡ 0 = ap reservedNumber (sym (p .1)) ∙ sound .texts .other (3 + i) (omega arith) (p .0) in
+      let f : isText (getD news i []) ≡ true = ap isText (sym (p .1)) ∙ sound .texts .in-form (3 + i) (omega arith) (p .0) in
+      stored-number (getD news i []) f (3 + i, p .0, p .1)
+      ∙ rw e
+      (⊎-elim
+      (λ w. absurd (w .1 i l refl))
+      (λ w. ap (λ (x : Found). givenBy x 0) (w .1 .found) ∙ ap (λ (j : ℕ). 4 + j) (sym (new-same i (w .0) l (w .1 .inside) (w .1 .same))))
+      (search-told (getD news i []) 4 news))
+
+  -- ---- the rows by the store's numbers
+  row-numbers : (line : List ℕ) → List·Memᴰ line lines → lineRow number line ≡ lineRow (numberStored store) line
+  row-numbers line m =
+      row-same-numbers number (numberStored store) line
+      (λ u n. sym (stored-number u (brings .in-form line m u n) (brings .known line m u n) ∙ ap (λ (ns : List (List ℕ)). numberIn ns u) (sym (brings .news))))
+
+  listed-table : table ≡ padded (length table) (joined (sortBy rowBefore (map (lineRow (numberStored store)) lines)))
+  listed-table =
+      ap₂ padded (sym (length-padded room (ordered r)))
+      (ordered-is ∙ ap (λ (rows : List (List ℤ)). joined (sortBy rowBefore rows)) (brings .rows ∙ map-equal (lineRow number) (lineRow (numberStored store)) lines row-numbers))
+
+  known-stored : (line : List ℕ) → List·Memᴰ line lines → (u : List ℕ) → List·Memᴰ u (lineTexts line) → 0 < numberStored store u
+  known-stored line m u n =
+      let f = brings .in-form line m u n in
+      let k = brings .known line m u n in
+      let l = known-number (r .texts) (sound .texts) u f k in
+      let e = stored-number u f k ∙ ap (λ (ns : List (List ℕ)). numberIn ns u) (sym (brings .news)) in
+      omega arith
+
+-- ---- what every answer means
+module _ (room size : ℕ) (text : List ℕ) where
+  accepted-means : (r : Reading) → Sound room size r → Brings begun r (rowLines (parts 10 text)) → verdict (ordered r) ≡ Accepted
+      → ReadsTheLines text (length (r .rows)) (padded room (ordered r)) (storeWith size (r .texts)) × AcceptedModel (modelOf (take (8 * length (r .rows)) (padded room (ordered r))))
+  unfolding reservedNumber sameWords isText allAbove
+  accepted-means r sound brings accepted =
+      let lines = rowLines (parts 10 text) in
+      let front = table-front room size r sound lines brings accepted in
+      let listed : verdict (take (8 * length (r .rows)) (padded room (ordered r))) ≡ Accepted = ap verdict front ∙ accepted in (
+        record {
+          in-form = brings .said;
+          count = row-count room size r sound lines brings accepted;
+          listed = listed-table room size r sound lines brings accepted;
+          stored = ap₂ storeWith (sym (store-long room size r sound lines brings accepted)) (texts-met room size r sound lines brings accepted);
+          unknown = reserved-stored room size r sound lines brings accepted 0 unknownText (lit< tt) refl refl (unknown-met room size r sound lines brings accepted);
+          start = reserved-stored room size r sound lines brings accepted 1 startText (lit< tt) refl refl (start-met room size r sound lines brings accepted);
+          end = reserved-stored room size r sound lines brings accepted 2 endText (lit< tt) refl refl (end-met room size r sound lines brings accepted);
+          others = new-stored room size r sound lines brings accepted;
+          same = same-text room size r sound lines brings accepted;
+          known = known-stored room size r sound lines brings accepted;
+          accepted = listed;
+        },
+        accepted-model (take (8 * length (r .rows)) (padded room (ordered r))) listed,
+      )
+
+  judged-means : (r : Reading) → Sound room size r → Brings begun r (rowLines (parts 10 text)) → (v : Verdict) → verdict (ordered r) ≡ v
+      → ReadMeans text (numberOf (judged room size r v .answer)) (rowCount (judged room size r v .answer)) (judged room size r v .table) (judged room size r v .store)
+  unfolding refusedOutcome
+  judged-means r sound brings Accepted e =
+      let m = accepted-means r sound brings e in
+      record { lines = λ z. m .0; model = λ z. m .1 }
+  judged-means r sound brings (Refused number place) e =
+      let never : number ≡ 0 → ⊥ = λ z. accepted-refused _ _ (sym e ∙ number-accepted (ordered r) (ap verdictNumber e ∙ z)) in
+      record { lines = λ z. absurd (never z); model = λ z. absurd (never z) }
+
+  lines-mean : (l : Lines) → LinesBring room size begun (parts 10 text) l → LinesNumbered l
+      → ReadMeans text (numberOf (linesOutcome room size l .answer)) (rowCount (linesOutcome room size l .answer)) (linesOutcome room size l .table) (linesOutcome room size l .store)
+  unfolding refusedOutcome
+  lines-mean (done r) w n = judged-means r (w .0) (w .1) (verdict (ordered r)) refl
+  lines-mean (stopped number place) w n = record { lines = λ z. absurd (omega arith); model = λ z. absurd (omega arith) }
+
+  outcome-means : ReadMeans text (numberOf (readArpa room size text .answer)) (rowCount (readArpa room size text .answer)) (readArpa room size text .table) (readArpa room size text .store)
+  unfolding readArpa
+  outcome-means = lines-mean (readLines room size begun 1 (parts 10 text)) (lines-read room size begun 1 (parts 10 text) (begun-sound room size)) (lines-numbered room size begun 1 (parts 10 text))
+
+  -- whatever a call leaves
+  pub read-means : (answer : Rows) (table : List ℤ) (store : List ℕ) → Leaves (readArpa room size text) answer table store → ReadMeans text (numberOf answer) (rowCount answer) table store
+  read-means answer table store x = rw (x .answer-is, x .table-is, x .store-is) outcome-means
+
+  pub reads-the-lines : (rows : ℕ) (table : List ℤ) (store : List ℕ) → Leaves (readArpa room size text) (Read rows) table store → ReadsTheLines text rows table store
+  reads-the-lines rows table store x = read-means (Read rows) table store x .lines refl

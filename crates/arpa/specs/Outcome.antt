@@ -1,0 +1,61 @@
+-- What the reading of an ARPA text answers, and the lent table and store at exit. Assumes nothing.
+use mathlib.Core.Path.{_≡_}
+use mathlib.Core.List.{List}
+use Prim.Native.Nat.{ℕ}
+use lib.IntN.{ℤ, pos}
+use lib.ListN.{length, replicate}
+use Rattle.backoff.specs.NineNumbers.{padded}
+use Rattle.backoff.specs.declared.Verdict.{Verdict}
+use Rattle.backoff.specs.declared.Verdict.the-variants.{Accepted, Refused}
+use Rattle.list.specs.Check.{verdict}
+use Rattle.row_order.specs.RowOrder.{joined, listOrder}
+use Rattle.arpa_text.specs.Parts.{parts}
+use Rattle.arpa.specs.Words.{storeWith}
+use Rattle.arpa.specs.Reading.{Reading, begun, Lines, done, stopped, readLines}
+use Rattle.arpa.specs.declared.Rows.{Rows}
+use Rattle.arpa.specs.declared.Rows.the-variants.{Read, Refused as NotRead}
+
+-- an answer's number, place and row count: 0 and 0 where nothing is refused, 0 rows where something is
+abbrev pub numberOf : Rows → ℕ
+numberOf (Read rows) = 0
+numberOf (NotRead number place) = number
+
+abbrev pub placeOf : Rows → ℕ
+placeOf (Read rows) = 0
+placeOf (NotRead number place) = place
+
+abbrev pub rowCount : Rows → ℕ
+rowCount (Read rows) = rows
+rowCount (NotRead number place) = 0
+
+pub record Outcome : Type 0 where
+  pub answer : Rows
+  pub table : List ℤ
+  pub store : List ℕ
+
+-- "Any refusal leaves table and store 0."
+unfoldable pub refusedOutcome : ℕ → ℕ → ℕ → ℕ → Outcome
+refusedOutcome room size number place = record { answer = NotRead number place; table = replicate room (pos 0); store = replicate size 0 }
+
+-- "ARPA rows come in any order; the result is the same rows in list order, those of equal words as they came."
+unfoldable pub ordered : Reading → List ℤ
+ordered r = listOrder (joined (r .rows))
+
+-- "The list checks then apply to it, and the row count is returned."
+abbrev pub judged : ℕ → ℕ → Reading → Verdict → Outcome
+judged room size r Accepted = record { answer = Read (length (r .rows)); table = padded room (ordered r); store = storeWith size (r .texts) }
+judged room size r (Refused number place) = refusedOutcome room size number place
+
+abbrev pub linesOutcome : ℕ → ℕ → Lines → Outcome
+linesOutcome room size (done r) = judged room size r (verdict (ordered r))
+linesOutcome room size (stopped number place) = refusedOutcome room size number place
+
+-- the whole text, a lent table of `room` numbers and a lent store of `size` bytes
+unfoldable pub readArpa : ℕ → ℕ → List ℕ → Outcome
+readArpa room size text = linesOutcome room size (readLines room size begun 1 (parts 10 text))
+
+-- what a call leaves
+pub record Leaves (o : Outcome) (answer : Rows) (table : List ℤ) (store : List ℕ) : Type 0 where
+  pub answer-is : answer ≡ o .answer
+  pub table-is : table ≡ o .table
+  pub store-is : store ≡ o .store

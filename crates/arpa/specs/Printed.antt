@@ -1,0 +1,92 @@
+-- An ARPA text printed from an accepted list and its words' texts, as `printed-reads-back` reads it again. Assumes nothing.
+use mathlib.Core.Path.{_≡_}
+use mathlib.Core.Bool.{true, cond}
+use mathlib.Core.List.{List, [], _∷_, _++_, map}
+use Prim.Native.Nat.{ℕ, zero, suc, _+_, _*_, _-_, _/_, _%_, _<_, _≤_}
+use lib.Dec.{eqb}
+use lib.IntN.{ℤ, pos, negsuc}
+use lib.ListN.{length, getD}
+use Rattle.backoff.specs.NineNumbers.{padded}
+use Rattle.backoff.specs.declared.Verdict.the-variants.{Accepted}
+use Rattle.list.specs.Table.{rowsOf, lengthOf, orderOf, words, probabilityAt, backoffAt}
+use Rattle.list.specs.Check.{verdict}
+use Rattle.totals_text.specs.Columns.{digits}
+use Rattle.arpa_text.specs.Lines.{dataLine, sectionLine, endLine, countHead, isText}
+use Rattle.arpa.specs.Words.{unknownText, startText, endText, storeWith}
+use Rattle.arpa.specs.Outcome.{readArpa}
+use Rattle.arpa.specs.declared.Rows.the-variants.{Read}
+
+-- the lines one after the other, each with its LF
+unfoldable pub withEnds : List (List ℕ) → List ℕ
+withEnds [] = []
+withEnds (line ∷ lines) = line ++ (10 ∷ withEnds lines)
+
+-- ---- a line
+
+-- the last four decimal digits
+unfoldable pub fourDigits : ℕ → List ℕ
+fourDigits n = (48 + n / 1000 % 10) ∷ (48 + n / 100 % 10) ∷ (48 + n / 10 % 10) ∷ (48 + n % 10) ∷ []
+
+-- so many points, 1/10,000 each, with four decimals
+unfoldable pub printSize : ℕ → List ℕ
+printSize n = digits (n / 10000) ++ (46 ∷ fourDigits n)
+
+unfoldable pub printLog : ℤ → List ℕ
+printLog (pos n) = printSize n
+printLog (negsuc n) = 45 ∷ printSize (suc n)
+
+unfoldable pub spaced : List (List ℕ) → List ℕ
+spaced [] = []
+spaced (text ∷ []) = text
+spaced (text ∷ next ∷ texts) = text ++ (32 ∷ spaced (next ∷ texts))
+
+unfoldable pub printRow : ℤ → List (List ℕ) → ℤ → List ℕ
+printRow p texts b = printLog p ++ (9 ∷ (spaced texts ++ (9 ∷ printLog b)))
+
+unfoldable pub printCount : ℕ → ℕ → List ℕ
+printCount m count = countHead m ++ (61 ∷ digits count)
+
+-- ---- the text
+
+-- the rows of length m among the k rows from row i on
+unfoldable pub rowsWith : ℕ → List ℤ → ℕ → ℕ → List ℕ
+rowsWith m t i zero = []
+rowsWith m t i (suc k) = cond (eqb (lengthOf t i) m) (i ∷ rowsWith m t (suc i) k) (rowsWith m t (suc i) k)
+
+-- the text of word w
+abbrev pub wordText : List (List ℕ) → ℕ → List ℕ
+wordText texts w = getD texts (w - 1) []
+
+module _ (texts : List (List ℕ)) (t : List ℤ) where
+  abbrev pub rowLine : ℕ → List ℕ
+  rowLine i = printRow (probabilityAt t i) (map (wordText texts) (words t i)) (backoffAt t i)
+
+  -- for the k lengths from m on
+  unfoldable pub countLines : ℕ → ℕ → List (List ℕ)
+  countLines m zero = []
+  countLines m (suc k) = printCount m (length (rowsWith m t 0 (rowsOf t))) ∷ countLines (suc m) k
+
+  unfoldable pub sectionLines : ℕ → ℕ → List (List ℕ)
+  sectionLines m zero = []
+  sectionLines m (suc k) = (sectionLine m ∷ map rowLine (rowsWith m t 0 (rowsOf t))) ++ sectionLines (suc m) k
+
+  unfoldable pub printed : List ℕ
+  printed = withEnds (dataLine ∷ (countLines 1 (orderOf t) ++ (sectionLines 1 (orderOf t) ++ (endLine ∷ []))))
+
+  -- an accepted list whose one-word rows are the words 1 to V, with distinct texts for them in which 1, 2, 3 have theirs, and buffers that hold it
+  pub record Printable (room size : ℕ) : Type 0 where
+    pub accepted : verdict t ≡ Accepted
+    pub fewer : length texts ≤ rowsOf t
+    pub ones : (i : ℕ) → i < length texts → words t i ≡ suc i ∷ []
+    pub longer : (i : ℕ) → length texts ≤ i → i < rowsOf t → 2 ≤ lengthOf t i
+    pub in-form : (i : ℕ) → i < length texts → isText (getD texts i []) ≡ true
+    pub distinct : (i j : ℕ) → i < j → j < length texts → getD texts i [] ≡ getD texts j [] → ⊥
+    pub unknown : getD texts 0 [] ≡ unknownText
+    pub start : getD texts 1 [] ≡ startText
+    pub end : getD texts 2 [] ≡ endText
+    pub table-room : length t ≤ room
+    pub store-room : 64 * suc (length texts) ≤ size
+
+  -- the printed text reads as that list and those texts
+  pub record ReadsBack (room size : ℕ) : Type 0 where
+    pub reads : readArpa room size printed ≡ record { answer = Read (rowsOf t); table = padded room t; store = storeWith size texts }

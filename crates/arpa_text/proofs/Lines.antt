@@ -1,0 +1,165 @@
+-- Laws of the forms of a line. Assumes nothing.
+use mathlib.Core.Path.{_≡_, refl, sym}
+use mathlib.Core.Logic.{⊎-elim}
+use mathlib.Core.Bool.{Bool, true, false, cond}
+use mathlib.Core.List.{List, [], _∷_}
+use mathlib.Core.Option.{none}
+use Prim.Native.Nat.{ℕ, zero, suc, _+_, _≤_, _<_}
+use native.Mathlib.Omega.{arith}
+use native.Mathlib.Numerals.{add-one}
+use lib.Dec.{eqb}
+use lib.ListN.{length, getD, take, drop, drop-of-length-le}
+use lib.Seq.{drop-cons}
+use borrow.Author.Tests.{eq-eqb, ne-eqb, eqb-true, le-leb, lt-leb}
+use Rattle.integer.proofs.Ranges.{lt-or-ge}
+use Rattle.backoff.specs.Limits.{textLimit}
+use Rattle.arpa_text.specs.declared.Points.{Points}
+use Rattle.arpa_text.specs.declared.Points.the-variants.{Of, NotInForm}
+use Rattle.arpa_text.specs.declared.Count.{Count}
+use Rattle.arpa_text.specs.declared.Count.the-variants.{NotInForm as NoCount}
+use Rattle.arpa_text.specs.Parts.{parts, before}
+use Rattle.arpa_text.specs.Logs.{digitsUpTo, readPoints}
+use Rattle.arpa_text.specs.Lines.{isCountHead, withoutSpace, countIn, countBetween, allAbove, isText, areTexts, listedWith, listedIn}
+use Rattle.arpa_text.specs.Held.{backoffBehind}
+use Rattle.arpa_text.proofs.Parts.{parts-one, parts-more, lacks-or-has, before-other, parts-end, parts-front}
+use Rattle.arpa_text.proofs.Logs.{all-digits, digits-lack, points-lack}
+
+-- ---- texts
+
+module _ (text : List ℕ) (i : ℕ) where
+  pub low-byte : i < length text → getD text i 0 ≤ 32 → allAbove (drop i text) ≡ false
+  unfolding allAbove
+  low-byte h l = rw (drop-cons text i 0 h, lt-leb 33 (getD text i 0) (omega arith)) refl
+
+  pub high-byte : i < length text → 32 < getD text i 0 → allAbove (drop i text) ≡ allAbove (drop (i + 1) text)
+  unfolding allAbove
+  high-byte h l = rw (drop-cons text i 0 h, le-leb 33 (getD text i 0) (omega arith), add-one i) refl
+
+  pub above-end : length text ≤ i → allAbove (drop i text) ≡ true
+  unfolding allAbove
+  above-end h = rw (drop-of-length-le text h) refl
+
+module _ (text : List ℕ) where
+  pub empty-text : length text ≡ 0 → isText text ≡ false
+  unfolding isText
+  empty-text h = rw (lt-leb 1 (length text) (omega arith)) refl
+
+  pub long-text : (length text ≡ 0 → ⊥) → textLimit < length text → isText text ≡ false
+  unfolding isText
+  long-text n h = rw (le-leb 1 (length text) (omega arith), lt-leb (length text) textLimit h) refl
+
+  pub text-within : (length text ≡ 0 → ⊥) → length text ≤ textLimit → isText text ≡ allAbove text
+  unfolding isText
+  text-within n h = rw (le-leb 1 (length text) (omega arith), le-leb (length text) textLimit h) refl
+
+-- there is always a part more
+pub no-texts : (text : List ℕ) → areTexts 0 (parts 32 text) ≡ false
+unfolding areTexts
+no-texts text =
+    ⊎-elim (λ h. rw (parts-one 32 text h) refl) (λ h. rw (parts-more 32 text h) refl) (lacks-or-has 32 text)
+
+module _ (left : ℕ) (text : List ℕ) (place : ℕ) (e : place ≡ before 32 text) where
+  pub last-text : place ≡ length text → isText (take place text) ≡ true → areTexts (suc left) (parts 32 text) ≡ eqb left 0
+  unfolding areTexts
+  last-text h f = rw (parts-end 32 text place e h, f) (none-left left)
+    where
+      none-left : (n : ℕ) → areTexts n [] ≡ eqb n 0
+      none-left zero = refl
+      none-left (suc n) = sym (ne-eqb (suc n) 0 (λ z. omega arith))
+
+  pub next-text : place < length text → isText (take place text) ≡ true → areTexts (suc left) (parts 32 text) ≡ areTexts left (parts 32 (drop (place + 1) text))
+  unfolding areTexts
+  next-text h f = rw (parts-front 32 text place e h, f) refl
+
+  pub no-text : place ≤ length text → isText (take place text) ≡ false → areTexts (suc left) (parts 32 text) ≡ false
+  unfolding areTexts
+  no-text h f =
+      ⊎-elim
+      (λ l. rw (parts-front 32 text place e l, f) refl)
+      (λ l. rw (parts-end 32 text place e (omega arith), f) refl)
+      (lt-or-ge place (length text))
+
+-- ---- a row
+
+pub no-backoff : (m : ℕ) (p : Points) (texts : List (List ℕ)) → listedWith m p texts NotInForm ≡ none
+no-backoff m (Of p) texts = refl
+no-backoff m NotInForm texts = refl
+
+-- more than three fields make no row
+two-logs : (m : ℕ) (p words rest : List ℕ) → listedIn m (p ∷ words ∷ parts 9 rest) ≡ listedWith m (readPoints p) (parts 32 words) (readPoints rest)
+unfolding listedIn
+two-logs m p words rest =
+    ⊎-elim
+    (λ h. rw (parts-one 9 rest h) refl)
+    (λ h. rw (points-lack rest h, no-backoff, parts-more 9 rest h) (more (take (before 9 rest) rest) (drop (before 9 rest + 1) rest)))
+    (lacks-or-has 9 rest)
+  where
+    more : (b behind : List ℕ) → listedIn m (p ∷ words ∷ b ∷ parts 9 behind) ≡ none
+    more b behind =
+        ⊎-elim (λ h. rw (parts-one 9 behind h) refl) (λ h. rw (parts-more 9 behind h) refl) (lacks-or-has 9 behind)
+
+-- a line behind its first tab: the words, and what stands behind them
+pub row-fields : (m : ℕ) (p rest : List ℕ) (place : ℕ) → place ≡ before 9 rest → place ≤ length rest
+    → listedIn m (p ∷ parts 9 rest) ≡ listedWith m (readPoints p) (parts 32 (take place rest)) (backoffBehind (drop place rest))
+unfolding listedIn backoffBehind
+row-fields m p rest place e l =
+    ⊎-elim
+    (λ h. rw (parts-front 9 rest place e h, drop-cons rest place 0 h, ← add-one place) (two-logs m p (take place rest) (drop (place + 1) rest)))
+    (λ h. rw (parts-end 9 rest place e (omega arith), drop-of-length-le rest h) refl)
+    (lt-or-ge place (length rest))
+
+pub no-row : (m : ℕ) (line : List ℕ) → before 9 line ≡ length line → listedIn m (parts 9 line) ≡ none
+unfolding listedIn
+no-row m line h = rw (parts-one 9 line h) refl
+
+-- ---- a count
+
+without-space-lack : (text : List ℕ) → digitsUpTo 9 (withoutSpace text) ≡ true → before 61 text ≡ length text
+unfolding withoutSpace
+without-space-lack [] e = digits-lack 61 [] (λ d l h f. omega arith) (all-digits 9 [] e)
+without-space-lack (c ∷ text) e = go (eqb c 32) refl
+  where
+    go : (t : Bool) → eqb c 32 ≡ t → before 61 (c ∷ text) ≡ length (c ∷ text)
+    go true f =
+        let y = eqb-true c 32 f in
+        before-other 61 c text (λ n. omega arith) (digits-lack 61 text (λ d l h g. omega arith) (all-digits 9 text (rw f at e)))
+    go false f = digits-lack 61 (c ∷ text) (λ d l h g. omega arith) (all-digits 9 (c ∷ text) (rw f at e))
+
+count-lack : (text : List ℕ) → before 61 text < length text → countIn (withoutSpace text) ≡ NoCount
+unfolding countIn
+count-lack text h = go (digitsUpTo 9 (withoutSpace text)) refl
+  where
+    go : (t : Bool) → digitsUpTo 9 (withoutSpace text) ≡ t → countIn (withoutSpace text) ≡ NoCount
+    go true e = let l = without-space-lack text e in absurd (omega arith)
+    go false e = rw e refl
+
+same-cond : (t : Bool) (r : Count) → cond t r r ≡ r
+same-cond true r = refl
+same-cond false r = refl
+
+-- a second `=` makes no count
+pub count-fields : (m : ℕ) (head rest : List ℕ) → countBetween m (head ∷ parts 61 rest) ≡ cond (isCountHead m head) (countIn (withoutSpace rest)) NoCount
+count-fields m head rest =
+    ⊎-elim
+    (λ h. rw (parts-one 61 rest h) refl)
+    (λ h. rw (count-lack rest h, same-cond (isCountHead m head) NoCount, parts-more 61 rest h) (more (take (before 61 rest) rest) (drop (before 61 rest + 1) rest)))
+    (lacks-or-has 61 rest)
+  where
+    more : (count behind : List ℕ) → countBetween m (head ∷ count ∷ parts 61 behind) ≡ NoCount
+    more count behind =
+        ⊎-elim (λ h. rw (parts-one 61 behind h) refl) (λ h. rw (parts-more 61 behind h) refl) (lacks-or-has 61 behind)
+
+pub space-none : (text : List ℕ) → length text ≡ 0 → withoutSpace text ≡ text
+unfolding withoutSpace
+space-none [] h = refl
+space-none (c ∷ text) h = absurd (omega arith)
+
+pub space-first : (text : List ℕ) → (length text ≡ 0 → ⊥) → getD text 0 0 ≡ 32 → withoutSpace text ≡ drop 1 text
+unfolding withoutSpace
+space-first [] n e = absurd (n refl)
+space-first (c ∷ text) n e = rw (eq-eqb c 32 e) refl
+
+pub space-absent : (text : List ℕ) → (length text ≡ 0 → ⊥) → (getD text 0 0 ≡ 32 → ⊥) → withoutSpace text ≡ text
+unfolding withoutSpace
+space-absent [] n e = absurd (n refl)
+space-absent (c ∷ text) n e = rw (ne-eqb c 32 e) refl

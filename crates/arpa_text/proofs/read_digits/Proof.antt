@@ -1,0 +1,31 @@
+-- `arpa_text::read_digits` meets its contract. Assumes nothing.
+use mathlib.Core.Path.{_≡_, refl, sym, ap, _∙_}
+use mathlib.Core.Bool.{true}
+use borrow.Author.Tests.{not-true, not-false}
+use Rattle.arpa_text.specs.declared.Count.the-variants.{Announced}
+use Rattle.arpa_text.specs.Logs.{digitsUpTo}
+use Rattle.arpa_text.specs.Lines.{countIn}
+use Rattle.arpa_text.proofs.Logs.{at-most, all-digits}
+use borrow.Author.Needs.{needs}
+use Rattle.arpa_text.proofs.read_digits.Statement.{statement}
+use Rattle.arpa_text.proofs.read_digits.Tie as tie
+
+digits-up-to-requires : tie.Need-digits-up-to-requires
+digits-up-to-requires c κs = search needs
+
+returns : tie.Need-returns
+unfolding countIn
+returns c = rw (sym (c .before .digits-up-to .ensures) ∙ not-true _ (c .if1 .taken)) refl
+
+in-form : (c : tie.Else1) → digitsUpTo 9 (c .before .before .before .args .text .now) ≡ true
+in-form c = sym (c .before .digits-up-to .ensures) ∙ not-false _ (c .if1 .left)
+
+value-requires : tie.Need-value-requires
+value-requires c κs = (all-digits 9 _ (in-form c), at-most 9 _ (in-form c))
+
+returns-2 : tie.Need-returns-2
+unfolding countIn
+returns-2 c = rw (in-form (c .before)) (ap Announced (c .value .ensures .0))
+
+pub read-digits-spec : {M : Type 1} → statement M
+read-digits-spec = tie.close (tie.spec digits-up-to-requires returns value-requires returns-2)
