@@ -19,7 +19,7 @@ use Rattle.backoff.specs.Limits.{largestBackoff, orderLimit, rowLimit, slotLimi
 use Rattle.backoff.specs.Words.{isWord}
 use Rattle.backoff.specs.Model.{inProbability, inBackoff}
 use Rattle.backoff.specs.Store.{broken, here, Store}
-use Rattle.double_array.specs.DoubleArray.{freeCheck, headCheck, markerCheck, markerBase, markerOf, childSlot, baseAt, checkAt, markerAt, childAt, downTo, lookFrom, sizesOk, orderOk, headOk, isArray, orderIn, lookRow, storeIn, opened}
+use Rattle.double_array.specs.DoubleArray.{freeCheck, headCheck, markerCheck, markerBase, markerOf, childSlot, baseAt, checkAt, markerAt, childAt, rootChild, downTo, lookFrom, sizesOk, orderOk, headOk, isArray, orderIn, lookRow, storeIn, opened}
 use Rattle.double_array.specs.declared.Marker.{Marker}
 use Rattle.double_array.specs.declared.Marker.the-variants.{Sound, Broken}
 use Rattle.double_array.specs.declared.Child.the-variants.{At, Nothing}
@@ -240,6 +240,11 @@ module _ (base check : List ℤ) (h : isArray base check ≡ true) where
       let u = between-high (pos 3) (pos rowLimit) rows (opened-head .rows) in
       let b = between-yes (negℤ (pos largestBackoff)) (pos largestBackoff) (half (half rows)) (omega (zarith, shr 2 rows tt, shr 2 (half rows) tt)) (omega (zarith, shr 2 rows tt, shr 2 (half rows) tt)) in
       rw (opened-head .root-base, inside, opened-head .root-check) (marker-sound (negsuc 0) rows (and-both _ _ refl b))
+
+  -- BASE[0] is 1
+  pub root-child : (w : ℕ) → rootChild check w ≡ childAt base check 0 w
+  unfolding childAt
+  root-child w = rw (opened-head .root-base)
 
   pub opened-some : opened base check ≡ some (storeIn base check)
   unfolding opened

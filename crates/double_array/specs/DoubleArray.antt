@@ -65,6 +65,10 @@ module _ (base check : List ℤ) where
       (At (childSlot (natAbs (baseAt s)) w))
       Nothing
 
+-- the root's child for w, where BASE[0] is 1
+abbrev pub rootChild : List ℤ → ℕ → Child
+rootChild check w = cond (isWord w && (ltb (childSlot 1 w) (length check) && eqZ (getD check (childSlot 1 w) freeCheck) (pos 0))) (At (childSlot 1 w)) Nothing
+
 abbrev pub lookMarker : Marker → Look
 lookMarker (Sound p b e f) = here (record { p = p; b = b; e = e; f = f })
 lookMarker Broken = broken

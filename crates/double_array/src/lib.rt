@@ -6,7 +6,7 @@ ghost use Prim.Native.Nat.{ℕ, _≤_, _<_};
 ghost use lib.ListN.{length, replicate};
 ghost use Rattle.backoff.specs.Limits.{orderLimit, slotLimit};
 ghost use Rattle.backoff.specs.Model.{inProbability, inBackoff};
-ghost use Rattle.double_array.specs.DoubleArray.{headCheck, markerCheck, markerBase, markerOf, markerAt, childAt, lookFrom, sizesOk, orderOk, headOk, isArray, orderIn};
+ghost use Rattle.double_array.specs.DoubleArray.{headCheck, markerCheck, markerBase, markerOf, markerAt, childAt, rootChild, lookFrom, sizesOk, orderOk, headOk, isArray, orderIn};
 ghost use Rattle.double_array.specs.Lookup.{lookupOf, lookupOutcome, numberOf, placeOf, foundOf, pOf, bOf, leftOf, LookupMeans};
 
 // CHECK of a free slot; its BASE is 0.
@@ -18,6 +18,9 @@ const HEAD_OFFSET: i32 = 8;
 const LEAST_HEAD: i32 = 1 + HEAD_OFFSET;
 
 const LARGEST_HEAD: i32 = backoff::ORDER_LIMIT + HEAD_OFFSET;
+
+// CHECK of a marker whose p is in range is negative and at least this.
+const LEAST_CHECK: i32 = backoff::LEAST_PROBABILITY - 1;
 
 // BASE of a marker whose b is in range lies between these.
 const LEAST_BASE: i32 = 4 * backoff::LEAST_BACKOFF;
@@ -72,20 +75,21 @@ pub fn marker_base(b: i32, e: bool, f: bool) -> i32
 fn marker_of(check: i32, base: i32) -> Marker
     ensures { λ r. ⌜ r ≡ markerOf check base ⌝ }
 {
-    if 0 <= check {
+    let inside = (LEAST_CHECK <= check)
+        & (check < 0)
+        & (LEAST_BASE <= base)
+        & (base <= LARGEST_BASE);
+    if !inside {
         return Marker::Broken;
     }
     let p = check + 1;
     let upper = base >> 1;
-    if (backoff::LEAST_PROBABILITY <= p) & (LEAST_BASE <= base) & (base <= LARGEST_BASE) {
-        return Marker::Sound {
-            p,
-            b: upper >> 1,
-            e: upper & 1 == 1,
-            f: base & 1 == 1,
-        };
+    Marker::Sound {
+        p,
+        b: upper >> 1,
+        e: upper & 1 == 1,
+        f: base & 1 == 1,
     }
-    Marker::Broken
 }
 
 // The marker of the node in slot s.
@@ -118,6 +122,20 @@ pub fn find_child(base: &[i32], check: &[i32], s: usize, w: u32) -> Child
     }
     let t = d as usize + w as usize;
     if t < check.len() && check[t] == s as i32 {
+        return Child::At(t);
+    }
+    Child::Nothing
+}
+
+// The root's child for word w, without a look at BASE[0], which is 1 in every array.
+pub fn root_child(check: &[i32], w: u32) -> Child
+    ensures { λ r. ⌜ r ≡ rootChild (now (check .entry)) w ⌝ }
+{
+    if !((1 <= w) & (w <= backoff::WORD_LIMIT as u32)) {
+        return Child::Nothing;
+    }
+    let t = 1 + w as usize;
+    if t < check.len() && check[t] == 0 {
         return Child::At(t);
     }
     Child::Nothing
@@ -168,14 +186,13 @@ fn walk(base: &[i32], check: &[i32], words: &[u32]) -> Lookup
     requires { ⌜ 1 ≤ length (now words) ⌝ }
     ensures { λ r. ⌜ r ≡ lookupOf (lookFrom (now (base .entry)) (now (check .entry)) 0 (reverse (now (words .entry)))) ⌝ }
 {
-    let mut s = 0;
-    let mut left = words.len();
+    let mut left = words.len() - 1;
+    let Child::At(first) = root_child(check, words[left]) else {
+        return Lookup::NotFound;
+    };
+    let mut s = first;
     loop {
-        left -= 1;
-        let Child::At(t) = find_child(base, check, s, words[left]) else {
-            return Lookup::NotFound;
-        };
-        let Marker::Sound { p, b, e, f: _ } = read_marker(base, check, t) else {
+        let Marker::Sound { p, b, e, f: _ } = read_marker(base, check, s) else {
             return Lookup::Refused {
                 number: backoff::BROKEN_NODE,
                 place: 0,
@@ -184,6 +201,10 @@ fn walk(base: &[i32], check: &[i32], words: &[u32]) -> Lookup
         if left == 0 {
             return Lookup::Found { p, b, left: e };
         }
+        left -= 1;
+        let Child::At(t) = find_child(base, check, s, words[left]) else {
+            return Lookup::NotFound;
+        };
         s = t;
     }
 }

@@ -25,14 +25,14 @@ use Rattle.double_array.specs.declared.Marker.{Marker}
 use Rattle.double_array.specs.declared.Marker.the-variants.{Sound, Broken}
 use Rattle.double_array.specs.declared.Child.{Child}
 use Rattle.double_array.specs.declared.Child.the-variants.{At, Nothing}
-use Rattle.double_array.proofs.DoubleArray.{root-sound, look-down, opened-head, opened-order, child-told}
+use Rattle.double_array.proofs.DoubleArray.{root-sound, look-down, opened-order, child-told}
 use Rattle.score.specs.declared.First.{First}
 use Rattle.score.specs.declared.First.the-variants.{From, Missing}
 use Rattle.score.specs.declared.Packed.{Packed}
 use Rattle.score.specs.declared.Kept.{Kept}
 use Rattle.score.specs.declared.Stepped.{Stepped}
 use Rattle.score.specs.Meaning.{rowsIn}
-use Rattle.score.specs.Inner.{rootChild, firstOf, digits, pushed, heldIn, Carries, meetsBroken, Read, ScoredAs, SteppedTo}
+use Rattle.score.specs.Inner.{firstOf, digits, pushed, heldIn, Carries, meetsBroken, Read, ScoredAs, SteppedTo}
 use Rattle.score.proofs.Rows.{rows-in-backoff}
 use Rattle.score.proofs.Digits.{length-digits, digits-pushed}
 
@@ -52,11 +52,6 @@ module _ (base check : List ℤ) (h : isArray base check ≡ true) where
 
   at-child : (w : ℕ) (c : Child) → childAt base check 0 w ≡ c → storeIn base check .look (w ∷ []) ≡ downTo c (λ (t : ℕ). lookMarker (markerAt base check t))
   at-child w c e = one-word w ∙ ap (λ (k : Child). downTo k (λ (t : ℕ). lookMarker (markerAt base check t))) e
-
-  -- BASE[0] is 1
-  pub root-child : (w : ℕ) → rootChild check w ≡ childAt base check 0 w
-  unfolding childAt
-  root-child w = rw (opened-head base check h .root-base)
 
   module _ (w : ℕ) where
     abbrev first : First

@@ -5,18 +5,17 @@ use mathlib.Core.List.{List, [], _∷_, map}
 use mathlib.Core.Option.{Option, none, some}
 use Prim.Native.Nat.{ℕ, zero, suc, _+_, _*_, _-_, _/_, _%_, _≤_, min}
 use lib.Dec.{ltb}
-use lib.ListN.{length, take, drop, getD}
+use lib.ListN.{length, take, drop}
 use lib.IntN.{ℤ, pos, natAbs}
 use Rattle.integer.specs.Integer.{eqZ, sum}
 use Rattle.backoff.specs.Limits.{unknownWord}
 use Rattle.backoff.specs.Refusal.{arrayHead, badState}
-use Rattle.backoff.specs.Words.{isWord, radix, threeDigits, key}
+use Rattle.backoff.specs.Words.{radix, threeDigits, key}
 use Rattle.backoff.specs.Model.{inBackoff, reach}
 use Rattle.backoff.specs.Rule.{lengthByte}
 use Rattle.backoff.specs.State.{State as Carried, backoffsOf, liveLength, walk, pointsFrom, extendedFrom}
 use Rattle.backoff.specs.NineNumbers.{all, stateOk}
 use Rattle.backoff.specs.Store.{Store, isBroken, modelIn, scored, endsBroken, step}
-use Rattle.double_array.specs.DoubleArray.{freeCheck, childSlot}
 use Rattle.double_array.specs.declared.Child.{Child}
 use Rattle.double_array.specs.declared.Child.the-variants.{At, Nothing}
 use Rattle.score.specs.declared.State.{State}
@@ -34,10 +33,6 @@ use Rattle.score.specs.Answers.{stepOf}
 -- the items of a state that check 16 looks at together: the used ones pass a test, the unused ones are 0
 unfoldable pub partOk : (ℤ → Bool) → ℕ → List ℤ → Bool
 partOk P count items = all (map P (take count items)) && all (map (eqZ (pos 0)) (drop count items))
-
--- the root's child for w, where BASE[0] is 1
-abbrev pub rootChild : List ℤ → ℕ → Child
-rootChild check w = cond (isWord w && (ltb (childSlot 1 w) (length check) && eqZ (getD check (childSlot 1 w) freeCheck) (pos 0))) (At (childSlot 1 w)) Nothing
 
 -- the root's child for w, or that for word 1 in its place
 abbrev pub firstOf : ℕ → Child → Child → First

@@ -16,10 +16,10 @@ ghost use Rattle.backoff.specs.Rule.{lengthByte};
 ghost use Rattle.backoff.specs.Run.{Run, written, sizeRefusal};
 ghost use Rattle.backoff.specs.NineNumbers.{all, padded, nine, nineZeros, stateIn, stateOk};
 ghost use Rattle.backoff.specs.Store.{runOver, ranAnswer, runOutcome, startOutcome};
-ghost use Rattle.double_array.specs.DoubleArray.{childAt, isArray, orderIn, storeIn, opened};
+ghost use Rattle.double_array.specs.DoubleArray.{childAt, rootChild, isArray, orderIn, storeIn, opened};
 ghost use Rattle.score.specs.Answers.{numbersOf, kindByte, byteOf, answerOf, startedOf};
 ghost use Rattle.score.specs.Meaning.{StartMeans, RunMeans};
-ghost use Rattle.score.specs.Inner.{partOk, rootChild, firstOf, packedAs, heldIn, Carries, longestLive, WalkedOver, ScoredAs, SteppedTo, earlyRefusal};
+ghost use Rattle.score.specs.Inner.{partOk, firstOf, packedAs, heldIn, Carries, longestLive, WalkedOver, ScoredAs, SteppedTo, earlyRefusal};
 
 // The paper's carried state as its nine signed numbers. A state of the caller's own making may hold any: check 16 decides.
 pub struct State {
@@ -149,28 +149,14 @@ fn state_ok(state: State, order: usize) -> bool
     (count < order) & words_ok & backoffs_ok
 }
 
-// The root's child for word w, without a look at BASE[0], which is 1 in every array.
-fn root_child(check: &[i32], w: u32) -> Child
-    ensures { λ r. ⌜ r ≡ rootChild (now (check .entry)) w ⌝ }
-{
-    if !((1 <= w) & (w <= backoff::WORD_LIMIT as u32)) {
-        return Child::Nothing;
-    }
-    let t = 1 + w as usize;
-    if t < check.len() && check[t] == 0 {
-        return Child::At(t);
-    }
-    Child::Nothing
-}
-
 // The root's child for the word or, where there is none, for word 1 in its place.
 fn first_node(check: &[i32], w: u32) -> First
     ensures { λ r. ⌜ r ≡ firstOf w (rootChild (now (check .entry)) w) (rootChild (now (check .entry)) unknownWord) ⌝ }
 {
-    if let Child::At(slot) = root_child(check, w) {
+    if let Child::At(slot) = double_array::root_child(check, w) {
         return First::From { slot, word: w };
     }
-    let Child::At(slot) = root_child(check, backoff::UNKNOWN_WORD) else {
+    let Child::At(slot) = double_array::root_child(check, backoff::UNKNOWN_WORD) else {
         return First::Missing;
     };
     First::From {

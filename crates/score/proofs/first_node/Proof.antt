@@ -3,7 +3,7 @@ use mathlib.Core.Path.{_≡_, sym, _∙_}
 use borrow.Author.Needs.{needs}
 use Rattle.backoff.specs.Limits.{unknownWord}
 use Rattle.double_array.specs.declared.Child.{Child}
-use Rattle.score.specs.Inner.{rootChild}
+use Rattle.double_array.specs.DoubleArray.{rootChild}
 use Rattle.score.proofs.first_node.Statement.{statement}
 use Rattle.score.proofs.first_node.Tie as tie
 

@@ -14,7 +14,7 @@ use Rattle.backoff.specs.State.{State as Carried}
 use Rattle.backoff.specs.Store.{Store, stuck, step}
 use Rattle.double_array.specs.DoubleArray.{childAt, orderIn, storeIn}
 use Rattle.double_array.specs.declared.Child.the-variants.{At}
-use Rattle.double_array.proofs.DoubleArray.{opened-sizes, child-inside}
+use Rattle.double_array.proofs.DoubleArray.{opened-sizes, root-child, child-inside}
 use Rattle.score.specs.declared.First.{First}
 use Rattle.score.specs.declared.First.the-variants.{From}
 use Rattle.score.specs.declared.Word.the-variants.{Refused}
@@ -23,7 +23,7 @@ use Rattle.score.specs.declared.Kept.{Kept}
 use Rattle.score.specs.declared.Walked.{Walked}
 use Rattle.score.specs.declared.Walked.the-variants.{Whole, Stuck}
 use Rattle.score.specs.Inner.{firstOf, heldIn, Carries, Read, WalkedOver, ScoredAs, SteppedTo}
-use Rattle.score.proofs.Stepping.{root-child, first-child, first-missing, first-broken, passed-few, word-is-word, stepped}
+use Rattle.score.proofs.Stepping.{first-child, first-missing, first-broken, passed-few, word-is-word, stepped}
 use Rattle.score.proofs.step.Statement.{statement}
 use Rattle.score.proofs.step.Tie as tie
 

@@ -1,4 +1,4 @@
--- `score::root_child` meets its contract. Assumes nothing.
+-- `double_array::root_child` meets its contract. Assumes nothing.
 use mathlib.Core.Path.{_≡_, sym, _∙_}
 use mathlib.Core.Bool.{Bool, true, false, cond, _&&_}
 use mathlib.Core.Logic.{⊎-elim}
@@ -15,12 +15,11 @@ use Rattle.integer.specs.Integer.{eqZ}
 use Rattle.integer.proofs.Arithmetic.{bits-test}
 use Rattle.backoff.specs.Limits.{wordLimit}
 use Rattle.backoff.specs.Words.{isWord}
-use Rattle.double_array.specs.DoubleArray.{freeCheck}
+use Rattle.double_array.specs.DoubleArray.{freeCheck, rootChild}
 use Rattle.double_array.specs.declared.Child.the-variants.{At, Nothing}
 use Rattle.double_array.proofs.DoubleArray.{getD-inside}
-use Rattle.score.specs.Inner.{rootChild}
-use Rattle.score.proofs.root_child.Statement.{statement}
-use Rattle.score.proofs.root_child.Tie as tie
+use Rattle.double_array.proofs.root_child.Statement.{statement}
+use Rattle.double_array.proofs.root_child.Tie as tie
 
 -- CHECK of the child's slot
 abbrev owner : tie.Start → ℤ
