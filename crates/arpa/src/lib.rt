@@ -208,6 +208,14 @@ fn word_field(k: usize) -> i32
     if LINK_LIMIT < k { 0 } else { k as i32 }
 }
 
+// The back-off of row i.
+fn write_backoff(table: &mut [i32], i: usize, b: i32)
+    requires { ⌜ 8 * i + 8 ≤ length (now table) ⌝ }
+    ensures { λ _. ⌜ now (table .exit) ≡ set (now (table .entry)) (8 * i + 7) b ⌝ }
+{
+    table[8 * i + 7] = b;
+}
+
 // Row i of the one-word section. Its numbers 2 and 3 are the index's, and 4 and 5 are 0.
 fn write_word_row(table: &mut [i32], i: usize, word: usize, p: i32, b: i32)
     requires { ⌜ 8 * i + 8 ≤ length (now table) ⌝ }
@@ -217,7 +225,7 @@ fn write_word_row(table: &mut [i32], i: usize, word: usize, p: i32, b: i32)
     table[at] = 1;
     table[at + 1] = word_field(word);
     table[at + 6] = p;
-    table[at + 7] = b;
+    write_backoff(table, i, b);
 }
 
 // Row i of m words, all eight numbers.
@@ -233,7 +241,7 @@ fn write_long_row(table: &mut [i32], i: usize, m: usize, words: [usize; 5], p: i
         j += 1;
     }
     table[at + 6] = p;
-    table[at + 7] = b;
+    write_backoff(table, i, b);
 }
 
 // The line is refused.
@@ -349,7 +357,8 @@ fn close_section(m: usize, p: Progress) -> Stepped
     requires { ⌜ (1 ≤ m) × (m ≤ orderLimit) ⌝ }
     ensures { λ r. ⌜ ((a : Reading) (room size : ℕ) (t : List ℤ) (s : List ℕ) → p .stage ≡ Section m → Held room size t s p a → StepHeld room size t s (closeSection m a) r) ⌝ }
 {
-    if p.lines != p.counts[m - 1] as usize {
+    let announced = p.counts[m - 1] as usize;
+    if p.lines != announced {
         return refused(SECTION_COUNT, p);
     }
     if m < p.order {
@@ -451,23 +460,17 @@ fn longer_step(
 }
 
 // A line of the section of length m that does not close it.
-fn row_step(line: &[u8], m: usize, table: &mut [i32], store: &mut [u8], p: Progress) -> Stepped
-    requires { ⌜ ((a : Reading) × Held (length (now table)) (length (now store)) (now table) (now store) p a) × (p .stage ≡ Section m) × (1 ≤ m) × (m ≤ orderLimit) ⌝ }
-    ensures { λ r. ⌜ ((a : Reading) → Held (length (now (table .entry))) (length (now (store .entry))) (now (table .entry)) (now (store .entry)) p a → StepHeld (length (now (table .entry))) (length (now (store .entry))) (now (table .exit)) (now (store .exit)) (rowStep (length (now (table .entry))) (length (now (store .entry))) m a (readRow m (now (line .entry)))) r) ⌝ }
+fn row_step(line: &[u8], m: usize, table: &mut [i32], store: &mut [u8], state: Progress) -> Stepped
+    requires { ⌜ ((a : Reading) × Held (length (now table)) (length (now store)) (now table) (now store) state a) × (state .stage ≡ Section m) × (1 ≤ m) × (m ≤ orderLimit) ⌝ }
+    ensures { λ r. ⌜ ((a : Reading) → Held (length (now (table .entry))) (length (now (store .entry))) (now (table .entry)) (now (store .entry)) state a → StepHeld (length (now (table .entry))) (length (now (store .entry))) (now (table .exit)) (now (store .exit)) (rowStep (length (now (table .entry))) (length (now (store .entry))) m a (readRow m (now (line .entry)))) r) ⌝ }
 {
-    let RowLine::Row {
-        p: points,
-        b,
-        from,
-        to,
-    } = arpa_text::read_row(line, m)
-    else {
-        return refused(LINE_FORM, p);
+    let RowLine::Row { p, b, from, to } = arpa_text::read_row(line, m) else {
+        return refused(LINE_FORM, state);
     };
     if m == 1 {
-        return word_step(&line[from..to], points, b, table, store, p);
+        return word_step(&line[from..to], p, b, table, store, state);
     }
-    longer_step(&line[from..to], m, points, b, table, store, p)
+    longer_step(&line[from..to], m, p, b, table, store, state)
 }
 
 // A line in the section of length m.

@@ -3,7 +3,7 @@ ghost use mathlib.Core.Path.{_≡_};
 ghost use mathlib.Core.Bool.{true};
 ghost use Prim.Native.Nat.{ℕ, _+_, _*_, _-_, _<_, _≤_};
 ghost use lib.IntN.{pos};
-ghost use lib.ListN.{length, getD};
+ghost use lib.ListN.{length, getD, set};
 ghost use Rattle.integer.specs.Integer.{between};
 ghost use Rattle.backoff.specs.Words.{sameWords};
 ghost use Rattle.list.specs.Table.{field};
@@ -83,16 +83,23 @@ pub fn find_word(text: &[u8], table: &[i32], store: &[u8], buckets: usize) -> Fo
     Found::Nothing
 }
 
+// Byte i of the text in record k.
+fn write_byte(store: &mut [u8], k: usize, i: usize, byte: u8)
+    requires { ⌜ (64 * k + 64 ≤ length (now store)) × (i < textLimit) ⌝ }
+    ensures { λ _. ⌜ now (store .exit) ≡ set (now (store .entry)) (64 * k + 1 + i) byte ⌝ }
+{
+    store[64 * k + 1 + i] = byte;
+}
+
 // Writes record k.
 pub fn write_record(text: &[u8], store: &mut [u8], k: usize)
     requires { ⌜ (64 * k + 64 ≤ length (now store)) × (length (now text) ≤ textLimit) ⌝ }
     ensures { λ _. ⌜ now (store .exit) ≡ recorded (now (store .entry)) k (now (text .entry)) ⌝ }
 {
-    let at = 64 * k + 1;
     store[64 * k] = text.len() as u8;
     let mut i = 0;
     while i < text.len() {
-        store[at + i] = text[i];
+        write_byte(store, k, i, text[i]);
         i += 1;
     }
 }

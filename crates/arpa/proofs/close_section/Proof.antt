@@ -2,21 +2,20 @@
 use borrow.Author.Needs.{needs}
 use lib.Dec.{lit≤}
 use Rattle.arpa.proofs.Stages.{close-refused, close-next, close-last}
-use borrow.Author.Needs.{needs}
 use Rattle.arpa.proofs.close_section.Statement.{statement}
 use Rattle.arpa.proofs.close_section.Tie as tie
 
-sub-if1 : tie.Need-sub-if1
-sub-if1 c = search needs
+sub-announced : tie.Need-sub-announced
+sub-announced c = search needs
 
-mul-if1 : tie.Need-mul-if1
-mul-if1 c = search needs
+mul-announced : tie.Need-mul-announced
+mul-announced c = search needs
 
-element-copy-out-if1 : tie.Need-element-copy-out-if1
-element-copy-out-if1 c = search needs
+element-copy-out-announced : tie.Need-element-copy-out-announced
+element-copy-out-announced c = search needs
 
-cast-if1 : tie.Need-cast-if1
-cast-if1 c = search needs
+cast-announced : tie.Need-cast-announced
+cast-announced c = search needs
 
 refused-requires : tie.Need-refused-requires
 refused-requires c κs = search needs
@@ -27,8 +26,8 @@ returns c =
     let p = c .before .before .before in
     rw (close-refused room size t s (p .args .t2) a h (p .args .m) (p .pre .0) st (c .before .if1 .taken)) (c .refused .ensures, lit≤ tt, h .table-long, h .store-long)
 
-add-t14 : tie.Need-add-t14
-add-t14 c = search needs
+add-t13 : tie.Need-add-t13
+add-t13 c = search needs
 
 enter-requires : tie.Need-enter-requires
 enter-requires c κs = search needs
@@ -54,13 +53,13 @@ pub close-section-spec : {M : Type 1} → statement M
 close-section-spec =
     tie.close
     (tie.spec
-    sub-if1
-    mul-if1
-    element-copy-out-if1
-    cast-if1
+    sub-announced
+    mul-announced
+    element-copy-out-announced
+    cast-announced
     refused-requires
     returns
-    add-t14
+    add-t13
     enter-requires
     returns-2
     enter-requires-2

@@ -17,8 +17,8 @@ use Rattle.arpa.proofs.row_step.Tie as tie
 read-row-requires : tie.Need-read-row-requires
 read-row-requires c κs = search needs
 
-enum-known-points : tie.Need-enum-known-points
-enum-known-points c = search needs
+enum-known-p : tie.Need-enum-known-p
+enum-known-p c = search needs
 
 enum-told : tie.Need-enum-told
 enum-told c = search needs
@@ -37,13 +37,13 @@ returns c =
     rw (row-refused (p .args .m) (p .args .line .now) (r .read-row .result) (r .read-row .ensures .0) (length t) (length s) a (m .enum-told .given .1)) (c .refused .ensures, lit≤ tt, refl, refl)
 
 -- where the words stand
-inside : (m : tie.After-points) → (m .points .given .0 .1 .1 .0 ≤ m .points .given .0 .1 .1 .1 .0) × (m .points .given .0 .1 .1 .1 .0 ≤ length (m .before .before .before .before .before .args .line .now))
-inside m = let r = m .before .before in subst (Inside (r .before .before .before .args .line .now)) (m .points .given .1) (r .read-row .ensures .1)
+inside : (m : tie.After-p) → (m .p .given .0 .1 .1 .0 ≤ m .p .given .0 .1 .1 .1 .0) × (m .p .given .0 .1 .1 .1 .0 ≤ length (m .before .before .before .before .before .args .line .now))
+inside m = let r = m .before .before in subst (Inside (r .before .before .before .args .line .now)) (m .p .given .1) (r .read-row .ensures .1)
 
-p-fits : (k : tie.After-known-told) → SFits w32 (k .before .points .given .0 .0)
+p-fits : (k : tie.After-known-told) → SFits w32 (k .before .p .given .0 .0)
 p-fits k = sfits-of (k .known-told .given .0 .1)
 
-b-fits : (k : tie.After-known-told) → SFits w32 (k .before .points .given .0 .1 .0)
+b-fits : (k : tie.After-known-told) → SFits w32 (k .before .p .given .0 .1 .0)
 b-fits k = sfits-of (k .known-told .given .1 .0 .1)
 
 sub-word-step : tie.Need-sub-word-step
@@ -61,7 +61,7 @@ word-step-requires c κs =
     let r = m .before .before in
     let p = r .before .before .before in
     let e = c .before .before .before .if1 .taken in
-    (p .pre .0, p .pre .1 ∙ ap Section e, part-text (p .args .m) (p .args .line .now) (r .read-row .result) (r .read-row .ensures .0) (m .points .given .0 .0) (m .points .given .0 .1 .0) (m .points .given .0 .1 .1 .0) (m .points .given .0 .1 .1 .1 .0) (m .points .given .1) e)
+    (p .pre .0, p .pre .1 ∙ ap Section e, part-text (p .args .m) (p .args .line .now) (r .read-row .result) (r .read-row .ensures .0) (m .p .given .0 .0) (m .p .given .0 .1 .0) (m .p .given .0 .1 .1 .0) (m .p .given .0 .1 .1 .1 .0) (m .p .given .1) e)
 
 same-length : tie.Need-same-length
 same-length c = search needs
@@ -80,7 +80,7 @@ returns-2 c =
     let p = r .before .before .before in
     let t = p .args .table .now in
     let s = p .args .store .now in
-    rw (row-word (p .args .m) (p .args .line .now) (r .read-row .result) (r .read-row .ensures .0) (m .points .given .0 .0) (m .points .given .0 .1 .0) (m .points .given .0 .1 .1 .0) (m .points .given .0 .1 .1 .1 .0) (m .points .given .1) (i .if1 .taken) (length t) (length s) a)
+    rw (row-word (p .args .m) (p .args .line .now) (r .read-row .result) (r .read-row .ensures .0) (m .p .given .0 .0) (m .p .given .0 .1 .0) (m .p .given .0 .1 .1 .0) (m .p .given .0 .1 .1 .1 .0) (m .p .given .1) (i .if1 .taken) (length t) (length s) a)
     (rw (toZ-ofZ (p-fits k), toZ-ofZ (b-fits k)) at (w .word-step .ensures a h))
 
 sub-longer-step : tie.Need-sub-longer-step
@@ -99,7 +99,7 @@ longer-step-requires c κs =
     let p = r .before .before .before in
     let n = c .before .before .before .if1 .left in
     let low = p .pre .2 in
-    (p .pre .0, p .pre .1, omega arith, p .pre .3, part-texts (p .args .m) (p .args .line .now) (r .read-row .result) (r .read-row .ensures .0) (m .points .given .0 .0) (m .points .given .0 .1 .0) (m .points .given .0 .1 .1 .0) (m .points .given .0 .1 .1 .1 .0) (m .points .given .1))
+    (p .pre .0, p .pre .1, omega arith, p .pre .3, part-texts (p .args .m) (p .args .line .now) (r .read-row .result) (r .read-row .ensures .0) (m .p .given .0 .0) (m .p .given .0 .1 .0) (m .p .given .0 .1 .1 .0) (m .p .given .0 .1 .1 .1 .0) (m .p .given .1))
 
 same-length-3 : tie.Need-same-length-3
 same-length-3 c = search needs
@@ -118,7 +118,7 @@ returns-3 c =
     let p = r .before .before .before in
     let t = p .args .table .now in
     let s = p .args .store .now in
-    rw (row-longer (p .args .m) (p .args .line .now) (r .read-row .result) (r .read-row .ensures .0) (m .points .given .0 .0) (m .points .given .0 .1 .0) (m .points .given .0 .1 .1 .0) (m .points .given .0 .1 .1 .1 .0) (m .points .given .1) (length t) (length s) a (i .if1 .left))
+    rw (row-longer (p .args .m) (p .args .line .now) (r .read-row .result) (r .read-row .ensures .0) (m .p .given .0 .0) (m .p .given .0 .1 .0) (m .p .given .0 .1 .1 .0) (m .p .given .0 .1 .1 .1 .0) (m .p .given .1) (length t) (length s) a (i .if1 .left))
     (rw (toZ-ofZ (p-fits k), toZ-ofZ (b-fits k)) at (w .longer-step .ensures a h))
 
 pub row-step-spec : {M : Type 1} → statement M
@@ -126,7 +126,7 @@ row-step-spec =
     tie.close
     (tie.spec
     read-row-requires
-    enum-known-points
+    enum-known-p
     enum-told
     refused-requires
     returns

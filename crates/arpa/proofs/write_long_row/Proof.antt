@@ -1,5 +1,5 @@
 -- `arpa::write_long_row` meets its contract: the first j words are written. Assumes nothing.
-use mathlib.Core.Path.{_≡_, refl, _∙_}
+use mathlib.Core.Path.{_≡_, refl, ap, _∙_}
 use Prim.Native.Nat.{_*_, _-_}
 use native.Mathlib.Omega.{arith}
 use lib.IntN.{pos}
@@ -84,28 +84,26 @@ mul-p c = search needs
 slice-set-from-p : tie.Need-slice-set-from-p Inv-loop μ-loop
 slice-set-from-p c = let e = c .before .loop .inv .long in omega (arith, simp length-set at e)
 
-add-b : tie.Need-add-b Inv-loop μ-loop
-add-b c = search needs
-
-mul-b : tie.Need-mul-b Inv-loop μ-loop
-mul-b c = search needs
-
-slice-set-from-b : tie.Need-slice-set-from-b Inv-loop μ-loop
-slice-set-from-b c = let e = c .before .loop .inv .long in simp length-set (omega (arith, simp length-set at e))
+write-backoff-requires : tie.Need-write-backoff-requires Inv-loop μ-loop
+write-backoff-requires c κs = let e = c .before .before .loop .inv .long in simp length-set (omega (arith, simp length-set at e))
 
 same-length : tie.Need-same-length Inv-loop μ-loop
-same-length c = let e = c .before .loop .inv .long in simp length-set (e ∙ simp length-set)
+same-length c =
+    let e = c .before .before .before .before .loop .inv .long in
+    ap length (c .before .write-backoff .ensures) ∙ simp length-set (e ∙ simp length-set)
 
 returns : tie.Need-returns Inv-loop μ-loop
 returns c =
-    let l = c .before in
+    let w = c .before in
+    let l = w .before .before .before in
     let s = l .before in
     let five : length (s .args .t4) ≡ 5 = search needs in
-    let h = c .loop-test .left in
+    let h = w .before .before .loop-test .left in
     let few = s .pre .1 in
     let t = set (s .args .table .now) (8 * s .args .i) (toZ w32 (s .args .m)) in
     let m : toZ w32 (s .args .m) ≡ pos (s .args .m) = toZ-pos w32 (s .args .m) (omega arith) in
-    rw (toZ-ofZ (s .fits .p), toZ-ofZ (s .fits .b))
+    w .write-backoff .ensures
+    ∙ rw (toZ-ofZ (s .fits .p), toZ-ofZ (s .fits .b))
     (long-row-written (s .args .table .now) (l .loop .table) (s .args .i) (s .args .m) (s .args .t4) (s .args .p) (s .args .b) five
     (writing-end t (s .args .i) (s .args .t4) (l .loop .table) (l .loop .j) (omega arith) (l .loop .inv) ∙ rw m refl))
 
@@ -133,8 +131,6 @@ write-long-row-spec =
     add-p
     mul-p
     slice-set-from-p
-    add-b
-    mul-b
-    slice-set-from-b
+    write-backoff-requires
     same-length
     returns)

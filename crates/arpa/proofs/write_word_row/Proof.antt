@@ -1,12 +1,12 @@
 -- `arpa::write_word_row` meets its contract. Assumes nothing.
+use mathlib.Core.Path.{ap, _∙_}
 use native.Mathlib.Omega.{arith}
-use lib.ListN.{length-set}
+use lib.ListN.{length, length-set}
 use mir.Syntax.{w32}
 use mir.Val.{SFits}
 use mir.Facts.{toZ-ofZ}
 use borrow.Author.Needs.{needs, sfits-of}
 use Rattle.arpa.specs.Held.{wordRow}
-use borrow.Author.Needs.{needs}
 use Rattle.arpa.proofs.write_word_row.Statement.{statement}
 use Rattle.arpa.proofs.write_word_row.Tie as tie
 
@@ -40,17 +40,11 @@ mul-p c = search needs
 slice-set-from-p : tie.Need-slice-set-from-p
 slice-set-from-p c = simp length-set (omega arith)
 
-add-b : tie.Need-add-b
-add-b c = search needs
-
-mul-b : tie.Need-mul-b
-mul-b c = search needs
-
-slice-set-from-b : tie.Need-slice-set-from-b
-slice-set-from-b c = simp length-set (omega arith)
+write-backoff-requires : tie.Need-write-backoff-requires
+write-backoff-requires c κs = simp length-set (omega arith)
 
 same-length : tie.Need-same-length
-same-length c = search needs
+same-length c = ap length (c .before .write-backoff .ensures) ∙ simp length-set
 
 word-fits : (c : tie.After-word-field) → SFits w32 (c .word-field .result)
 word-fits c = sfits-of (c .word-field .ok)
@@ -58,8 +52,10 @@ word-fits c = sfits-of (c .word-field .ok)
 returns : tie.Need-returns
 unfolding wordRow
 returns c =
-    let s = c .before in
-    rw (toZ-ofZ (word-fits c), toZ-ofZ (s .fits .p), toZ-ofZ (s .fits .b), c .word-field .ensures)
+    let w = c .before in
+    let f = w .before .before in
+    let s = f .before in
+    w .write-backoff .ensures ∙ rw (toZ-ofZ (word-fits f), toZ-ofZ (s .fits .p), toZ-ofZ (s .fits .b), f .word-field .ensures)
 
 pub write-word-row-spec : {M : Type 1} → statement M
 write-word-row-spec =
@@ -75,8 +71,6 @@ write-word-row-spec =
     add-p
     mul-p
     slice-set-from-p
-    add-b
-    mul-b
-    slice-set-from-b
+    write-backoff-requires
     same-length
     returns)
