@@ -224,6 +224,13 @@ pub extern "C" fn backoff_run(
         };
     }
     let ran = score::run(base, check, load(state), words, points, lengths);
+    if ran.number != 0 {
+        return Total {
+            number: ran.number,
+            place: ran.place,
+            total: ran.total,
+        };
+    }
     let end = ran.end;
     store(end, state);
     Total {

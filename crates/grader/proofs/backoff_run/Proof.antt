@@ -1,5 +1,5 @@
 -- `grader::backoff_run` meets its contract: it passes on what a run answers. Assumes nothing.
-use mathlib.Core.Path.{_≡_, ap, _∙_}
+use mathlib.Core.Path.{_≡_, sym, ap, _∙_}
 use mathlib.Core.List.{List}
 use lib.IntN.{ℤ}
 use mir.Syntax.{w64}
@@ -8,6 +8,7 @@ use mir.Facts.{toZ-ofZ}
 use denote.Ref.{now}
 use Rattle.backoff.specs.Store.{runOutcome}
 use Rattle.double_array.specs.DoubleArray.{opened}
+use Rattle.score.specs.Answers.{answerOf}
 use Rattle.plain.specs.Plain.{runOf}
 use Rattle.grader.proofs.Crossing.{run-wrong-length, run-crosses, run-means}
 use borrow.Author.Needs.{needs, sfits-of}
@@ -23,9 +24,6 @@ load-requires c κs = search needs
 run-requires : tie.Need-run-requires
 run-requires c κs = search needs
 
-store-requires : tie.Need-store-requires
-store-requires c κs = search needs
-
 same-length : tie.Need-same-length
 same-length c = search needs
 
@@ -35,15 +33,36 @@ same-length-2 c = search needs
 same-length-3 : tie.Need-same-length-3
 same-length-3 c = search needs
 
+-- the run's outcome is that from the numbers in the lent slice
+outcome : (c : tie.After-run) → answerOf (c .run .result) (c .run .last .1 .1 .1 .1 .0) (c .run .last .1 .1 .1 .1 .1 .0) ≡ runOutcome (opened (now (c .before .before .before .before .before .before .before .before .args .base)) (now (c .before .before .before .before .before .before .before .before .args .check))) (now (c .before .before .before .before .before .before .before .before .args .state)) (runOf (now (c .before .before .before .before .before .before .before .before .args .words)) (now (c .before .before .before .before .before .before .before .before .args .points)) (now (c .before .before .before .before .before .before .before .before .args .lengths)))
+outcome c =
+    let s = c .before .before .before .before .before .before .before .before in
+    c .run .ensures .0 ∙ ap (λ (l : List ℤ). runOutcome (opened (now (s .args .base)) (now (s .args .check))) l (runOf (now (s .args .words)) (now (s .args .points)) (now (s .args .lengths)))) (c .before .before .before .load .ensures)
+
 returns-2 : tie.Need-returns-2
 returns-2 c =
-    let s = c .before .before .before .before .before .before .before .before .before .before .before .before .before .before .before .before in
-    let loaded = c .before .before .before .before .before .before .before .before .before .before .before .load .ensures in
-    let ran = c .before .before .before .before .before .before .before .before .run in
-    let run = runOf (now (s .args .words)) (now (s .args .points)) (now (s .args .lengths)) in
-    let back : toZ w64 (ofZ w64 (ran .result .total)) ≡ ran .result .total = toZ-ofZ (sfits-of (c .struct-told .given .1 .1 .0 .1)) in
-    let e = ran .ensures .0 ∙ ap (λ (l : List ℤ). runOutcome (opened (now (s .args .base)) (now (s .args .check))) l run) loaded in
-    let is = run-crosses e back (c .before .before .store .ensures) in
+    let r = c .before .before .before .before .before .before in
+    let back : toZ w64 (ofZ w64 (r .run .result .total)) ≡ r .run .result .total = toZ-ofZ (sfits-of (c .struct-told .given .1 .1 .0 .1)) in
+    let is = run-crosses (outcome r) back (sym (r .run .ensures .1 .refused (c .before .if2 .taken) .1 ∙ r .before .before .before .load .ensures)) in
+    (is, run-means _ _ _ _ is)
+
+store-requires : tie.Need-store-requires
+store-requires c κs = search needs
+
+same-length-4 : tie.Need-same-length-4
+same-length-4 c = search needs
+
+same-length-5 : tie.Need-same-length-5
+same-length-5 c = search needs
+
+same-length-6 : tie.Need-same-length-6
+same-length-6 c = search needs
+
+returns-3 : tie.Need-returns-3
+returns-3 c =
+    let r = c .before .before .before .before .before .before .before .before .before .before in
+    let back : toZ w64 (ofZ w64 (r .run .result .total)) ≡ r .run .result .total = toZ-ofZ (sfits-of (c .struct-told2 .given .1 .1 .0 .1)) in
+    let is = run-crosses (outcome r) back (c .before .before .store .ensures) in
     (is, run-means _ _ _ _ is)
 
 pub backoff-run-spec : {M : Type 1} → statement M
@@ -53,8 +72,12 @@ backoff-run-spec =
     returns
     load-requires
     run-requires
-    store-requires
     same-length
     same-length-2
     same-length-3
-    returns-2)
+    returns-2
+    store-requires
+    same-length-4
+    same-length-5
+    same-length-6
+    returns-3)
