@@ -22,8 +22,3 @@ pub mod Refusals
 pub mod OrderedRows
 pub mod Meaning
 pub mod LongSteps
-pub mod PrintedLines
-pub mod PrintedRows
-pub mod PrintedWords
-pub mod Printed
-pub mod Sample

@@ -21,11 +21,11 @@ use Rattle.totals_text.specs.Columns.{allDigits, valueFrom}
 use Rattle.arpa_text.specs.Parts.{parts}
 use Rattle.arpa_text.specs.Logs.{digitsUpTo, fraction, unsigned, readLog, nearest, roundLog, readPoints}
 use Rattle.arpa_text.specs.Lines.{isCountHead, withoutSpace, countIn, readCount, allAbove, isText, areTexts, listedIn, readRow}
 use Rattle.arpa.specs.Words.{unknownText, startText, endText, reservedNumber, numberMet, numberGiven, withText, zeroed, recordOf, recordsOf, storeWith}
 use Rattle.arpa.specs.Reading.{announce, enter, firstSection, dataStep, closes, closeSection, rowOf, addRow, rowFits, recordFits, wordStep, someMissing, longerStep, rowStep, sectionStep, lineStep, readLines}
 use Rattle.arpa.specs.Outcome.{refusedOutcome, ordered, readArpa}
-use Rattle.arpa.specs.Printed.{withEnds, Printable}
-use Rattle.arpa.specs.Sample.{the, cat, SampleRead}
+use Rattle.arpa_printed.specs.Printed.{withEnds, Printable}
+use Rattle.arpa_printed.specs.Sample.{the, cat, SampleRead}
 
 pub sample-read : SampleRead
 unfolding between upTo sameWords inProbability inBackoff padded rowsOf field lengthOf orderOf wordsOf words withoutFirst withoutLast lastLess precedes findBelow findIn tableFits placeFits placesFit backoffFits fieldFault isAfter shorterListed orderFault rowFault reservedListed scan verdict insertBy sortBy rowAt rowsAt joined numbersOf rowBefore listOrder searchFrom allDigits valueFrom parts digitsUpTo fraction unsigned readLog nearest roundLog readPoints isCountHead withoutSpace countIn readCount allAbove isText areTexts listedIn readRow reservedNumber numberMet numberGiven withText zeroed recordOf recordsOf storeWith announce enter firstSection dataStep closes closeSection rowOf addRow rowFits recordFits wordStep someMissing longerStep rowStep sectionStep lineStep readLines refusedOutcome ordered readArpa withEnds

@@ -26,8 +26,8 @@ use Rattle.list.proofs.Good.{place-range, place-of}
 use Rattle.list.proofs.Check.{first-listed, last-listed}
 use Rattle.row_order.specs.RowOrder.{rowAt, rowsAt}
 use Rattle.row_order.proofs.Rows.{row-field, row-length}
 use Rattle.arpa.specs.Reading.{rowOf}
-use Rattle.arpa.specs.Printed.{rowsWith}
+use Rattle.arpa_printed.specs.Printed.{rowsWith}
 
 -- ---- section by section
 

@@ -29,16 +29,16 @@ use Rattle.row_order.proofs.Sorted.{accepted-listOrder}
 use Rattle.word_index.specs.Texts.{searchFrom}
 use Rattle.arpa_text.specs.Parts.{parts, before}
 use Rattle.arpa_text.specs.Lines.{dataLine, sectionLine, endLine, Listed, readCount, readRow, areTexts}
 use Rattle.arpa.specs.Words.{unknownText, startText, endText, noTexts, reservedNumber, numberGiven, withText, storeWith}
 use Rattle.arpa.specs.Reading.{Reading, begun, goes, announce, enter, firstSection, countStep, dataStep, closes, closeSection, rowOf, addRow, rowFits, recordFits, wordStep, longerStep, rowStep, sectionStep, stageStep, lineStep, done, onward, lastPiece, readLines}
 use Rattle.arpa.specs.Outcome.{ordered, linesOutcome, judged, readArpa}
-use Rattle.arpa.specs.Printed.{printCount, rowsWith, wordText, rowLine, countLines, sectionLines, printed, Printable, ReadsBack}
+use Rattle.arpa_printed.specs.Printed.{printCount, rowsWith, wordText, rowLine, countLines, sectionLines, printed, Printable, ReadsBack}
 use Rattle.arpa.specs.declared.Stage.{Stage}
 use Rattle.arpa.specs.declared.Stage.the-variants.{Counts, Section, Ended}
 use Rattle.arpa.specs.declared.Rows.the-variants.{Read}
-use Rattle.arpa.proofs.PrintedLines.{Lacks, AllLack, parts-of-lines, count-read, count-some, count-lacks, row-lead, row-lacks, row-read, row-closes-none}
-use Rattle.arpa.proofs.PrintedRows.{countUp, count-rows, count-length, sectionRows, section-rows, one-word-rows, AllOf, all-of-length, row-of-words, AllKnown, words-known}
-use Rattle.arpa.proofs.PrintedWords.{numbers-of-words, number-of-next, none-missing, words-texts, text-behind}
+use Rattle.arpa_printed.proofs.PrintedLines.{Lacks, AllLack, parts-of-lines, count-read, count-some, count-lacks, row-lead, row-lacks, row-read, row-closes-none}
+use Rattle.arpa_printed.proofs.PrintedRows.{countUp, count-rows, count-length, sectionRows, section-rows, one-word-rows, AllOf, all-of-length, row-of-words, AllKnown, words-known}
+use Rattle.arpa_printed.proofs.PrintedWords.{numbers-of-words, number-of-next, none-missing, words-texts, text-behind}
 
 -- ---- line by line
 

@@ -12,10 +12,10 @@ use Rattle.backoff.proofs.Words.{same-refl, same-ne}
 use Rattle.list.specs.declared.Found.the-variants.{At, Nothing}
 use Rattle.word_index.specs.Texts.{searchFrom, givenBy}
 use Rattle.arpa_text.specs.Lines.{isText, areTexts}
 use Rattle.arpa.specs.Words.{unknownText, startText, endText, reservedNumber, numberMet, numberGiven, withText}
 use Rattle.arpa.specs.Reading.{someMissing}
-use Rattle.arpa.specs.Printed.{wordText}
-use Rattle.arpa.proofs.PrintedRows.{AllKnown}
+use Rattle.arpa_printed.specs.Printed.{wordText}
+use Rattle.arpa_printed.proofs.PrintedRows.{AllKnown}
 
 search-place : (texts : List (List ℕ)) (k j : ℕ) → j < length texts → ((i : ℕ) → i < j → getD texts j [] ≡ getD texts i [] → ⊥)
     → searchFrom (getD texts j []) k texts ≡ At (k + j)
