@@ -17,7 +17,8 @@ static const int32_t list[][BACKOFF_ROW_ITEMS] = {
 };
 enum { ITEMS = sizeof list / sizeof list[0][0], ROWS = ITEMS / BACKOFF_ROW_ITEMS, SLOTS = 64 };
 
-/* The tape: the runs of words that each part may have been. The last part is the end of the sentence. */
+/* The tape: the runs of words that each part may have been. The fourth part is the end of a sentence. Behind it every
+ * reading has the state after <s>, so that one of them is kept, and the next sentence goes on from there. */
 enum { MOST_RUNS = 3, RUN_WORDS = 2 };
 struct run {
     size_t count;
@@ -32,6 +33,7 @@ static const struct part tape[] = {
     {2, {{1, {5}}, {1, {9}}}},
     {2, {{1, {4}}, {2, {4, 5}}}},
     {1, {{1, {BACKOFF_END_WORD}}}},
+    {2, {{2, {4, BACKOFF_END_WORD}}, {2, {9, BACKOFF_END_WORD}}}},
 };
 enum { PARTS = sizeof tape / sizeof tape[0], MOST_WORDS = PARTS * RUN_WORDS, MOST_READINGS = 16 };
 

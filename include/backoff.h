@@ -136,9 +136,9 @@ struct backoff_status backoff_build(const int32_t *table, size_t table_len, int3
 struct backoff_found backoff_lookup(const int32_t *base, size_t base_len, const int32_t *check, size_t check_len,
                                     const uint32_t *words, size_t words_len);
 
-/* Writes the state after <s>, with which a sentence begins. The state of no context is nine zeros and needs no call. A
- * state has count, four words newest first, and four back-offs (of the newest word, of the newest two, ..); unused ones
- * are 0. What stood in the slice before is not read.
+/* Writes the state after <s>, with which a sentence begins; behind a 3 a run goes on from it by itself. The state of no
+ * context is nine zeros and needs no call. A state has count, four words newest first, and four back-offs (of the newest
+ * word, of the newest two, ..); unused ones are 0. What stood in the slice before is not read.
  * Refusals: 16, where state_len is not 9; 11; 12.
  * Accepted: state is the state after <s>.
  * After 16: state is untouched.
@@ -147,13 +147,16 @@ struct backoff_status backoff_start(const int32_t *base, size_t base_len, const 
                                     int32_t *state, size_t state_len);
 
 /* Scores words one after another from a state, and leaves the state after them in its place. A word without a row of one
- * word is scored as word 1, so is a word outside 1..65,535. points and lengths have at least one item for each word. A
- * length byte is the matched length, the number of words in the row whose p was used, plus 8 if the word was scored as
- * 1, plus 16 if some row puts a further word in front of that row; over an array that backoff_build did not write, 16 is
- * as the e of the row's marker says. So byte & 7 is the matched length, byte & BACKOFF_UNKNOWN_LENGTH tells an unknown
- * word, and byte & BACKOFF_EXTENDED_LENGTH a row that can grow to the left. A run of no words is accepted; its total is 0
- * and its state stays.
- * Refusals: 16, where state_len is not 9; 11; 16 for the numbers of the state; 14; 15; 12, at the word that met it.
+ * word is scored as word 1, so is a word outside 1..65,535. A word given as 3 ends a sentence: it is scored after the
+ * words before it, and behind it the state is what backoff_start gives, so that the next word is scored after <s> alone.
+ * So all sentences of a reading may go through one run, or through several, each sentence closed with a 3. points and
+ * lengths have at least one item for each word. A length byte is the matched length, the number of words in the row
+ * whose p was used, plus 8 if the word was scored as 1, plus 16 if some row puts a further word in front of that row;
+ * over an array that backoff_build did not write, 16 is as the e of the row's marker says. So byte & 7 is the matched
+ * length, byte & BACKOFF_UNKNOWN_LENGTH tells an unknown word, and byte & BACKOFF_EXTENDED_LENGTH a row that can grow to
+ * the left. A run of no words is accepted; its total is 0 and its state stays.
+ * Refusals: 16, where state_len is not 9; 11; 16 for the numbers of the state; 14; 15; 12, at the word that met it. Where
+ * backoff_start gives 12, it is met at the first 3, also where that is the last word.
  * Accepted: points and lengths have the answer of each word, and are untouched past the words; state is the state after
  * the words.
  * After 11, 14, 15 and 16: state, points and lengths are untouched.
@@ -163,7 +166,7 @@ struct backoff_total backoff_run(const int32_t *base, size_t base_len, const int
                                  size_t points_len, uint8_t *lengths, size_t lengths_len);
 
 /* Scores words from the list alone, after <s> or with no context: points, length bytes and total are those of a run over
- * the array of the list. Each call checks the list anew.
+ * the array of the list; a 3 ends a sentence here too. Each call checks the list anew.
  * Refusals: 1; then row by row 3, 4, 5, 6, 7, 8; then 9; 14; 15.
  * Accepted: points and lengths have the answer of each word, and are untouched past the words.
  * Refused: points and lengths are untouched. */

@@ -112,4 +112,10 @@ impl List {
         text.extend((text.len()..LONGEST_RUN).map(|_| self.rows[random.below(self.rows.len())].words[0] as u32));
         text
     }
+
+    /// The same words in sentences of 20, the last of them 3.
+    pub fn ended_text(&self) -> Vec<u32> {
+        let words: Vec<u32> = self.unseen_text().into_iter().filter(|&word| word != 3).collect();
+        words.chunks(19).flat_map(|sentence| sentence.iter().copied().chain([3])).take(LONGEST_RUN).collect()
+    }
 }

@@ -6,6 +6,7 @@ use crate::score::Items;
 use crate::time::{compare, Compared};
 use crate::{array, list, plain, score, unload};
 use backoff::{Found, Total};
+use std::hint::black_box;
 
 /// Nanoseconds that a call takes for a row, a lookup or a word, and the ratio of the two.
 pub struct Measured {
@@ -27,7 +28,8 @@ impl Measured {
 pub fn measure(list: &List) -> Vec<Measured> {
     let text = list.unseen_text();
     let [run, packed, hashed] = run(list, &text);
-    vec![check(list), build(list, list.arrays.slots()), lookup(list), run, packed, hashed, plain(list, &text), unload(list)]
+    let built = build(list, list.arrays.slots());
+    vec![check(list), built, lookup(list), start(list), run, packed, ended_run(list), hashed, plain(list, &text), unload(list)]
 }
 
 fn check(list: &List) -> Measured {
@@ -59,6 +61,18 @@ fn lookup(list: &List) -> Measured {
     let sum = rust();
     let compared = compare(&mut || assert_eq!(ours(), sum), &mut || assert_eq!(rust(), sum));
     Measured::new("lookup", "lookup", parts.len(), compared)
+}
+
+/// Many starts, each over the whole array.
+fn start(list: &List) -> Measured {
+    const STARTS: usize = 10_000;
+    let Arrays { base, check, .. } = &list.arrays;
+    let (mut state, mut other_state) = ([0; 9], [0; 9]);
+    let mut ours = || (0..STARTS).for_each(|_| assert_eq!(backoff::start(black_box(base), check, &mut state).number, 0));
+    let mut rust = || (0..STARTS).for_each(|_| assert_eq!(score::start::<Packed>(black_box(base), check, &mut other_state).number, 0));
+    let compared = compare(&mut ours, &mut rust);
+    assert_eq!(state, other_state, "the states agree");
+    Measured::new("start", "start", STARTS, compared)
 }
 
 /// What a scorer leaves behind.
@@ -98,6 +112,25 @@ fn run(list: &List, text: &[u32]) -> [Measured; 3] {
     assert!(left == right && left == third && state == other_state, "the scorers agree");
     [("run", with_rust), ("run, against packed states", with_packed), ("run, against a HashMap", with_map)]
         .map(|(call, compared)| Measured::new(call, "word", text.len(), compared))
+}
+
+/// A run over many sentences, each of which ends with 3.
+fn ended_run(list: &List) -> Measured {
+    let Arrays { base, check, .. } = &list.arrays;
+    let text = list.ended_text();
+    let [mut left, mut right] = [(); 2].map(|()| Scores::new(text.len()));
+    let (mut state, mut other_state) = ([0; 9], [0; 9]);
+    let mut ours = || {
+        state = [0; 9];
+        left.total = backoff::run(base, check, &mut state, &text, &mut left.points, &mut left.lengths).total;
+    };
+    let mut rust = || {
+        other_state = [0; 9];
+        right.total = score::run::<Packed>(base, check, &mut other_state, &text, &mut right.points, &mut right.lengths).total;
+    };
+    let compared = compare(&mut ours, &mut rust);
+    assert!(left == right && state == other_state, "the scorers agree");
+    Measured::new("run, a 3 every 20 words, against packed states", "word", text.len(), compared)
 }
 
 /// Plain scoring with its check of the list, against Rust with binary search too.

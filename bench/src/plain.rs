@@ -135,8 +135,8 @@ pub fn score(rows: &impl Rows, after_start: bool, words: &[u32], points: &mut [i
         points[i] = word_points;
         lengths[i] = matched as u8 + if known { 0 } else { 8 } + if extended { 16 } else { 0 };
         total += word_points as i64;
-        history = history << 16 | word;
-        count = most.min(count + 1);
+        // Behind a 3 the history is `<s>` alone.
+        (history, count) = if words[i] == 3 { (2, most.min(1)) } else { (history << 16 | word, most.min(count + 1)) };
     }
     total
 }
@@ -163,7 +163,7 @@ fn back_off(rows: &impl Rows, history: u128, count: usize, word: u128) -> (i32, 
 
 #[cfg(test)]
 mod tests {
-    use tests::lists::{small, table, text};
+    use tests::lists::{ended_text, small, table};
     use tests::random::Random;
     use tests::reference;
 
@@ -173,7 +173,7 @@ mod tests {
         let mut random = Random::new(1);
         for i in 0..2_000 {
             let rows = small(&mut random, 1 + i % 5);
-            let (table, words) = (table(&rows), text(&mut random, &rows, 20));
+            let (table, words) = (table(&rows), ended_text(&mut random, &rows, 20, 5));
             let (mut points, mut lengths) = ([0; 20], [0; 20]);
             let (_, total) = reference::rule::plain(&table, i % 2 == 0, &words, &mut points, &mut lengths);
             let (mut points2, mut lengths2) = ([0; 20], [0; 20]);

@@ -92,7 +92,26 @@ impl State for Items {
     }
 }
 
+/// The state after `<s>`; nothing where 12 refuses.
+#[inline]
+fn begin<S: State>(base: &[i32], check: &[i32], order: usize) -> Option<S> {
+    let mut state = S::default();
+    state.step(base, check, order, 2)?;
+    Some(state)
+}
+
+/// A word of a run: behind a 3 the state is start's.
+#[inline]
+fn score<S: State>(state: &mut S, base: &[i32], check: &[i32], order: usize, word: u32) -> Option<(i32, u8)> {
+    let scored = state.step(base, check, order, word)?;
+    if word == 3 {
+        *state = begin(base, check, order)?;
+    }
+    Some(scored)
+}
+
 /// The state after `<s>`.
+#[inline(never)]
 pub fn start<S: State>(base: &[i32], check: &[i32], cells: &mut [i32]) -> Status {
     let refused = |number| Status { number, place: 0 };
     let Ok(cells) = <&mut [i32; 9]>::try_from(cells) else { return refused(16) };
@@ -100,10 +119,7 @@ pub fn start<S: State>(base: &[i32], check: &[i32], cells: &mut [i32]) -> Status
     if !head_fits(base, check) {
         return refused(11);
     }
-    let mut state = S::default();
-    if state.step(base, check, order(check) as usize, 2).is_none() {
-        return refused(12);
-    }
+    let Some(state) = begin::<S>(base, check, order(check) as usize) else { return refused(12) };
     state.write(cells);
     refused(0)
 }
@@ -126,7 +142,7 @@ pub fn run<S: State>(base: &[i32], check: &[i32], cells: &mut [i32], words: &[u3
     let order = order(check) as usize;
     let mut total = 0;
     for i in 0..words.len() {
-        let Some((word_points, length)) = state.step(base, check, order, words[i]) else {
+        let Some((word_points, length)) = score(&mut state, base, check, order, words[i]) else {
             points.fill(0);
             lengths.fill(0);
             return refused(12, i as u32 + 1);
@@ -158,7 +174,7 @@ mod tests {
         let mut random = Random::new(1);
         for _ in 0..20_000 {
             let arrays = drawn(&mut random);
-            let words: Vec<u32> = (0..6).map(|_| random.below(30) as u32).collect();
+            let words: Vec<u32> = (0..6).map(|_| if random.chance(20) { 3 } else { random.below(30) as u32 }).collect();
             let (mut ours, mut second) = (([1; 9], [1; 6], [1; 6]), ([1; 9], [1; 6], [1; 6]));
             let status = super::start::<S>(&arrays.base, &arrays.check, &mut ours.0);
             let refusal = reference::score::start(&arrays.base, &arrays.check, &mut second.0);

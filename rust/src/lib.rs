@@ -31,6 +31,11 @@
 //! assert_eq!((last.number, last.total), (0, -18_000));
 //! assert_eq!((points, lengths), ([-6_000, -12_000], [1 + 16, 1]));
 //!
+//! // Behind the 3 the state is start's again.
+//! let mut begin = [0; 9];
+//! assert_eq!(backoff::start(&base, &check, &mut begin).number, 0);
+//! assert_eq!(state, begin);
+//!
 //! // The same total from the list alone.
 //! let (mut points, mut lengths) = ([0; 4], [0; 4]);
 //! let plain = backoff::plain(table, true, &[4, 9, 4, 3], &mut points, &mut lengths);
@@ -210,10 +215,11 @@ pub fn start(base: &[i32], check: &[i32], state: &mut [i32]) -> Status {
 
 /// Scores words from a state and leaves the state after them in its place; `points` and `lengths` have at least one item for each word. A
 /// length byte is the number of words in the row whose p was used (`byte & 7`), plus 8 if the word was scored as the unknown word (`byte & 8`), plus 16 if
-/// some row puts a further word in front of that row (`byte & 16`), as `left` of [`lookup`] says.
+/// some row puts a further word in front of that row (`byte & 16`), as `left` of [`lookup`] says. Behind a word given as 3 the state is what [`start`]
+/// gives, so that many sentences, each closed with a 3, may go through one run.
 ///
 /// Refusals: 16 for a length other than nine; 11; 16 for the numbers of the state; 14; 15; 12, whose place is the word, from 1. A refused run leaves
-/// `state` as it was. After 12 `points` and `lengths` are 0 for each word; after the others they are untouched. They are always untouched past the words.
+/// `state` as it was. Where [`start`] gives 12, a run gives it at its first 3. After 12 `points` and `lengths` are 0 for each word; after the others they are untouched. They are always untouched past the words.
 pub fn run(base: &[i32], check: &[i32], state: &mut [i32], words: &[u32], points: &mut [i32], lengths: &mut [u8]) -> Total {
     unsafe {
         raw::backoff_run(
@@ -233,7 +239,8 @@ pub fn run(base: &[i32], check: &[i32], state: &mut [i32], words: &[u32], points
     }
 }
 
-/// Scores words from the list alone, after `<s>` or with no context: points, length bytes and total are those of a run over the list's array.
+/// Scores words from the list alone, after `<s>` or with no context: points, length bytes and total are those of a run over the list's array; a 3 ends a
+/// sentence here too.
 ///
 /// Refusals: 1; then row by row 3 to 8; then 9; 14; 15. They leave `points` and `lengths` untouched.
 pub fn plain(table: &[i32], after_start: bool, words: &[u32], points: &mut [i32], lengths: &mut [u8]) -> Total {

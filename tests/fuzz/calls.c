@@ -259,14 +259,14 @@ static void see_run(const struct slice *before, const struct slice *after, struc
     see_outputs(before + 4, after + 4, words, order, answer);
 }
 
-/* 16 stands exactly where some listed row puts a word in front of the matched one; of a long text some words are tried. */
-static void see_extended(bool after_start, const struct slice *before, struct slice lengths) {
+/* Points and length bytes are the rule's; of a long text some words are tried. */
+static void see_ruled(bool after_start, const struct slice *before, const struct slice *after) {
     for (size_t i = 0; i < before[1].count; i++) {
-        uint8_t byte = bytes_of(lengths)[i];
         if (before[1].count > 100 && below(1000) != 0)
             continue;
-        bool extended = (byte & BACKOFF_EXTENDED_LENGTH) != 0;
-        require(extended == is_extended(before[0], after_start, before[1], i, byte & 7), "16 exactly where a row extends");
+        struct ruled ruled = score_by_rule(before[0], after_start, before[1], i);
+        require(ints(after[2])[i] == ruled.points, "the rule's points");
+        require(bytes_of(after[3])[i] == ruled.byte, "the rule's length byte");
     }
 }
 
@@ -282,7 +282,7 @@ static void see_plain(bool after_start, const struct slice *before, const struct
     int32_t order = answer.number == 0 ? row_of(before[0], rows_in(before[0]) - 1)[0] : 0;
     see_outputs(before + 2, after + 2, words, order, answer);
     if (answer.number == 0)
-        see_extended(after_start, before, after[3]);
+        see_ruled(after_start, before, after);
 }
 
 static void see_unload(const struct slice *before, const struct slice *after, struct answer answer) {

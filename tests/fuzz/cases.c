@@ -217,15 +217,36 @@ static void see_split(struct arrays a, struct slice state, struct slice words) {
             "length bytes in two runs");
 }
 
-/* A word from the empty state is scored by its row of one word: p, and 16 as that row's lookup says left. */
-static void see_one_word(struct arrays a, struct slice words) {
-    struct scored one = run(a, empty_state(), words, 1, 1);
+/* Behind a word given as 3 the state is what start gives, and its 12 is met at that word. */
+static void see_end(struct arrays a, struct slice state, struct slice words, struct answer begun, struct slice begin) {
+    struct slice ended = block(words.count + 1, 4);
+    memcpy(ended.items, words.items, words.count * 4);
+    words_of(ended)[words.count] = BACKOFF_END_WORD;
+    struct scored scored = run(a, state, ended, ended.count, ended.count);
+    if (scored.answer.number == 0)
+        require(begun.number == 0 && same(scored.state, begin), "start's state behind a 3");
+    if (begun.number == 12 && scored.answer.number != 16)
+        require(scored.answer.number == 12, "start's 12 at a 3");
+}
+
+/* "With matched length L the points are that row's p plus the state's back-offs of lengths L to count"; 16 as the lookup of
+ * the row says left. */
+static void see_one_word(struct arrays a, struct slice state, struct slice words) {
+    struct scored one = run(a, state, words, 1, 1);
     if (one.answer.number != 0)
         return;
-    uint32_t unknown = BACKOFF_UNKNOWN_WORD;
+    uint32_t oldest_first[BACKOFF_ORDER_LIMIT];
     uint8_t byte = bytes_of(one.lengths)[0];
-    struct answer row = look_up(a, byte & BACKOFF_UNKNOWN_LENGTH ? &unknown : words_of(words), 1);
-    require(row.number == 0 && row.found == 1 && row.p == ints(one.points)[0], "a word's points are its row's p");
+    size_t matched = byte & 7;
+    int32_t owed = 0;
+    oldest_first[matched - 1] = byte & BACKOFF_UNKNOWN_LENGTH ? BACKOFF_UNKNOWN_WORD : words_of(words)[0];
+    for (size_t i = 1; i < matched; i++)
+        oldest_first[matched - 1 - i] = (uint32_t)ints(state)[i];
+    for (size_t length = matched; length <= (size_t)ints(state)[0]; length++)
+        owed += ints(state)[4 + length];
+    struct answer row = look_up(a, oldest_first, matched);
+    require(row.number == 0 && row.found == 1, "the matched row is found");
+    require(row.p + owed == ints(one.points)[0], "a word's points are its row's p and the state's back-offs");
     require((row.left == 1) == ((byte & BACKOFF_EXTENDED_LENGTH) != 0), "16 exactly where the row's lookup says left");
 }
 
@@ -270,8 +291,10 @@ static void lent_case(void) {
     for (size_t left = 6; left > 0; left--) {
         struct slice sequence = text(table, chance(80) ? 1 + below(5) : below(8));
         look_up(a, sequence.items, sequence.count);
-        see_split(a, chance(50) ? state : own_state(is_head(a.base, a.check) ? order_in(a.check) : 3), text(table, below(8)));
-        see_one_word(a, text(table, 1));
+        struct slice own = own_state(is_head(a.base, a.check) ? order_in(a.check) : 3);
+        see_split(a, chance(50) ? state : own, text(table, below(8)));
+        see_end(a, chance(50) ? state : own, text(table, below(4)), begun, state);
+        see_one_word(a, chance(50) ? empty_state() : own, text(table, 1));
     }
     struct slice rows, slots;
     if (!is_head(a.base, a.check))

@@ -184,14 +184,16 @@ void damage_list(struct slice *table) {
     }
 }
 
-/* Words of the list's rows, in their order or alone, and words that it may not have. */
+/* Words of the list's rows, in their order or alone, sentence ends, and words that it may not have. */
 struct slice text(struct slice table, size_t count) {
     static const uint32_t odd[] = {0, 1, 2, 3, 65535, 65536, 65537, 0x7FFFFFFF, 0x80000000, 0xFFFFFFFF};
     struct slice words = block(count, 4);
     size_t i = 0;
     while (i < count) {
         const int32_t *row = row_of(table, below(rows_in(table)));
-        if (chance(15))
+        if (chance(10))
+            words_of(words)[i++] = BACKOFF_END_WORD;
+        else if (chance(15))
             words_of(words)[i++] = chance(70) ? odd[below(10)] : (uint32_t)below(12);
         for (size_t j = 1; j <= (size_t)row[0] && i < count; j++)
             words_of(words)[i++] = (uint32_t)row[j];

@@ -157,16 +157,124 @@ static void spoil_run(struct backoff_total *total, int32_t *state, size_t words_
         lengths[words_len - 1] &= 15;
 }
 
+static bool is_root_child(const int32_t *check, size_t check_len, uint32_t word) {
+    return word + 1 < check_len && check[word + 1] == 0;
+}
+
+/* The state that a wrong library has behind a word, in place of the one that the real run left there; `first` is the state
+ * that the run was given. */
+static void spoil_end(const int32_t *base, const int32_t *check, size_t slots, uint32_t word, uint8_t byte,
+                      const int32_t *first, int32_t *state) {
+    if (has("run-ends-in-no-context") && word == BACKOFF_END_WORD)
+        memset(state, 0, 9 * sizeof *state);
+    if (has("run-ends-in-its-first-state") && word == BACKOFF_END_WORD)
+        memcpy(state, first, 9 * sizeof *state);
+    if (has("run-ends-at-unknown-words") && (byte & BACKOFF_UNKNOWN_LENGTH) != 0)
+        __real_backoff_start(base, slots, check, slots, state, 9);
+}
+
+/* The word that a wrong library scores, and the state before it. */
+static uint32_t spoil_word(const int32_t *base, const int32_t *check, size_t slots, uint32_t word, int32_t *state) {
+    int32_t begin[9];
+    bool starts = __real_backoff_start(base, slots, check, slots, begin, 9).number == 0;
+    if (has("run-scores-3-after-start") && word == BACKOFF_END_WORD && starts)
+        memcpy(state, begin, sizeof begin);
+    if (has("run-ends-at-a-3-in-the-state") && state[0] > 0 && state[1] == BACKOFF_END_WORD && starts)
+        memcpy(state, begin, sizeof begin);
+    if (has("run-ends-only-at-a-listed-3") && word == BACKOFF_END_WORD && !is_root_child(check, slots, word))
+        return BACKOFF_UNKNOWN_WORD;
+    return word;
+}
+
+/* Whether the fault comes between two words of a run. */
+static bool in_words(void) {
+    const char *fault = getenv("FAULT");
+    return strncmp(fault == NULL ? "" : fault, "run-ends-", 9) == 0 || has("run-scores-3-after-start");
+}
+
+/* A run word by word, so that a fault can come between two words; refusals are the real run's. */
+static struct backoff_total run_in_words(const int32_t *base, const int32_t *check, size_t slots, int32_t *state,
+                                         const uint32_t *words, size_t words_len, int32_t *points, uint8_t *lengths) {
+    struct backoff_total total = {0, 0, 0};
+    int32_t first[9], next[9];
+    memcpy(first, state, sizeof first);
+    memcpy(next, state, sizeof next);
+    for (size_t i = 0; i < words_len && total.number == 0; i++) {
+        uint32_t word = spoil_word(base, check, slots, words[i], next);
+        struct backoff_total one =
+            __real_backoff_run(base, slots, check, slots, next, 9, &word, 1, points + i, 1, lengths + i, 1);
+        spoil_end(base, check, slots, words[i], lengths[i], first, next);
+        total.number = one.number;
+        total.place = one.number == 0 ? 0 : (uint32_t)i + 1;
+        total.total = one.number == 0 ? total.total + one.total : 0;
+    }
+    if (total.number == 0)
+        memcpy(state, next, sizeof next);
+    for (size_t i = 0; total.number != 0 && i < words_len; i++) {
+        points[i] = 0;
+        lengths[i] = 0;
+    }
+    return total;
+}
+
+/* Word 2 with a sound marker, where it has none: a library that does not see start's 12 goes on. */
+static struct backoff_total run_without_starts_12(const int32_t *base, const int32_t *check, size_t slots, int32_t *state,
+                                                  const uint32_t *words, size_t words_len, int32_t *points,
+                                                  uint8_t *lengths) {
+    struct backoff_total total = {BACKOFF_BROKEN_NODE, 1, 0};
+    int32_t *copy = malloc(slots * sizeof *base);
+    if (copy != NULL && is_root_child(check, slots, BACKOFF_START_WORD)) {
+        memcpy(copy, base, slots * sizeof *base);
+        copy[BACKOFF_START_WORD + 1] = 1;
+        total = __real_backoff_run(copy, slots, check, slots, state, 9, words, words_len, points, words_len, lengths,
+                                   words_len);
+    }
+    free(copy);
+    return total;
+}
+
 struct backoff_total __wrap_backoff_run(const int32_t *base, size_t base_len, const int32_t *check, size_t check_len,
                                         int32_t *state, size_t state_len, const uint32_t *words, size_t words_len,
                                         int32_t *points, size_t points_len, uint8_t *lengths, size_t lengths_len) {
     int32_t *copy = has("run-accepts-the-older-head") ? malloc(check_len * sizeof *check) : NULL;
+    int32_t given[9] = {0};
+    if (state_len == 9)
+        memcpy(given, state, sizeof given);
     struct backoff_total total = __real_backoff_run(base, base_len, with_new_head(check, check_len, copy), check_len, state,
                                                     state_len, words, words_len, points, points_len, lengths, lengths_len);
     free(copy);
+    bool alone = words_len > 0 && words[words_len - 1] == BACKOFF_END_WORD && total.place == words_len;
+    if (has("run-misses-12-of-start") && total.number == 12 && words[total.place - 1] == BACKOFF_END_WORD)
+        return run_without_starts_12(base, check, base_len, state, words, words_len, points, lengths);
+    if (has("run-misses-12-of-start-behind-its-last-word") && total.number == 12 && alone)
+        return run_without_starts_12(base, check, base_len, state, words, words_len, points, lengths);
+    if (in_words() && total.number == 0) {
+        memcpy(state, given, sizeof given);
+        return run_in_words(base, check, base_len, state, words, words_len, points, lengths);
+    }
     spoil_run(&total, state, words_len, points, points_len, lengths, lengths_len);
     if (has("run-is-live-by-base") && total.number == 0 && words_len > 0)
         live_by_base(base, base_len, check, words[words_len - 1], state);
+    return total;
+}
+
+/* Plain scoring sentence by sentence, each by a call of its own. */
+static int64_t plain_in_sentences(const int32_t *table, size_t table_len, bool after_start, const uint32_t *words,
+                                  size_t words_len, int32_t *points, uint8_t *lengths) {
+    int64_t total = 0;
+    bool begin = after_start;
+    for (size_t from = 0, to = 0; from < words_len; from = to) {
+        bool alone = has("plain-scores-3-after-start") && words[from] == BACKOFF_END_WORD;
+        while (to < words_len && words[to] != BACKOFF_END_WORD)
+            to++;
+        if (to < words_len && (alone || !has("plain-scores-3-after-start")))
+            to++;
+        size_t count = to - from;
+        total += __real_backoff_plain(table, table_len, begin || alone, words + from, count, points + from, count,
+                                      lengths + from, count)
+                     .total;
+        begin = !has("plain-ends-in-no-context");
+    }
     return total;
 }
 
@@ -176,6 +284,8 @@ struct backoff_total __wrap_backoff_plain(const int32_t *table, size_t table_len
     bool begin = has("plain-never-begins-after-start") ? false : after_start;
     struct backoff_total total =
         __real_backoff_plain(table, table_len, begin, words, words_len, points, points_len, lengths, lengths_len);
+    if (total.number == 0 && (has("plain-ends-in-no-context") || has("plain-scores-3-after-start")))
+        total.total = plain_in_sentences(table, table_len, after_start, words, words_len, points, lengths);
     if (has("plain-writes-before-15") && total.number == 15 && lengths_len > 0)
         lengths[0] = 0xFF & ~lengths[0];
     if (has("plain-matches-one-word") && total.number == 0 && words_len > 0 && (lengths[0] & 8) == 0)

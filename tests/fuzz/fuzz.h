@@ -75,10 +75,16 @@ struct found {
     bool continued;
 };
 
+/* Points and length byte of a word. */
+struct ruled {
+    int32_t points;
+    uint8_t byte;
+};
+
 size_t rows_in(struct slice table);
 const int32_t *row_of(struct slice table, size_t row);
 struct found find_row(struct slice table, const uint32_t *words, size_t count);
-bool is_extended(struct slice table, bool after_start, struct slice words, size_t word, size_t matched);
+struct ruled score_by_rule(struct slice table, bool after_start, struct slice words, size_t word);
 struct slice state_after(struct slice table, bool after_start, struct slice words);
 int compare_rows(const void *a, const void *b);
 struct answer verdict_on(struct slice table);

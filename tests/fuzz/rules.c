@@ -56,35 +56,54 @@ static uint32_t replaced(struct slice table, uint32_t word) {
     return find_row(table, &word, 1).listed ? word : BACKOFF_UNKNOWN_WORD;
 }
 
-/* The newest words up to a word (numbered from 0), replaced, oldest first; a 2 stands before them all where start was used.
- * Gives how many there are of those wanted. */
-static size_t newest(struct slice table, bool after_start, struct slice words, size_t end, size_t wanted, uint32_t *found) {
-    size_t all = end + (after_start ? 1 : 0);
-    size_t count = wanted < all ? wanted : all;
-    for (size_t i = 0; i < count; i++) {
-        size_t at = all - count + i;
-        uint32_t word = BACKOFF_START_WORD;
-        if (!after_start)
-            word = words_of(words)[at];
-        else if (at > 0)
-            word = words_of(words)[at - 1];
-        found[i] = replaced(table, word);
-    }
+static size_t order_of(struct slice table) { return (size_t)row_of(table, rows_in(table) - 1)[0]; }
+
+/* How many of the words before a word (numbered from 0) its history has, n - 1 at most, and whether a 2 stands before them:
+ * where start was used and they are all that there are, or where the word before them is given as 3 (T-03). */
+static size_t history_words(struct slice words, size_t word, bool after_start, size_t most, bool *begins) {
+    size_t count = 0;
+    while (count < most && count < word && words_of(words)[word - count - 1] != BACKOFF_END_WORD)
+        count++;
+    *begins = count < most && (count < word || after_start);
     return count;
 }
 
-/* Whether some row puts a further word in front of the row of the matched length that ends with a word. */
-bool is_extended(struct slice table, bool after_start, struct slice words, size_t word, size_t matched) {
+/* The history of a word, replaced, oldest first; gives how many words it has. */
+static size_t history_of(struct slice table, bool after_start, struct slice words, size_t word, uint32_t *history) {
+    bool begins;
+    size_t count = history_words(words, word, after_start, order_of(table) - 1, &begins);
+    size_t at = 0;
+    if (begins)
+        history[at++] = replaced(table, BACKOFF_START_WORD);
+    for (size_t i = word - count; i < word; i++)
+        history[at++] = replaced(table, words_of(words)[i]);
+    return at;
+}
+
+/* "If history and word together are listed, the points are that row's p. Otherwise they are b of the history (0 if it is
+ * unlisted) plus the points of the word after the history without its oldest word." The length byte has the words of the row
+ * whose p was used, 8 if the word is unknown, and 16 if some row puts a further word in front of that row. */
+struct ruled score_by_rule(struct slice table, bool after_start, struct slice words, size_t word) {
     uint32_t row[BACKOFF_ORDER_LIMIT];
-    size_t count = newest(table, after_start, words, word + 1, matched, row);
-    return count == matched && find_row(table, row, count).extended;
+    struct ruled ruled = {0, 0};
+    size_t count = history_of(table, after_start, words, word, row);
+    row[count] = replaced(table, words_of(words)[word]);
+    size_t oldest = 0;
+    struct found found = find_row(table, row, count + 1);
+    for (; !found.listed; found = find_row(table, row + oldest, count + 1 - oldest)) {
+        ruled.points += find_row(table, row + oldest, count - oldest).b;
+        oldest++;
+    }
+    ruled.points += found.p;
+    ruled.byte = (uint8_t)(count + 1 - oldest + (row[count] == BACKOFF_UNKNOWN_WORD ? BACKOFF_UNKNOWN_LENGTH : 0) +
+                           (found.extended ? BACKOFF_EXTENDED_LENGTH : 0));
+    return ruled;
 }
 
 /* "The state after a history is its longest live suffix"; "a row is live if its b is not 0 or its f is 1". */
 struct slice state_after(struct slice table, bool after_start, struct slice words) {
     uint32_t history[BACKOFF_ORDER_LIMIT];
-    size_t order = (size_t)row_of(table, rows_in(table) - 1)[0];
-    size_t count = newest(table, after_start, words, words.count, order - 1, history);
+    size_t count = history_of(table, after_start, words, words.count, history);
     struct slice state = block(BACKOFF_STATE_LENGTH, 4);
     memset(state.items, 0, BACKOFF_STATE_LENGTH * 4);
     for (size_t length = 1; length <= count; length++) {

@@ -97,6 +97,17 @@ pub fn text(random: &mut Random, rows: &[Row], length: usize) -> Vec<u32> {
     words
 }
 
+/// A text with many sentence ends: each word is 3 in one case of `one_in`.
+pub fn ended_text(random: &mut Random, rows: &[Row], length: usize, one_in: usize) -> Vec<u32> {
+    let mut words = text(random, rows, length);
+    words.iter_mut().for_each(|word| {
+        if random.below(one_in) == 0 {
+            *word = 3;
+        }
+    });
+    words
+}
+
 /// The marks and some further words, the largest among them in one list of four.
 fn vocabulary(random: &mut Random) -> Vec<i32> {
     let highest = if random.chance(50) { 20 } else { LARGEST_WORD };

@@ -2,7 +2,7 @@
 
 use tests::damage::{self, Cells};
 use tests::guard::Guarded;
-use tests::lists::{self, table, text};
+use tests::lists::{self, ended_text, table, text};
 use tests::random::Random;
 use tests::reference::list::{Refusal, Row, ACCEPTED, MOST_ROWS};
 use tests::reference::rule::{plain, LONGEST_RUN};
@@ -59,6 +59,17 @@ fn with_no_context() {
     assert_eq!((total, &points[..], &lengths[..]), (-10_500, &[-6_000, -3_000, -1_500][..], &[17, 18, 2][..]));
 }
 
+/// After a 3 the history is `<s>` alone, also where the words before it had no context; the 3 itself is scored after its full history.
+#[test]
+fn sentence_ends() {
+    let mut random = Random::new(9);
+    let cells = table(&lists::sample());
+    let (_, total, points, lengths) = agreed(&mut random, &cells, false, &[4, 5, 3, 4, 5, 3], (6, 6));
+    assert_eq!((total, &points[..]), (-17_000, &[-6_000, -3_000, -1_500, -4_000, -1_000, -1_500][..]));
+    assert_eq!(lengths, [17, 18, 2, 2, 3, 2]);
+    assert_eq!(agreed(&mut random, &cells, true, &[3, 3, 5, 2, 4], (5, 5)).2, [-13_000, -13_000, -12_000, -991_000, -4_000]);
+}
+
 /// An unknown word whose row others put a word in front of: 8 and 16.
 #[test]
 fn unknown_and_extended() {
@@ -76,7 +87,7 @@ fn random_texts() {
     for i in 0..3_000 {
         let rows = lists::small(&mut random, 1 + i % 5);
         let length = random.below(30);
-        let words = text(&mut random, &rows, length);
+        let words = if i % 3 == 0 { ended_text(&mut random, &rows, length, 4) } else { text(&mut random, &rows, length) };
         let sizes = (length + random.below(3), length + random.below(3));
         for after_start in [false, true] {
             let (refusal, _, _, lengths) = agreed(&mut random, &table(&rows), after_start, &words, sizes);

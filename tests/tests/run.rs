@@ -3,7 +3,7 @@
 use std::collections::HashMap;
 use tests::arrays::{built, drawn, each_change, spread, Arrays};
 use tests::guard::Guarded;
-use tests::lists::{self, table, text};
+use tests::lists::{self, ended_text, table, text};
 use tests::random::Random;
 use tests::reference::list::{Refusal, Row, ACCEPTED, LARGEST_B, LARGEST_WORD, MOST_ROWS};
 use tests::reference::rule::{Rule, LONGEST_RUN};
@@ -95,6 +95,9 @@ fn build(rows: &[Row]) -> Arrays {
     arrays
 }
 
+/// The state after `<s>` over the sample.
+const AFTER_START: [i32; 9] = [1, 2, 0, 0, 0, -3_000, 0, 0, 0];
+
 /// K1 to K5: points of runs from start on the sample, and the states that they leave. Rows 5 3, 2 4, 4 5 and 2 4 5 put a word in front of
 /// 3, 4, 5 and 4 5: 16 in their bytes.
 #[test]
@@ -102,7 +105,7 @@ fn k1_to_k5() {
     let mut random = Random::new(1);
     let sample = build(&lists::sample());
     let state = started(&sample);
-    assert_eq!(state, [1, 2, 0, 0, 0, -3_000, 0, 0, 0]);
+    assert_eq!(state, AFTER_START);
     let cases: [(&[u32], &[i32], &[u8]); 4] = [
         (&[4, 5, 3], &[-4_000, -1_000, -1_500], &[2, 3, 2]),
         (&[5, 4, 3], &[-12_000, -7_000, -12_000], &[17, 17, 17]),
@@ -116,7 +119,7 @@ fn k1_to_k5() {
     }
     let after = agreed_exact(&mut random, &sample, &state, &[4, 5]).state;
     assert_eq!(after, [1, 5, 0, 0, 0, -1_000, 0, 0, 0]);
-    assert_eq!(agreed_exact(&mut random, &sample, &after, &[3]).state, EMPTY);
+    assert_eq!(agreed_exact(&mut random, &sample, &after, &[3]).state, AFTER_START);
     // Without context.
     let outcome = agreed_exact(&mut random, &sample, &EMPTY, &[4, 5, 3]);
     assert_eq!((&outcome.points[..], &outcome.lengths[..]), (&[-6_000, -3_000, -1_500][..], &[17, 18, 2][..]));
@@ -161,17 +164,118 @@ fn live_but_not_by_e() {
     for (packed, live) in
         [(0, false), (2, false), (1, true), (3, true), (4, true), (6, true), (-4, true), (-2, true), (-3_960_000, true), (3_960_002, true)]
     {
-        // The markers of rows 3 and 4 5; that of row 5 has b.
-        (arrays.base[9], arrays.base[17]) = (packed, packed);
+        // The markers of rows 1 and 4 5; that of row 5 has b.
+        (arrays.base[7], arrays.base[17]) = (packed, packed);
         let b = packed >> 2;
-        let expected = if live { [1, 3, 0, 0, 0, b, 0, 0, 0] } else { EMPTY };
-        assert_eq!(agreed_exact(&mut random, &arrays, &EMPTY, &[3]).state, expected, "{packed}");
+        let expected = if live { [1, 1, 0, 0, 0, b, 0, 0, 0] } else { EMPTY };
+        assert_eq!(agreed_exact(&mut random, &arrays, &EMPTY, &[9]).state, expected, "{packed}");
         let expected = if live { [2, 5, 4, 0, 0, -1_000, b, 0, 0] } else { [1, 5, 0, 0, 0, -1_000, 0, 0, 0] };
         assert_eq!(agreed_exact(&mut random, &arrays, &EMPTY, &[4, 5]).state, expected, "{packed}");
         let mut after_start = arrays.clone();
         after_start.base[8] = packed;
         let expected = if live { [1, 2, 0, 0, 0, b, 0, 0, 0] } else { EMPTY };
         assert_eq!(agreed_start(&after_start, &[3; 9]), (ACCEPTED, expected.to_vec()), "{packed}");
+        assert_eq!(agreed_exact(&mut random, &after_start, &EMPTY, &[4, 3]).state, expected, "{packed}");
+    }
+}
+
+/// After a word given as 3 the history is `<s>` alone: the next sentence is scored as from start, whatever stood before. The 3 itself is scored
+/// after its full history.
+#[test]
+fn sentence_ends() {
+    let mut random = Random::new(20);
+    let sample = build(&lists::sample());
+    let cases: [(&[i32; 9], &[u32], &[i32], &[u8]); 6] = [
+        (&AFTER_START, &[4, 5, 3, 4, 5, 3], &[-4_000, -1_000, -1_500, -4_000, -1_000, -1_500], &[2, 3, 2, 2, 3, 2]),
+        (&EMPTY, &[4, 5, 3, 4, 5, 3], &[-6_000, -3_000, -1_500, -4_000, -1_000, -1_500], &[17, 18, 2, 2, 3, 2]),
+        (&EMPTY, &[3, 3, 3], &[-10_000, -13_000, -13_000], &[17, 17, 17]),
+        (&EMPTY, &[3, 9, 5], &[-10_000, -23_000, -9_000], &[17, 9, 17]),
+        (&EMPTY, &[3, 2, 4], &[-10_000, -993_000, -4_000], &[17, 1, 2]),
+        (&AFTER_START, &[4, 3, 5, 3], &[-4_000, -12_500, -12_000, -1_500], &[2, 17, 17, 2]),
+    ];
+    for (state, words, points, lengths) in cases {
+        let outcome = agreed_exact(&mut random, &sample, state, words);
+        assert_eq!((&outcome.points[..], &outcome.lengths[..]), (points, lengths), "{words:?}");
+        assert_eq!(outcome.state == AFTER_START, words.ends_with(&[3]), "{words:?}");
+    }
+    // In two runs.
+    let first = agreed_exact(&mut random, &sample, &EMPTY, &[5, 3]);
+    assert_eq!(agreed_exact(&mut random, &sample, &first.state, &[4]).points, [-4_000]);
+    // Order 1: the state is empty, as start's.
+    let single = build(&lists::small(&mut random, 1));
+    assert_eq!(agreed_exact(&mut random, &single, &EMPTY, &[1, 3]).state, EMPTY);
+}
+
+/// The word counts as it is given: 3 ends a sentence also where it is unlisted and scored as 1, a word that is scored as 1 does not, nor does a 3 in a
+/// state of the caller's own making.
+#[test]
+fn given_as_3() {
+    let mut random = Random::new(21);
+    let mut rows = lists::sample();
+    rows[0].b = -70;
+    let mut arrays = built(&rows, 0);
+    arrays.check[4] = 7;
+    let outcome = agreed_exact(&mut random, &arrays, &EMPTY, &[3, 4, 9, 4]);
+    assert_eq!((&outcome.points[..], &outcome.lengths[..]), (&[-20_000, -4_000, -22_500, -6_070][..], &[9, 2, 9, 17][..]));
+    assert_eq!(agreed_exact(&mut random, &arrays, &EMPTY, &[4, 3]).state, AFTER_START);
+    for word in [0, 9, 65_539, u32::MAX] {
+        assert_eq!(agreed_exact(&mut random, &arrays, &EMPTY, &[word]).state, [1, 1, 0, 0, 0, -70, 0, 0, 0], "{word}");
+    }
+    for state in [[1, 3, 0, 0, 0, -5, 0, 0, 0], [2, 3, 3, 0, 0, -2, -3, 0, 0]] {
+        assert_eq!(agreed_exact(&mut random, &arrays, &state, &[4]).points, [-6_005], "{state:?}");
+    }
+}
+
+/// Where start gives 12, a run gives it at its first 3, the last word of the run too; words before it do not meet it.
+#[test]
+fn start_refuses_at_a_3() {
+    let mut random = Random::new(22);
+    let sample = built(&lists::sample(), 0);
+    let changes: [fn(&mut Arrays); 4] = [
+        |arrays| arrays.base[3] = 0,
+        |arrays| arrays.base[8] = 4 * LARGEST_B + 4,
+        |arrays| arrays.check[8] = 0,
+        // Neither 2 nor 1.
+        |arrays| (arrays.check[2], arrays.check[3]) = (7, 7),
+    ];
+    for change in changes {
+        let mut broken = sample.clone();
+        change(&mut broken);
+        assert_eq!(agreed_start(&broken, &[5; 9]).0, (12, 0));
+        assert_eq!(agreed_exact(&mut random, &broken, &EMPTY, &[4, 5, 4]).refusal, ACCEPTED);
+        for (words, place) in [(&[3][..], 1), (&[4, 3], 2), (&[4, 5, 3, 4, 3], 3), (&[3, 3], 1)] {
+            let outcome = agreed(&mut random, &broken, &EMPTY, words, (6, 7));
+            assert_eq!(outcome.refusal, (12, place), "{words:?}");
+            assert!(outcome.points[..words.len()].iter().all(|&p| p == 0) && outcome.lengths[..words.len()].iter().all(|&byte| byte == 0));
+        }
+        // A 3 of the state is not met.
+        assert_eq!(agreed_exact(&mut random, &broken, &[1, 3, 0, 0, 0, 0, 0, 0, 0], &[4]).refusal, ACCEPTED);
+    }
+    // Start's walk goes on with 1 where 2 is no child.
+    let mut replaced = sample.clone();
+    replaced.check[3] = 7;
+    replaced.base[7] = -280;
+    assert_eq!(agreed_exact(&mut random, &replaced, &EMPTY, &[4, 3]).state, [1, 1, 0, 0, 0, -70, 0, 0, 0]);
+}
+
+/// One run over many sentences gives what a run from start gives for each of them, over any array.
+#[test]
+fn sentences_apart() {
+    let mut random = Random::new(23);
+    for i in 0..2_000 {
+        let rows = lists::small(&mut random, 1 + i % 5);
+        let arrays = if i % 2 == 0 { build(&rows) } else { spread(&mut random, &rows) };
+        let words = ended_text(&mut random, &rows, 20, 1 + i % 7);
+        let begin = started(&arrays);
+        let whole = agreed_exact(&mut random, &arrays, &begin, &words);
+        let (mut points, mut lengths, mut total) = (vec![], vec![], 0);
+        for sentence in words.split_inclusive(|&word| word == 3) {
+            let part = agreed_exact(&mut random, &arrays, &begin, sentence);
+            points.extend(&part.points);
+            lengths.extend(&part.lengths);
+            total += part.total;
+        }
+        assert_eq!((whole.points, whole.lengths, whole.total), (points, lengths, total), "{words:?}");
     }
 }
 
@@ -295,7 +399,7 @@ fn runs_in_a_row() {
         let mut row = InARow::new(&rows, random.chance(50));
         for _ in 0..random.below(8) {
             let length = random.below(12);
-            let words = text(&mut random, &rows, length);
+            let words = if i % 3 == 0 { ended_text(&mut random, &rows, length, 3) } else { text(&mut random, &rows, length) };
             let sizes = (length + random.below(3), length + random.below(3));
             let shorter = random.below(length.max(1));
             match random.below(8) {
@@ -337,7 +441,7 @@ fn equal_states_score_alike() {
         let mut histories: HashMap<Vec<i32>, Vec<u32>> = HashMap::new();
         for _ in 0..10 {
             let length = random.below(6);
-            let history = text(&mut random, &rows, length);
+            let history = if i % 3 == 0 { ended_text(&mut random, &rows, length, 3) } else { text(&mut random, &rows, length) };
             let state = agreed_exact(&mut random, &arrays, &EMPTY, &history).state;
             let Some(other) = histories.insert(state.clone(), history.clone()) else { continue };
             let words = text(&mut random, &rows, 6);
@@ -418,7 +522,7 @@ fn own_states() {
         let rows = lists::small(&mut random, order);
         let arrays = if i % 2 == 0 { built(&rows, 0) } else { spread(&mut random, &rows) };
         for _ in 0..10 {
-            let words = text(&mut random, &rows, 5);
+            let words = ended_text(&mut random, &rows, 5, 4);
             let state = own_state(&mut random, order as i32, &words);
             assert_eq!(agreed_exact(&mut random, &arrays, &state, &words).refusal, ACCEPTED);
         }
@@ -541,23 +645,28 @@ fn start_without_its_word() {
 struct Met {
     numbers: [usize; 17],
     places: [usize; 3],
+    /// 12 at a 3, and accepted with a 3 inside.
+    ends: [usize; 2],
 }
 
 impl Met {
-    fn add(&mut self, (number, place): Refusal, words: usize) {
+    fn add(&mut self, (number, place): Refusal, words: &[u32]) {
         self.numbers[number as usize] += 1;
         if number == 12 {
             let at = match place as usize {
                 1 => 0,
-                p if p == words => 2,
+                p if p == words.len() => 2,
                 _ => 1,
             };
             self.places[at] += 1;
+            self.ends[0] += (words[place as usize - 1] == 3) as usize;
         }
+        self.ends[1] += (number == 0 && words.contains(&3)) as usize;
     }
 
     fn assert_all(&self, numbers: &[usize]) {
-        assert!(numbers.iter().all(|&number| self.numbers[number] > 0) && self.places.iter().all(|&count| count > 0), "{self:?}");
+        let places = self.places.iter().chain(&self.ends);
+        assert!(numbers.iter().all(|&number| self.numbers[number] > 0) && places.into_iter().all(|&count| count > 0), "{self:?}");
     }
 }
 
@@ -570,14 +679,14 @@ fn changed_arrays() {
     for i in 0..40 {
         let order = 1 + i % 5;
         let rows = lists::tiny(&mut random, order);
-        let texts: Vec<Vec<u32>> = (0..4).map(|_| text(&mut random, &rows, 6)).collect();
+        let texts: Vec<Vec<u32>> = (0..4).map(|k| ended_text(&mut random, &rows, 6, 2 + 4 * k)).collect();
         each_change(&built(&rows, 1), |changed| {
             let (refusal, state) = agreed_start(changed, &[8; 9]);
             starts[refusal.0 as usize] += 1;
             for words in &texts {
                 let own = own_state(&mut random, order as i32, words);
-                met.add(agreed_exact(&mut random, changed, &state, words).refusal, 6);
-                met.add(agreed_exact(&mut random, changed, &own, words).refusal, 6);
+                met.add(agreed_exact(&mut random, changed, &state, words).refusal, words);
+                met.add(agreed_exact(&mut random, changed, &own, words).refusal, words);
             }
         });
     }
@@ -592,11 +701,11 @@ fn drawn_arrays() {
     let mut met = Met::default();
     for _ in 0..50_000 {
         let arrays = drawn(&mut random);
-        let words: Vec<u32> = (0..4).map(|_| random.below(30) as u32).collect();
+        let words: Vec<u32> = (0..4).map(|_| if random.chance(20) { 3 } else { random.below(30) as u32 }).collect();
         let (_, state) = agreed_start(&arrays, &[8; 9]);
         let own = own_state(&mut random, arrays.order(), &words);
-        met.add(agreed_exact(&mut random, &arrays, &state, &words).refusal, 4);
-        met.add(agreed_exact(&mut random, &arrays, &own, &words).refusal, 4);
+        met.add(agreed_exact(&mut random, &arrays, &state, &words).refusal, &words);
+        met.add(agreed_exact(&mut random, &arrays, &own, &words).refusal, &words);
     }
     met.assert_all(&[0, 12]);
 }

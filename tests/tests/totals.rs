@@ -173,6 +173,14 @@ fn random_lists_and_texts() {
     assert!(built > 100 && no_room > 20, "{built} {no_room}");
 }
 
+/// A 3 within a line ends the context there, as in any run; the line is one sentence all the same.
+#[test]
+fn sentence_end_within_a_line() {
+    let text = line([4, 5, 3, 4, 5]) + &line([4, 5]) + &line([3]) + &line([3, 4]);
+    let expected = "       1       5       0          -13000\n       2       2       0           -6500\n       3       1       0          -26000\n       4       2       0          -29500\n";
+    assert_eq!(agreed(sample(), text), expected);
+}
+
 /// All that a list can be refused for comes through its file: 3 to 9 by damage; numbers that leave their columns give 13.
 #[test]
 fn damaged_lists() {

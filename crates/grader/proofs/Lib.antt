@@ -1,6 +1,7 @@
 -- The theorems over the calls' outcomes, and a law of lists.
 pub mod RunsInARow
 pub mod LeftExtension
+pub mod SentencesApart
 pub mod MarkedCases
 pub mod Returns
 pub mod Lookups

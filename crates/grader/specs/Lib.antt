@@ -1,5 +1,6 @@
 -- The answers that cross to C, and the statements over the calls.
 pub mod Exports
 pub mod RunsInARow
+pub mod SentencesApart
 pub mod MarkedCases
 pub mod Returns

@@ -33,6 +33,10 @@ sampleArray = arrayOf (sampleBuilt 20)
 abbrev pub asked : List ℕ → Run
 asked ws = record { words = ws; points = replicate (length ws) (pos 7); lengths = replicate (length ws) 7 }
 
+-- the state (2), which start gives
+abbrev pub begun : List ℤ
+begun = pos 1 ∷ pos 2 ∷ pos 0 ∷ pos 0 ∷ pos 0 ∷ minus 3000 ∷ pos 0 ∷ pos 0 ∷ pos 0 ∷ []
+
 -- the words scored from start's state, and by plain scoring after `<s>`, give this total, these points and these length bytes, and leave this state
 pub record Scores (ws : List ℕ) (total : ℤ) (points : List ℤ) (lengths : List ℕ) (end : List ℤ) : Type 0 where
   pub run : runOutcome sampleArray (startOutcome sampleArray nineZeros .state) (asked ws) ≡ record { number = 0; place = 0; total = total; end = end; points = points; lengths = lengths }
@@ -40,14 +44,14 @@ pub record Scores (ws : List ℕ) (total : ℤ) (points : List ℤ) (lengths : L
 
 pub record MarkedCases : Type 0 where
   -- "K1 from start, 4 5 3: −4000, −1000, −1500."
-  pub k1 : Scores (4 ∷ 5 ∷ 3 ∷ []) (minus 6500) (minus 4000 ∷ minus 1000 ∷ minus 1500 ∷ []) (2 ∷ 3 ∷ 2 ∷ []) nineZeros
+  pub k1 : Scores (4 ∷ 5 ∷ 3 ∷ []) (minus 6500) (minus 4000 ∷ minus 1000 ∷ minus 1500 ∷ []) (2 ∷ 3 ∷ 2 ∷ []) begun
   -- "K2 5 4 3: −12000, −7000, −12000."
-  pub k2 : Scores (5 ∷ 4 ∷ 3 ∷ []) (minus 31000) (minus 12000 ∷ minus 7000 ∷ minus 12000 ∷ []) (17 ∷ 17 ∷ 17 ∷ []) nineZeros
+  pub k2 : Scores (5 ∷ 4 ∷ 3 ∷ []) (minus 31000) (minus 12000 ∷ minus 7000 ∷ minus 12000 ∷ []) (17 ∷ 17 ∷ 17 ∷ []) begun
   -- "K3 9 3: −23000, −10000."
-  pub k3 : Scores (9 ∷ 3 ∷ []) (minus 33000) (minus 23000 ∷ minus 10000 ∷ []) (9 ∷ 17 ∷ []) nineZeros
+  pub k3 : Scores (9 ∷ 3 ∷ []) (minus 33000) (minus 23000 ∷ minus 10000 ∷ []) (9 ∷ 17 ∷ []) begun
   -- "K4 3 alone: −13000."
-  pub k4 : Scores (3 ∷ []) (minus 13000) (minus 13000 ∷ []) (17 ∷ []) nineZeros
-  -- "K5 state after `<s>` 4 5 is (5), after a further 3 empty": for the latter, see K1
+  pub k4 : Scores (3 ∷ []) (minus 13000) (minus 13000 ∷ []) (17 ∷ []) begun
+  -- "K5 state after `<s>` 4 5 is (5)", and after a further 3 "K5's last state becomes (2)": for the latter, see K1
   pub k5 : Scores (4 ∷ 5 ∷ []) (minus 5000) (minus 4000 ∷ minus 1000 ∷ []) (2 ∷ 3 ∷ []) (pos 1 ∷ pos 5 ∷ pos 0 ∷ pos 0 ∷ pos 0 ∷ minus 1000 ∷ pos 0 ∷ pos 0 ∷ pos 0 ∷ [])
   -- "K6 lookup 2 4: −4000, −500; 5 4: not found."
   pub k6-listed : lookupOutcome (sampleBuilt 20 .base) (sampleBuilt 20 .check) (2 ∷ 4 ∷ []) ≡ Found (minus 4000) (minus 500) false

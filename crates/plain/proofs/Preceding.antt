@@ -1,22 +1,23 @@
 -- The newest words, as the code holds them, are the newest of all the preceding words, and the rule after them is the rule after all of these.
 -- Assumes nothing.
 use mathlib.Core.Path.{_≡_, refl, sym, ap, ap₂, _∙_}
-use mathlib.Core.Bool.{Bool, true, false}
+use mathlib.Core.Bool.{Bool, true, false, cond}
 use mathlib.Core.List.{List, [], _∷_, map, head-eq-of-cons-eq, tail-eq-of-cons-eq}
 use Prim.Native.Nat.{ℕ, zero, suc, _+_, _-_, _<_, _≤_, min}
 use native.Mathlib.Omega.{arith}
 use lib.ListN.{length, take, length-map}
 use lib.Seq.{take-take}
+use lib.Dec.{eqb}
 use Rattle.integer.specs.Integer.{between, upTo}
-use Rattle.backoff.specs.Limits.{orderLimit, startWord}
+use Rattle.backoff.specs.Limits.{orderLimit, startWord, endWord}
 use Rattle.backoff.specs.Words.{isWord, areWords}
 use Rattle.backoff.specs.Model.{Model, AcceptedModel, listed, reach}
-use Rattle.backoff.specs.Rule.{replaced, scoreAfter, historyLength, lengthByte, rule, ruleByte}
+use Rattle.backoff.specs.Rule.{replaced, scoreAfter, historyLength, lengthByte, rule, ruleByte, grow}
 use Rattle.backoff.specs.Run.{front}
 use Rattle.list.specs.Table.{wordsOf}
 use Rattle.backoff.proofs.Rule.{scoreAfter-matched, matchedHistory-le, replaced-listed}
 use Rattle.plain.specs.declared.Recent.{Recent}
-use Rattle.plain.specs.Held.{FiveWords, lastWord, wordsBefore, begun, pushed}
+use Rattle.plain.specs.Held.{FiveWords, lastWord, wordsBefore, begun, pushed, kept}
 use Rattle.plain.proofs.Words.{replaced-known, replaced-is-word}
 use Rattle.plain.proofs.Newest.{last-pushed, before-pushed, five-pushed}
 
@@ -58,6 +59,15 @@ module _ {M : Model} {n : ℕ} (A : AcceptedModel M) (low : 1 ≤ n) where
             rw (last-pushed (r .words) v (o .places) a, before-pushed (r .words) v (o .places) a, size)
             (newest-more v (r .count) (min n (r .count + 1) - 1) (lastWord (r .words) ∷ wordsBefore (r .words)) (map (replaced M) h) (omega arith) (omega arith) (o .newest));
       }
+
+  -- once the word w is scored
+  pub kept-holds : {r : Recent} {h : List ℕ} (w : ℕ) → Holds M n r (w ∷ h) → Holds M n (kept r w) (grow M h w)
+  unfolding kept grow front
+  kept-holds {r} {h} w o = go (eqb w endWord)
+    where
+      go : (b : Bool) → Holds M n (cond b (begun true) r) (cond b (startWord ∷ []) (w ∷ h))
+      go true = begun-holds true
+      go false = o
 
 pub matched-limit : (M : Model) (k : ℕ) (g : List ℕ) (v : ℕ) → k < orderLimit → scoreAfter M k g v .matched ≤ orderLimit
 matched-limit M k g v h = omega (arith, scoreAfter-matched M k g v, matchedHistory-le M k g v)

@@ -17,8 +17,8 @@ use Rattle.backoff.specs.Rule.{Score, grow, scoreAfter, rule, ruleByte, rulePoi
 use Rattle.backoff.specs.Run.{front, written}
 use Rattle.plain.specs.declared.Recent.{Recent}
 use Rattle.plain.specs.declared.Scored.{Scored}
-use Rattle.plain.specs.Held.{IsScored, FiveWords, lastWord, wordsBefore, begun, pushed}
-use Rattle.plain.proofs.Preceding.{Holds, begun-holds, pushed-holds, rule-held, byte-held, last-listed}
+use Rattle.plain.specs.Held.{IsScored, FiveWords, lastWord, wordsBefore, begun, pushed, kept}
+use Rattle.plain.proofs.Preceding.{Holds, begun-holds, pushed-holds, kept-holds, rule-held, byte-held, last-listed}
 use Rattle.plain.proofs.Progress.{Progress, progress-none, progress-more, progress-length, progress-end, Summed, summed-none, summed-more, summed-end, total-fits}
 
 -- the rule over the words that are left
@@ -106,12 +106,11 @@ module _ {M : Model} {n : ℕ} {b : Bool} {ws : List ℕ} {points₀ : List ℤ}
         bytes-rest =
             rw (k .byte-is ∙ byte-held order (low A order) next-holds) (bytes-step M (s .before) ws i l)
 
-        pub scoring-more : length ws ≤ length points₀ → length ws ≤ length lengths₀ → Scoring M n b ws points₀ lengths₀ (set points i (r .points)) (set lengths i (r .byte)) next (total +ℤ r .points) (i + 1)
-        unfolding grow
+        pub scoring-more : length ws ≤ length points₀ → length ws ≤ length lengths₀ → Scoring M n b ws points₀ lengths₀ (set points i (r .points)) (set lengths i (r .byte)) (kept next (getD ws i 0)) (total +ℤ r .points) (i + 1)
         scoring-more room space = record {
           within = omega arith;
-          before = getD ws i 0 ∷ s .before;
-          holds = next-holds;
+          before = grow M (s .before) (getD ws i 0);
+          holds = kept-holds A (low A order) (getD ws i 0) next-holds;
           points-left = progress-more (rw points-rest at (s .points-left)) (omega arith);
           lengths-left = progress-more (rw bytes-rest at (s .lengths-left)) (omega arith);
           total-left = summed-more (rw points-rest at (s .total-left)) f;

@@ -1,11 +1,12 @@
 -- How the code holds a row, a score and the newest words. Only private contracts cite it. Assumes nothing.
 use mathlib.Core.Path.{_≡_}
-use mathlib.Core.Bool.{Bool, true, false}
+use mathlib.Core.Bool.{Bool, true, false, cond}
 use mathlib.Core.List.{List, [], _∷_, _++_, reverse}
 use Prim.Native.Nat.{ℕ, _+_, _<_, min}
 use lib.ListN.{length, getD, take, drop}
 use lib.IntN.{ℤ, pos}
-use Rattle.backoff.specs.Limits.{orderLimit, unknownWord, startWord}
+use lib.Dec.{eqb}
+use Rattle.backoff.specs.Limits.{orderLimit, unknownWord, startWord, endWord}
 use Rattle.backoff.specs.Words.{areWords}
 use Rattle.backoff.specs.Model.{Model, listed, probability, backoff, extended}
 use Rattle.backoff.specs.Rule as rule
@@ -59,3 +60,7 @@ begun false = record { words = pos unknownWord ∷ pos unknownWord ∷ pos unkno
 -- the word w, replaced, behind them: at most n words are in use
 unfoldable pub pushed : Model → ℕ → Recent → ℕ → Recent
 pushed M n r w = record { words = drop 1 (r .words) ++ (pos (rule.replaced M w) ∷ []); count = min n (r .count + 1) }
+
+-- once the given word w is scored: after a 3 `<s>` alone
+unfoldable pub kept : Recent → ℕ → Recent
+kept r w = cond (eqb w endWord) (begun true) r

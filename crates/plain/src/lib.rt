@@ -16,7 +16,7 @@ ghost use Rattle.list.specs.Table.{orderOf, wordOf, wordsOf};
 ghost use Rattle.list.specs.Check.{verdict};
 ghost use Rattle.list.specs.ListModel.{modelOf};
 ghost use Rattle.plain.specs.Plain.{runOf, plainOutcome, Answers, PlainMeans};
-ghost use Rattle.plain.specs.Held.{IsRow, IsScore, IsScored, FiveWords, lastWord, wordsBefore, begun, pushed};
+ghost use Rattle.plain.specs.Held.{IsRow, IsScore, IsScored, FiveWords, lastWord, wordsBefore, begun, pushed, kept};
 use backoff::Verdict;
 use backoff::WORD_LIMIT;
 use list::Found;
@@ -191,6 +191,16 @@ fn push(table: &[i32], n: usize, recent: Recent, word: u32) -> Recent
     Recent { words, count }
 }
 
+// The newest words once the given word is scored: after a 3 `<s>` alone.
+fn keep(recent: Recent, word: u32) -> Recent
+    ensures { λ r. ⌜ r ≡ kept recent word ⌝ }
+{
+    if word == backoff::END_WORD {
+        return begin(true);
+    }
+    recent
+}
+
 struct Scored {
     points: i32,
     byte: u8,
@@ -227,12 +237,14 @@ fn score_words(
     let mut recent = begin(after_start);
     let mut total: i64 = 0;
     for i in 0..words.len() {
-        recent = push(table, n, recent, words[i]);
-        let scored = score_last(table, recent);
+        let word = words[i];
+        let newest = push(table, n, recent, word);
+        let scored = score_last(table, newest);
         let p = scored.points;
         points[i] = p;
         lengths[i] = scored.byte;
         total += p as i64;
+        recent = keep(newest, word);
     }
     total
 }

@@ -6,6 +6,7 @@ pub mod Written
 pub mod Rows
 pub mod Walking
 pub mod Owing
+pub mod Beginning
 pub mod Stepping
 pub mod Running
 pub mod Outcomes

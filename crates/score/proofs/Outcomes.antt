@@ -1,8 +1,8 @@
 -- The outcomes of start and run mean what specs/Meaning.antt says, over any lent arrays. Assumes nothing.
-use mathlib.Core.Path.{_≡_, refl, sym, ap, _∙_}
+use mathlib.Core.Path.{_≡_, refl, ap, _∙_}
 use mathlib.Core.Logic.{_⊎_, inl, inr}
 use mathlib.Core.Bool.{Bool, true, false, cond}
-use mathlib.Core.List.{List, [], _∷_}
+use mathlib.Core.List.{List}
 use mathlib.Core.Option.{Option, none, some}
 use Prim.Native.Nat.{ℕ}
 use native.Mathlib.Omega.{arith}
@@ -13,17 +13,16 @@ use lib.IntN.{ℤ, pos}
 use borrow.Author.Tests.{eqb-true, eqb-false, eq-eqb}
 use Rattle.backoff.specs.Limits.{startWord}
 use Rattle.backoff.specs.Refusal.{arrayHead, brokenNode, badState}
-use Rattle.backoff.specs.State.{State, empty, stepNext, start}
-use Rattle.backoff.specs.Run.{Run, Answer, sizeRefusal, refusal, accepted, written, refusedRun, acceptedRun, runPoints, runBytes, runEnd}
+use Rattle.backoff.specs.State.{empty, stepNext, start}
+use Rattle.backoff.specs.Run.{Run, sizeRefusal, refusal, accepted, written, refusedRun, acceptedRun, runPoints, runBytes, runEnd}
 use Rattle.backoff.specs.NineNumbers.{nine, nineZeros, stateIn, stateOk}
-use Rattle.backoff.specs.Store.{Store, Step, scored, stuck, step, ran, onward, runOver, refusedAt, brokenRun, ranAnswer, runIn, runOutcome, refusedStart, Started, startStep, startIn, startOutcome}
+use Rattle.backoff.specs.Store.{Store, wordStep, step, runOver, refusedAt, brokenRun, ranAnswer, runIn, runOutcome, refusedStart, startStep, startIn, startOutcome}
 use Rattle.backoff.proofs.Run.{Fits, fits, length-runPoints, length-runBytes}
 use Rattle.backoff.proofs.Store.{modelRan, stuckAt, step-is, runOver-cases}
 use Rattle.double_array.specs.DoubleArray.{isArray, orderIn, storeIn, opened}
 use Rattle.double_array.proofs.DoubleArray.{opened-some, opened-none}
 use Rattle.score.specs.Inner.{earlyRefusal}
 use Rattle.score.specs.Meaning.{rowsIn, StartMeans, RunMeans}
-use Rattle.score.proofs.Carried.{zeros-empty}
 
 -- ---- the outcome of a run, by what meets it before its words are scored
 
@@ -78,31 +77,15 @@ module _ (base check : List ℤ) (l : List ℤ) (r : Run) (none-meets : earlyRef
 
 -- ---- the outcome of start, by what 11 says
 
--- what start returns of a run's answer
-abbrev pub startedBy : Answer (List ℤ) → Started
-startedBy a = record { number = a .number; place = 0; state = a .end }
-
--- a run of one word, as start tells it
-run-of-one : (S : Store) (s : State) (w : ℕ) (points : List ℤ) (lengths : List ℕ) → startStep (step S s w) ≡ startedBy (ranAnswer nineZeros (record { words = w ∷ []; points = points; lengths = lengths }) (runOver S (w ∷ []) s 1))
-unfolding runOver
-run-of-one S s w points lengths = go (step S s w)
-  where
-    go : (t : Step) → startStep t ≡ startedBy (ranAnswer nineZeros (record { words = w ∷ []; points = points; lengths = lengths }) (onward (λ (u : State). ran [] [] u) 1 t))
-    go (scored x y u) = unfold acceptedRun in refl
-    go stuck = unfold brokenRun in refl
-
 module _ (base check : List ℤ) where
   pub start-refused : isArray base check ≡ false → startOutcome (opened base check) nineZeros ≡ refusedStart arrayHead
   unfolding startOutcome
   start-refused e = rw (opened-none base check e)
 
-  start-steps : isArray base check ≡ true → startOutcome (opened base check) nineZeros ≡ startStep (step (storeIn base check) empty startWord)
-  unfolding startOutcome
+  -- the step at `<s>` is that of any word which is not 3
+  pub start-steps : isArray base check ≡ true → startOutcome (opened base check) nineZeros ≡ startStep (wordStep (storeIn base check) empty startWord)
+  unfolding startOutcome step
   start-steps e = rw (opened-some base check e)
-
-  -- it is told by a run of `<s>` from the empty state
-  pub start-runs : isArray base check ≡ true → (l points : List ℤ) (lengths : List ℕ) → l ≡ nineZeros → startedBy (ranAnswer l (record { words = startWord ∷ []; points = points; lengths = lengths }) (runOver (storeIn base check) (startWord ∷ []) (stateIn l) 1)) ≡ startOutcome (opened base check) nineZeros
-  start-runs h l points lengths e = rw (e, zeros-empty) (sym (run-of-one (storeIn base check) empty startWord points lengths)) ∙ sym (start-steps h)
 
 -- ---- what the outcomes mean
 

@@ -5,34 +5,38 @@ use mathlib.Core.List.{List, [], _∷_, map}
 use mathlib.Core.Option.{Option, none, some}
 use Prim.Native.Nat.{ℕ, suc, _-_, _≤_, _<_, min}
 use native.Mathlib.Omega.{arith}
-use borrow.Author.Tests.{leb-true}
-use lib.Dec.{leb}
+use borrow.Author.Tests.{leb-true, eqb-true}
+use lib.Dec.{leb, eqb}
 use lib.ListN.{length, take}
 use lib.Seq.{take-take, length-take-le}
 use lib.IntN.{ℤ}
 use Rattle.integer.proofs.Ranges.{and-right}
-use Rattle.backoff.specs.Limits.{unknownWord, wordLimit, orderLimit}
+use Rattle.backoff.specs.Limits.{unknownWord, startWord, endWord, wordLimit, orderLimit}
 use Rattle.backoff.specs.Words.{isWord, radix}
 use Rattle.backoff.specs.Model.{Model, inBackoff, reach}
 use Rattle.backoff.specs.Rule.{lengthByte}
-use Rattle.backoff.specs.State.{State as Carried, backoffsOf, newest, pointsFrom, matchedFrom, extendedFrom, nextFrom}
+use Rattle.backoff.specs.State.{State as Carried, empty, backoffsOf, newest, pointsFrom, matchedFrom, extendedFrom, nextFrom}
 use Rattle.backoff.specs.NineNumbers.{all}
-use Rattle.backoff.specs.Store.{isBroken, modelIn, scored, stuck, unknownAt, wordAt, walkedWord, endsBroken, stepFrom, step}
+use Rattle.backoff.specs.Store.{Store, isBroken, modelIn, Step, scored, stuck, unknownAt, wordAt, restarted, walkedWord, endsBroken, stepFrom, wordStep, step}
 use Rattle.backoff.proofs.State.{take-backoffsOf, liveLength-le, walk-le}
 use Rattle.backoff.proofs.NineNumbers.{nextFrom-bounded}
-use Rattle.double_array.specs.DoubleArray.{markerAt, childAt, lookMarker, downTo, lookFrom, isArray, orderIn, storeIn}
+use Rattle.double_array.specs.DoubleArray.{markerAt, childAt, rootChild, lookMarker, downTo, lookFrom, isArray, orderIn, storeIn}
 use Rattle.double_array.specs.declared.Marker.{Marker}
 use Rattle.double_array.specs.declared.Marker.the-variants.{Sound, Broken}
 use Rattle.double_array.specs.declared.Child.{Child}
 use Rattle.double_array.specs.declared.Child.the-variants.{At, Nothing}
-use Rattle.double_array.proofs.DoubleArray.{root-sound, look-down, opened-order, child-told}
+use Rattle.double_array.proofs.DoubleArray.{root-sound, root-child, look-down, opened-order, child-told}
 use Rattle.score.specs.declared.First.{First}
 use Rattle.score.specs.declared.First.the-variants.{From, Missing}
+use Rattle.score.specs.declared.Kind.{Kind}
+use Rattle.score.specs.declared.Word.{Word}
+use Rattle.score.specs.declared.Word.the-variants.{Scored, Refused}
 use Rattle.score.specs.declared.Packed.{Packed}
 use Rattle.score.specs.declared.Kept.{Kept}
 use Rattle.score.specs.declared.Stepped.{Stepped}
+use Rattle.score.specs.Answers.{stepOf}
 use Rattle.score.specs.Meaning.{rowsIn}
-use Rattle.score.specs.Inner.{firstOf, digits, pushed, heldIn, Carries, meetsBroken, Read, ScoredAs, SteppedTo}
+use Rattle.score.specs.Inner.{firstOf, digits, pushed, heldIn, Carries, meetsBroken, Read, ScoredAs, SteppedTo, orRefused, endingOf}
 use Rattle.score.proofs.Rows.{rows-in-backoff}
 use Rattle.score.proofs.Digits.{length-digits, digits-pushed}
 
@@ -55,11 +59,14 @@ module _ (base check : List ℤ) (h : isArray base check ≡ true) where
 
   module _ (w : ℕ) where
     abbrev first : First
-    first = firstOf w (childAt base check 0 w) (childAt base check 0 unknownWord)
+    first = firstOf w (rootChild check w) (rootChild check unknownWord)
+
+    first-by-children : first ≡ firstOf w (childAt base check 0 w) (childAt base check 0 unknownWord)
+    first-by-children = ap₂ (firstOf w) (root-child base check h w) (root-child base check h unknownWord)
 
     -- the slot is that of the root's child for v
     pub first-child : (slot v : ℕ) → first ≡ From slot v → childAt base check 0 v ≡ At slot
-    first-child slot v = go (childAt base check 0 w) refl (childAt base check 0 unknownWord) refl
+    first-child slot v e = go (childAt base check 0 w) refl (childAt base check 0 unknownWord) refl (sym first-by-children ∙ e)
       where
         go : (a : Child) → childAt base check 0 w ≡ a → (b : Child) → childAt base check 0 unknownWord ≡ b → firstOf w a b ≡ From slot v → childAt base check 0 v ≡ At slot
         go (At t) p b q e = cc
@@ -68,7 +75,7 @@ module _ (base check : List ℤ) (h : isArray base check ≡ true) where
 
     walked-from : (slot v : ℕ) → first ≡ From slot v → walkedWord (storeIn base check) w ≡ cond (isBroken (storeIn base check .look (v ∷ []))) none (some v)
     unfolding walkedWord
-    walked-from slot v = go (childAt base check 0 w) refl (childAt base check 0 unknownWord) refl
+    walked-from slot v e = go (childAt base check 0 w) refl (childAt base check 0 unknownWord) refl (sym first-by-children ∙ e)
       where
         go : (a : Child) → childAt base check 0 w ≡ a → (b : Child) → childAt base check 0 unknownWord ≡ b → firstOf w a b ≡ From slot v → wordAt w (storeIn base check .look (w ∷ [])) (unknownAt (storeIn base check .look (unknownWord ∷ []))) ≡ cond (isBroken (storeIn base check .look (v ∷ []))) none (some v)
         go (At t) p b q e =
@@ -79,9 +86,9 @@ module _ (base check : List ℤ) (h : isArray base check ≡ true) where
             rw (sym s) (rw (at-child w Nothing p, at-child unknownWord (At t) q) (other-word (markerAt base check t)))
         go Nothing p Nothing q e = let z : _≡_ {A = ℕ} 0 1 = cc in absurd (omega arith)
 
-    pub first-missing : (s : Carried) → first ≡ Missing → step (storeIn base check) s w ≡ stuck
-    unfolding step walkedWord stepFrom
-    first-missing s = go (childAt base check 0 w) refl (childAt base check 0 unknownWord) refl
+    pub first-missing : (s : Carried) → first ≡ Missing → wordStep (storeIn base check) s w ≡ stuck
+    unfolding wordStep walkedWord stepFrom
+    first-missing s e = go (childAt base check 0 w) refl (childAt base check 0 unknownWord) refl (sym first-by-children ∙ e)
       where
         go : (a : Child) → childAt base check 0 w ≡ a → (b : Child) → childAt base check 0 unknownWord ≡ b → firstOf w a b ≡ Missing → stepFrom (storeIn base check) s (wordAt w (storeIn base check .look (w ∷ [])) (unknownAt (storeIn base check .look (unknownWord ∷ [])))) ≡ stuck
         go (At t) p b q e = let z : _≡_ {A = ℕ} 0 1 = cc in absurd (omega arith)
@@ -90,8 +97,8 @@ module _ (base check : List ℤ) (h : isArray base check ≡ true) where
 
     module _ (slot v : ℕ) (e : first ≡ From slot v) (s : Carried) where
       -- the word is refused where the walk meets a broken node
-      pub first-broken : meetsBroken (storeIn base check) (s .words) v ≡ true → step (storeIn base check) s w ≡ stuck
-      unfolding step
+      pub first-broken : meetsBroken (storeIn base check) (s .words) v ≡ true → wordStep (storeIn base check) s w ≡ stuck
+      unfolding wordStep
       first-broken m = ap (stepFrom (storeIn base check) s) (walked-from slot v e) ∙ go (isBroken (storeIn base check .look (v ∷ []))) (endsBroken (storeIn base check) (s .words) v) refl m
         where
           go : (a b : Bool) → endsBroken (storeIn base check) (s .words) v ≡ b → (a || b) ≡ true → stepFrom (storeIn base check) s (cond a none (some v)) ≡ stuck
@@ -100,14 +107,49 @@ module _ (base check : List ℤ) (h : isArray base check ≡ true) where
           go false false q k = absurd (false≢true k)
 
       -- and else scored
-      first-sound : meetsBroken (storeIn base check) (s .words) v ≡ false → step (storeIn base check) s w ≡ scored (pointsFrom (rowsIn base check) s v) (lengthByte (matchedFrom (rowsIn base check) s v) v (extendedFrom (rowsIn base check) s v)) (nextFrom (rowsIn base check) s v)
-      unfolding step
+      first-sound : meetsBroken (storeIn base check) (s .words) v ≡ false → wordStep (storeIn base check) s w ≡ scored (pointsFrom (rowsIn base check) s v) (lengthByte (matchedFrom (rowsIn base check) s v) v (extendedFrom (rowsIn base check) s v)) (nextFrom (rowsIn base check) s v)
+      unfolding wordStep
       first-sound m = ap (stepFrom (storeIn base check) s) (walked-from slot v e) ∙ go (isBroken (storeIn base check .look (v ∷ []))) (endsBroken (storeIn base check) (s .words) v) refl m
         where
           go : (a b : Bool) → endsBroken (storeIn base check) (s .words) v ≡ b → (a || b) ≡ false → stepFrom (storeIn base check) s (cond a none (some v)) ≡ scored (pointsFrom (rowsIn base check) s v) (lengthByte (matchedFrom (rowsIn base check) s v) v (extendedFrom (rowsIn base check) s v)) (nextFrom (rowsIn base check) s v)
           go true b q k = absurd (true≢false k)
           go false true q k = absurd (true≢false k)
           go false false q k = unfold stepFrom in rw q
+
+-- the answer to a word that is refused
+pub refused : {n : ℕ} {expected : Step} {next : Packed} {backoffs : List ℤ} → expected ≡ stuck → SteppedTo n expected (record { word = Refused; next = next }) backoffs
+refused e = record { is = sym e; carries = λ kind points extended q. let z : _≡_ {A = ℕ} 0 1 = cc in absurd (omega arith) }
+
+-- ---- a word w that may end its sentence, by its own step and, where it is given as 3, by that of `<s>`
+
+module _ {n : ℕ} (S : Store) (s : Carried) (w : ℕ) {own begun : Stepped} {backoffs first : List ℤ} (a : SteppedTo n (wordStep S s w) own backoffs) (b : w ≡ endWord → SteppedTo n (wordStep S empty startWord) begun first) where
+  -- the state that is left
+  abbrev left : Bool → Carried
+  left t = cond t (heldIn (begun .next) first) (heldIn (own .next) backoffs)
+
+  pub ending-step : stepOf (endingOf w (own .word) (begun .word)) (left (eqb w endWord)) ≡ step S s w
+  unfolding step
+  ending-step = go (eqb w endWord) refl
+    where
+      both : (u v : Word) (r t : Carried) → stepOf (orRefused u v) r ≡ restarted (stepOf u t) (stepOf v r)
+      both (Scored k x e) (Scored l y f) r t = refl
+      both (Scored k x e) Refused r t = refl
+      both Refused (Scored l y f) r t = refl
+      both Refused Refused r t = refl
+
+      go : (t : Bool) → eqb w endWord ≡ t → stepOf (cond t (orRefused (own .word) (begun .word)) (own .word)) (left t) ≡ cond t (restarted (wordStep S s w) (wordStep S empty startWord)) (wordStep S s w)
+      go true e = both (own .word) (begun .word) (heldIn (begun .next) first) (heldIn (own .next) backoffs) ∙ ap₂ restarted (a .is) (b (eqb-true w endWord e) .is)
+      go false e = a .is
+
+  pub goes-on : eqb w endWord ≡ false → (kind : Kind) (x : ℤ) (extended : Bool) → endingOf w (own .word) (begun .word) ≡ Scored kind x extended → Carries n (own .next) backoffs
+  goes-on e kind x extended q = a .carries kind x extended (rw e at q)
+
+  pub begins-anew : eqb w endWord ≡ true → (kind : Kind) (x : ℤ) (extended : Bool) → endingOf w (own .word) (begun .word) ≡ Scored kind x extended → Carries n (begun .next) first
+  begins-anew e kind x extended q = go (begun .word) refl (rw e at q)
+    where
+      go : (v : Word) → begun .word ≡ v → orRefused (own .word) v ≡ Scored kind x extended → Carries n (begun .next) first
+      go (Scored l y f) p r = b (eqb-true w endWord e) .carries l y f p
+      go Refused p r = let z : _≡_ {A = ℕ} 0 1 = cc in absurd (omega arith)
 
 -- ---- the state that a word leaves
 
@@ -181,12 +223,11 @@ module _ (base check : List ℤ) (h : isArray base check ≡ true) (c : Packed) 
     owed = d .owed;
   }
 
-  -- so the step is what the code makes of the walk
-  pub stepped : (w : ℕ) → firstOf w (childAt base check 0 w) (childAt base check 0 unknownWord) ≡ From slot v → (x : Stepped) → ScoredAs (c .words) v points passed kept extended x → SteppedTo (storeIn base check) s w x backoffs
-  unfolding storeIn
-  stepped w e x a = record {
+  -- so the word's step is what the code makes of the walk
+  pub stepped : (n w : ℕ) → n ≡ orderIn check → first base check h w ≡ From slot v → (x : Stepped) → ScoredAs (c .words) v points passed kept extended x → SteppedTo n (wordStep (storeIn base check) s w) x backoffs
+  stepped n w o e x a = record {
     is = a .word (heldIn (x .next) backoffs) ∙ rw (d .points-are, byte-is, next-is) (sym (first-sound base check h w slot v e s (d .sound)));
-    carries = λ kind y e q. rw (a .next) next-carries;
+    carries = λ kind y e q. rw (o, a .next) next-carries;
   }
     where
       next-is : heldIn (x .next) backoffs ≡ nextFrom M s v

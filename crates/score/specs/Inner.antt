@@ -4,23 +4,24 @@ use mathlib.Core.Bool.{Bool, true, false, not, cond, _&&_, _||_}
 use mathlib.Core.List.{List, [], _∷_, map}
 use mathlib.Core.Option.{Option, none, some}
 use Prim.Native.Nat.{ℕ, zero, suc, _+_, _*_, _-_, _/_, _%_, _≤_, min}
-use lib.Dec.{ltb}
+use lib.Dec.{ltb, eqb}
 use lib.ListN.{length, take, drop}
 use lib.IntN.{ℤ, pos, natAbs}
 use Rattle.integer.specs.Integer.{eqZ, sum}
-use Rattle.backoff.specs.Limits.{unknownWord}
+use Rattle.backoff.specs.Limits.{unknownWord, endWord}
 use Rattle.backoff.specs.Refusal.{arrayHead, badState}
 use Rattle.backoff.specs.Words.{radix, threeDigits, key}
 use Rattle.backoff.specs.Model.{inBackoff, reach}
 use Rattle.backoff.specs.Rule.{lengthByte}
 use Rattle.backoff.specs.State.{State as Carried, backoffsOf, liveLength, walk, pointsFrom, extendedFrom}
 use Rattle.backoff.specs.NineNumbers.{all, stateOk}
-use Rattle.backoff.specs.Store.{Store, isBroken, modelIn, scored, endsBroken, step}
+use Rattle.backoff.specs.Store.{Store, isBroken, modelIn, Step, scored, endsBroken}
 use Rattle.double_array.specs.declared.Child.{Child}
 use Rattle.double_array.specs.declared.Child.the-variants.{At, Nothing}
 use Rattle.score.specs.declared.State.{State}
 use Rattle.score.specs.declared.Kind.{Kind}
-use Rattle.score.specs.declared.Word.the-variants.{Scored}
+use Rattle.score.specs.declared.Word.{Word}
+use Rattle.score.specs.declared.Word.the-variants.{Scored, Refused}
 use Rattle.score.specs.declared.First.{First}
 use Rattle.score.specs.declared.First.the-variants.{From, Missing}
 use Rattle.score.specs.declared.Packed.{Packed}
@@ -96,10 +97,18 @@ pub record ScoredAs (words v : ℕ) (points : ℤ) (passed : ℕ) (kept : Kept) 
   pub word : (t : Carried) → stepOf (r .word) t ≡ scored points (lengthByte (suc passed) v extended) t
   pub next : r .next ≡ record { count = kept .count; words = pushed v words; owed = kept .owed }
 
--- one word from the state s: the step, and the state that it leaves is carried
-pub record SteppedTo (S : Store) (s : Carried) (w : ℕ) (r : Stepped) (backoffs : List ℤ) : Type 0 where
-  pub is : stepOf (r .word) (heldIn (r .next) backoffs) ≡ step S s w
-  pub carries : (kind : Kind) (points : ℤ) (extended : Bool) → r .word ≡ Scored kind points extended → Carries (S .order) (r .next) backoffs
+-- the code's answer to a word is this step, and the state that the word leaves is carried where the order is n
+pub record SteppedTo (n : ℕ) (expected : Step) (r : Stepped) (backoffs : List ℤ) : Type 0 where
+  pub is : stepOf (r .word) (heldIn (r .next) backoffs) ≡ expected
+  pub carries : (kind : Kind) (points : ℤ) (extended : Bool) → r .word ≡ Scored kind points extended → Carries n (r .next) backoffs
+
+-- the answer of a word w once its sentence may end: a 3 is refused where start is, whose own answer is `first`
+abbrev pub orRefused : Word → Word → Word
+orRefused word (Scored kind points extended) = word
+orRefused word Refused = Refused
+
+abbrev pub endingOf : ℕ → Word → Word → Word
+endingOf w word first = cond (eqb w endWord) (orRefused word first) word
 
 -- 11, then 16, then what 14 and 15 say
 abbrev pub earlyRefusal : Option Store → List ℤ → ℕ → ℕ

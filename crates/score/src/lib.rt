@@ -2,24 +2,25 @@
 use double_array::Child;
 use double_array::Marker;
 ghost use mathlib.Core.Path.{_≡_};
-ghost use mathlib.Core.Bool.{Bool, true, cond};
+ghost use mathlib.Core.Bool.{Bool, true, false, cond};
 ghost use mathlib.Core.List.{[], _∷_, _++_, map};
 ghost use Prim.Native.Nat.{ℕ, _%_, _≤_, _<_};
-ghost use lib.ListN.{length, take, set, replicate};
+ghost use lib.ListN.{length, take, getD, set, replicate};
 ghost use lib.IntN.{pos, natAbs};
 ghost use lib.Signed.{_≤ℤ_};
 ghost use Rattle.integer.specs.Integer.{between, sum};
-ghost use Rattle.backoff.specs.Limits.{unknownWord, wordLimit, slotLimit, runLimit};
+ghost use Rattle.backoff.specs.Limits.{unknownWord, startWord, endWord, wordLimit, slotLimit, runLimit};
 ghost use Rattle.backoff.specs.Words.{isWord, radix, key};
 ghost use Rattle.backoff.specs.Model.{inBackoff};
 ghost use Rattle.backoff.specs.Rule.{lengthByte};
+ghost use Rattle.backoff.specs.State.{empty as emptyState};
 ghost use Rattle.backoff.specs.Run.{Run, written, sizeRefusal};
 ghost use Rattle.backoff.specs.NineNumbers.{all, padded, nine, nineZeros, stateIn, stateOk};
-ghost use Rattle.backoff.specs.Store.{runOver, ranAnswer, runOutcome, startOutcome};
+ghost use Rattle.backoff.specs.Store.{wordStep, runOver, ranAnswer, runOutcome, refusedStart, startStep, startOutcome};
 ghost use Rattle.double_array.specs.DoubleArray.{childAt, rootChild, isArray, orderIn, storeIn, opened};
 ghost use Rattle.score.specs.Answers.{numbersOf, kindByte, byteOf, answerOf, startedOf};
 ghost use Rattle.score.specs.Meaning.{StartMeans, RunMeans};
-ghost use Rattle.score.specs.Inner.{partOk, firstOf, packedAs, heldIn, Carries, longestLive, WalkedOver, ScoredAs, SteppedTo, earlyRefusal};
+ghost use Rattle.score.specs.Inner.{partOk, firstOf, packedAs, heldIn, Carries, longestLive, WalkedOver, ScoredAs, SteppedTo, endingOf, earlyRefusal};
 
 // The paper's carried state as its nine signed numbers. A state of the caller's own making may hold any: check 16 decides.
 pub struct State {
@@ -266,7 +267,75 @@ fn scored(words: u64, word: u32, points: i32, passed: usize, kept: Kept, extende
     Stepped { word, next }
 }
 
-// One word from a state.
+// The walk of a word v from the empty state, which reads the node in this slot alone.
+fn walk_alone(
+    base: &[i32],
+    check: &[i32],
+    order: usize,
+    slot: usize,
+    backoffs: &mut [i32; 5],
+) -> Walked
+    requires { ⌜ isArray (now base) (now check) ≡ true ⌝ }
+    requires { ⌜ order ≡ orderIn (now check) ⌝ }
+    requires { ⌜ slot < length (now base) ⌝ }
+    requires { ⌜ length (now backoffs) ≡ 5 ⌝ }
+    ensures { λ r. ⌜ ((v : ℕ) → childAt (now (base .entry)) (now (check .entry)) 0 v ≡ Child.At slot → WalkedOver (storeIn (now (base .entry)) (now (check .entry))) emptyState v r (now (backoffs .exit))) ⌝ }
+{
+    let Marker::Sound {
+        p,
+        b,
+        e: extended,
+        f,
+    } = double_array::read_marker(base, check, slot)
+    else {
+        return Walked::Stuck;
+    };
+    backoffs[0] = b;
+    let none = Kept { count: 0, owed: 0 };
+    let kept = longest_live(none, 1, b, order, b, f);
+    Walked::Whole {
+        points: p,
+        passed: 0,
+        kept,
+        extended,
+    }
+}
+
+// The step of `<s>` from the empty state, which start takes.
+fn begin(base: &[i32], check: &[i32], order: usize, backoffs: &mut [i32; 5]) -> Stepped
+    requires { ⌜ isArray (now base) (now check) ≡ true ⌝ }
+    requires { ⌜ order ≡ orderIn (now check) ⌝ }
+    requires { ⌜ length (now backoffs) ≡ 5 ⌝ }
+    ensures { λ r. ⌜ SteppedTo order (wordStep (storeIn (now (base .entry)) (now (check .entry))) emptyState startWord) r (now (backoffs .exit)) ⌝ }
+{
+    let none = Packed {
+        count: 0,
+        words: 0,
+        owed: 0,
+    };
+    let First::From { slot, word } = first_node(check, backoff::START_WORD) else {
+        return Stepped {
+            word: Word::Refused,
+            next: none,
+        };
+    };
+    let walked = walk_alone(base, check, order, slot, backoffs);
+    let Walked::Whole {
+        points,
+        passed,
+        kept,
+        extended,
+    } = walked
+    else {
+        return Stepped {
+            word: Word::Refused,
+            next: none,
+        };
+    };
+    scored(0, word, points, passed, kept, extended)
+}
+
+// One word from a state, whatever it ends.
 fn step(
     base: &[i32],
     check: &[i32],
@@ -278,7 +347,7 @@ fn step(
     requires { ⌜ isArray (now base) (now check) ≡ true ⌝ }
     requires { ⌜ order ≡ orderIn (now check) ⌝ }
     requires { ⌜ Carries order carried (now backoffs) ⌝ }
-    ensures { λ r. ⌜ SteppedTo (storeIn (now (base .entry)) (now (check .entry))) (heldIn carried (now (backoffs .entry))) w r (now (backoffs .exit)) ⌝ }
+    ensures { λ r. ⌜ SteppedTo order (wordStep (storeIn (now (base .entry)) (now (check .entry))) (heldIn carried (now (backoffs .entry))) w) r (now (backoffs .exit)) ⌝ }
 {
     let First::From { slot, word } = first_node(check, w) else {
         return Stepped {
@@ -300,6 +369,59 @@ fn step(
         };
     };
     scored(carried.words, word, points, passed, kept, extended)
+}
+
+// The answer of a word once its sentence may end: a word given as 3 is refused where start is.
+fn ending(w: u32, word: Word, first: Word) -> Word
+    ensures { λ r. ⌜ r ≡ endingOf w word first ⌝ }
+{
+    if w != backoff::END_WORD {
+        return word;
+    }
+    if let Word::Refused = first {
+        return first;
+    }
+    word
+}
+
+// Whether some word of a run is given as 3.
+fn has_end(words: &[u32]) -> bool
+    ensures { λ r. ⌜ (r ≡ false → (k : ℕ) → k < length (now (words .entry)) → getD (now (words .entry)) k 0 ≡ endWord → ⊥) ⌝ }
+{
+    let mut found = false;
+    let mut i = 0;
+    while i < words.len() {
+        found = found | (words[i] == backoff::END_WORD);
+        i += 1;
+    }
+    found
+}
+
+// Start's step where some word of a run needs it, and a refused one where none does.
+fn begin_for(
+    base: &[i32],
+    check: &[i32],
+    order: usize,
+    words: &[u32],
+    backoffs: &mut [i32; 5],
+) -> Stepped
+    requires { ⌜ isArray (now base) (now check) ≡ true ⌝ }
+    requires { ⌜ order ≡ orderIn (now check) ⌝ }
+    requires { ⌜ length (now backoffs) ≡ 5 ⌝ }
+    ensures { λ r. ⌜ ((k : ℕ) → k < length (now (words .entry)) → getD (now (words .entry)) k 0 ≡ endWord → SteppedTo order (wordStep (storeIn (now (base .entry)) (now (check .entry))) emptyState startWord) r (now (backoffs .exit))) ⌝ }
+{
+    if has_end(words) {
+        return begin(base, check, order, backoffs);
+    }
+    let none = Packed {
+        count: 0,
+        words: 0,
+        owed: 0,
+    };
+    Stepped {
+        word: Word::Refused,
+        next: none,
+    }
 }
 
 // The paper's length byte without its 16.
@@ -469,13 +591,19 @@ fn score_words(
     requires { ⌜ (length (now words) ≤ length (now points)) × (length (now words) ≤ length (now lengths)) ⌝ }
     ensures { λ r. ⌜ answerOf r (now (points .exit)) (now (lengths .exit)) ≡ ranAnswer (numbersOf state) (record { words = now (words .entry); points = now (points .entry); lengths = now (lengths .entry) }) (runOver (storeIn (now (base .entry)) (now (check .entry))) (now (words .entry)) (stateIn (numbersOf state)) 1) ⌝ }
 {
+    let mut first_backoffs = [0i32; 5];
+    let begun = begin_for(base, check, order, words, &mut first_backoffs);
+    let first = begun.word;
+    let begins = begun.next;
     let mut carried = pack(state);
     let mut backoffs = lent(state);
     let mut total: i64 = 0;
     let mut i = 0;
     while i < words.len() {
-        let stepped = step(base, check, order, carried, &mut backoffs, words[i]);
-        let word = stepped.word;
+        let w = words[i];
+        let stepped = step(base, check, order, carried, &mut backoffs, w);
+        let own = stepped.word;
+        let word = ending(w, own, first);
         let Word::Scored {
             kind,
             points: scored,
@@ -494,6 +622,10 @@ fn score_words(
         total += scored as i64;
         let next = stepped.next;
         carried = next;
+        if w == backoff::END_WORD {
+            carried = begins;
+            backoffs = first_backoffs;
+        }
         i += 1;
     }
     let end = unpack(carried, backoffs);
@@ -526,30 +658,48 @@ fn early_refusal(
     backoff::run_fault(words, points, lengths)
 }
 
-// The paper's start, the state after `<s>`: a run of this one word from the empty state leaves it.
+// A refused start returns the empty state.
+fn refused_start(number: u32) -> Started
+    ensures { λ r. ⌜ startedOf r ≡ refusedStart number ⌝ }
+{
+    let state = empty();
+    Started {
+        number,
+        place: 0,
+        state,
+    }
+}
+
+// What start returns where 11 does not refuse it.
+fn start_in(base: &[i32], check: &[i32]) -> Started
+    requires { ⌜ isArray (now base) (now check) ≡ true ⌝ }
+    ensures { λ r. ⌜ startedOf r ≡ startStep (wordStep (storeIn (now (base .entry)) (now (check .entry))) emptyState startWord) ⌝ }
+{
+    let order = double_array::order_of(check);
+    let mut backoffs = [0i32; 5];
+    let begun = begin(base, check, order, &mut backoffs);
+    let word = begun.word;
+    if let Word::Refused = word {
+        return refused_start(backoff::BROKEN_NODE);
+    }
+    let next = begun.next;
+    let state = unpack(next, backoffs);
+    Started {
+        number: 0,
+        place: 0,
+        state,
+    }
+}
+
+// The paper's start, the state after `<s>`.
 pub fn start(base: &[i32], check: &[i32]) -> Started
     ensures outcome { λ r. ⌜ startedOf r ≡ startOutcome (opened (now (base .entry)) (now (check .entry))) nineZeros ⌝ }
     ensures meaning { λ r. ⌜ StartMeans (now (base .entry)) (now (check .entry)) (r .number) (numbersOf (r .state)) ⌝ }
 {
-    let none = empty();
     if !double_array::is_array(base, check) {
-        return Started {
-            number: backoff::ARRAY_HEAD,
-            place: 0,
-            state: none,
-        };
+        return refused_start(backoff::ARRAY_HEAD);
     }
-    let order = double_array::order_of(check);
-    let words = [backoff::START_WORD];
-    let mut points = [0i32];
-    let mut lengths = [0u8];
-    let ran = score_words(base, check, order, none, &words, &mut points, &mut lengths);
-    let end = ran.end;
-    Started {
-        number: ran.number,
-        place: 0,
-        state: end,
-    }
+    start_in(base, check)
 }
 
 // The paper's run: each word's points and length byte, their total, and the state that the words leave.

@@ -23,9 +23,6 @@ ghost use Rattle.totals.specs.Steps.{ReadAs, Closed, countUnknown, Holds
 
 const LF: u8 = b'\n';
 
-// The closing word, `</s>`.
-const END_WORD: u32 = 3;
-
 // LIST has at most so many lines.
 const LIST_LINES: usize = 512;
 
@@ -126,7 +123,7 @@ fn read_sentence(line: &[u8]) -> Sentence
     let TextLine::Words(n) = read else {
         return Sentence { read, words };
     };
-    words[n as usize] = END_WORD;
+    words[n as usize] = backoff::END_WORD;
     Sentence { read, words }
 }
 

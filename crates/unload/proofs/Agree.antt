@@ -10,14 +10,14 @@ use borrow.Author.Tests.{eqb-true}
 use lib.Dec.{eqb}
 use lib.ListN.{length, take, length-take}
 use lib.IntN.{ℤ}
-use Rattle.backoff.specs.Limits.{orderLimit, unknownWord, startWord}
+use Rattle.backoff.specs.Limits.{orderLimit, unknownWord, startWord, endWord}
 use Rattle.backoff.specs.Refusal.{badState}
 use Rattle.backoff.specs.Model.{Model, isSome, probabilityOf, backoffOf, extendedOf, continuedOf, listed, probability, backoff, extended, continued, live, reach}
 use Rattle.backoff.specs.Rule.{replaced}
-use Rattle.backoff.specs.State.{State, empty, climb, backoffsOf, newest, liveLength, walk, matchedFrom, pointsFrom, extendedFrom, nextFrom, stepNext}
+use Rattle.backoff.specs.State.{State, empty, climb, backoffsOf, newest, liveLength, walk, matchedFrom, pointsFrom, extendedFrom, nextFrom, stepNext, start}
 use Rattle.backoff.specs.Run.{Run, refusedRun}
 use Rattle.backoff.specs.NineNumbers.{stateIn, stateOk}
-use Rattle.backoff.specs.Store.{Look, Store, entryOf, isBroken, modelIn, scored, stuck, walkedWord, endsBroken, stepFrom, step, before, onward, runOver, runIn, runOutcome, startOutcome}
+use Rattle.backoff.specs.Store.{Look, Store, entryOf, isBroken, modelIn, scored, stuck, walkedWord, endsBroken, stepFrom, wordStep, step, before, onward, runOver, runIn, runOutcome, startOutcome}
 use Rattle.backoff.proofs.Climb.{largest-same}
 use Rattle.backoff.proofs.State.{liveLength-le}
 use Rattle.backoff.proofs.NineNumbers.{stateOk-bounded}
@@ -115,9 +115,9 @@ module _ (S T : Store) (order : S .order ≡ T .order) (look : (l : List ℕ) �
     stepFrom-agrees none = refl
     stepFrom-agrees (some v) = rw (endsBroken-agrees v, pointsFrom-agrees v, matchedFrom-agrees v, extendedFrom-agrees v, nextFrom-agrees v)
 
-    step-agrees : (w : ℕ) → step S s w ≡ step T s w
-    unfolding step walkedWord
-    step-agrees w = rw (look (w ∷ []) (omega arith), look (unknownWord ∷ []) (omega arith)) (stepFrom-agrees _)
+    wordStep-agrees : (w : ℕ) → wordStep S s w ≡ wordStep T s w
+    unfolding wordStep walkedWord
+    wordStep-agrees w = rw (look (w ∷ []) (omega arith), look (unknownWord ∷ []) (omega arith)) (stepFrom-agrees _)
 
     -- and the state that is left is such a one
     next-short : (v : ℕ) → suc (length (nextFrom M s v .words)) ≤ S .order
@@ -129,11 +129,20 @@ module _ (S T : Store) (order : S .order ≡ T .order) (look : (l : List ℕ) �
 
   -- ---- runs
 
+  module _ (s : State) (h : suc (length (s .words)) ≤ S .order) (w : ℕ) where
+    step-agrees : step S s w ≡ step T s w
+    unfolding step
+    step-agrees = rw (wordStep-agrees s h w, wordStep-agrees empty (omega arith) startWord)
+
+    step-short : suc (length (stepNext M s w .words)) ≤ S .order
+    unfolding stepNext start
+    step-short = elim (eqb w endWord) as (λ e. suc (length (cond e (start M) (nextFrom M s (replaced M w)) .words)) ≤ S .order) [ true ↦ next-short empty (omega arith) (replaced M startWord) | false ↦ next-short s h (replaced M w) ]
+
   runOver-agrees : (ws : List ℕ) (s : State) (k : ℕ) → suc (length (s .words)) ≤ S .order → runOver S ws s k ≡ runOver T ws s k
   unfolding runOver
   runOver-agrees [] s k h = refl
   runOver-agrees (w ∷ ws) s k h =
-      go (stuckAt S s w) _ _ (step-is S s w) (runOver-agrees ws (stepNext M s w) (suc k) (unfold stepNext in next-short s h (replaced M w)))
+      go (stuckAt S s w) _ _ (step-is S s w) (runOver-agrees ws (stepNext M s w) (suc k) (step-short s h w))
       ∙ ap (onward (λ (t : State). runOver T ws t (suc k)) k) (step-agrees s h w)
     where
       go : (b : Bool) (p : ℤ) (y : ℕ) → step S s w ≡ cond b stuck (scored p y (stepNext M s w)) → runOver S ws (stepNext M s w) (suc k) ≡ runOver T ws (stepNext M s w) (suc k)

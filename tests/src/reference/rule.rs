@@ -1,4 +1,4 @@
-//! "The back-off rule" of document 01 over the plain list, with the left extension of T-01, and plain scoring.
+//! "The back-off rule" of document 01 over the plain list, with the left extension of T-01 and the sentence ends of T-03, and plain scoring.
 
 use super::list::{continued, extended, rows, verdict, Refusal, Row, ACCEPTED};
 use std::collections::HashMap;
@@ -6,6 +6,7 @@ use std::collections::HashMap;
 pub const LONGEST_RUN: usize = 65_535;
 pub const UNKNOWN: i32 = 1;
 pub const SENTENCE_START: u32 = 2;
+pub const SENTENCE_END: u32 = 3;
 
 /// A scored word.
 #[derive(Clone, Copy, Debug, PartialEq, Eq)]
@@ -69,10 +70,15 @@ impl Rule {
         i32::try_from(word).ok().filter(|&word| self.entries.contains_key(&[word][..])).unwrap_or(UNKNOWN)
     }
 
-    /// "The history is the preceding words, at most n−1 of them", oldest first.
+    /// "The history is the preceding words, at most n−1 of them", oldest first. "After a word given as 3 is scored, the history is `<s>` alone"
+    /// (T-03): the last 3 counts as a 2, and nothing before it counts. A 3 further back has n−1 words behind it, so that its 2 is cut off.
     fn history(&self, preceding: &[u32]) -> Vec<i32> {
-        let oldest = preceding.len().saturating_sub(self.order - 1);
-        preceding[oldest..].iter().map(|&word| self.replaced(word)).collect()
+        let newest = &preceding[preceding.len().saturating_sub(self.order - 1)..];
+        let history = match newest.iter().rposition(|&word| word == SENTENCE_END) {
+            Some(end) => [&[SENTENCE_START], &newest[end + 1..]].concat(),
+            None => newest.to_vec(),
+        };
+        history.into_iter().map(|word| self.replaced(word)).collect()
     }
 
     /// "The state after a history is its longest live suffix, possibly empty", as nine numbers.

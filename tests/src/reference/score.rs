@@ -1,8 +1,8 @@
-//! "The carried state" of document 01: start and runs over any lent arrays.
+//! "The carried state" of document 01: start and runs over any lent arrays, with the sentence ends of T-03.
 
 use super::array::{Array, Marker, ROOT};
 use super::list::{Refusal, ACCEPTED, LARGEST_B, LARGEST_WORD};
-use super::rule::{Scored, LONGEST_RUN, SENTENCE_START, UNKNOWN};
+use super::rule::{Scored, LONGEST_RUN, SENTENCE_END, SENTENCE_START, UNKNOWN};
 
 pub const EMPTY: [i32; 9] = [0; 9];
 
@@ -35,7 +35,19 @@ impl Carried {
     }
 }
 
-/// Scores a word after a state and gives the next state; nothing where 12 refuses.
+/// Start's state: "walking word 2 (replaced like any word) from the empty state" leaves it; nothing where 12 refuses.
+fn begin(array: &Array) -> Option<Carried> {
+    let (_, carried) = step(array, &Carried::default(), SENTENCE_START)?;
+    Some(carried)
+}
+
+/// Scores a word of a run. "After a word given as 3 is scored .. the state is then what start gives, its 12 at that word included" (T-03).
+fn score(array: &Array, carried: &Carried, word: u32) -> Option<(Scored, Carried)> {
+    let (scored, next) = step(array, carried, word)?;
+    Some((scored, if word == SENTENCE_END { begin(array)? } else { next }))
+}
+
+/// Walks a word after a state and gives the next state; nothing where 12 refuses.
 fn step(array: &Array, carried: &Carried, word: u32) -> Option<(Scored, Carried)> {
     let unknown = word == UNKNOWN as u32 || array.child(ROOT, word).is_none();
     let word = if unknown { UNKNOWN as u32 } else { word };
@@ -74,7 +86,7 @@ pub fn start(base: &[i32], check: &[i32], state: &mut [i32]) -> Refusal {
     }
     state.copy_from_slice(&EMPTY);
     let Some(array) = Array::new(base, check) else { return (11, 0) };
-    let Some((_, carried)) = step(&array, &Carried::default(), SENTENCE_START) else { return (12, 0) };
+    let Some(carried) = begin(&array) else { return (12, 0) };
     carried.write(state);
     ACCEPTED
 }
@@ -95,7 +107,7 @@ pub fn run(base: &[i32], check: &[i32], state: &mut [i32], words: &[u32], points
     }
     let mut total = 0;
     for (i, &word) in words.iter().enumerate() {
-        let Some((scored, next)) = step(&array, &carried, word) else {
+        let Some((scored, next)) = score(&array, &carried, word) else {
             points[..words.len()].fill(0);
             lengths[..words.len()].fill(0);
             return ((12, i as u32 + 1), 0);

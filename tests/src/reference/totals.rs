@@ -2,13 +2,12 @@
 
 use super::build::build;
 use super::list::{rows, Refusal, ACCEPTED};
-use super::rule::{Rule, SENTENCE_START};
+use super::rule::{Rule, SENTENCE_END, SENTENCE_START};
 use std::str::from_utf8;
 
 pub const MOST_LINES: usize = 512;
 pub const MOST_WORDS: usize = 64;
 pub const SLOTS: usize = 4_096;
-const SENTENCE_END: u32 = 3;
 
 pub fn output(list: &[u8], text: &[u8]) -> String {
     match read_list(list).and_then(accepted) {

@@ -41,11 +41,11 @@ loop-holds c =
     let s = c .before .before .before in
     rw (c .begin .ensures) (scoring-none (accepted s) (order-is s) _ _ _ _)
 
-mul-push : tie.Need-mul-push Inv-loop μ-loop
-mul-push c = search needs
+mul-word : tie.Need-mul-word Inv-loop μ-loop
+mul-word c = search needs
 
-shared-slice-read-push : tie.Need-shared-slice-read-push Inv-loop μ-loop
-shared-slice-read-push c = search needs
+shared-slice-read-word : tie.Need-shared-slice-read-word Inv-loop μ-loop
+shared-slice-read-word c = search needs
 
 push-requires : tie.Need-push-requires Inv-loop μ-loop
 push-requires c κs =
@@ -96,6 +96,9 @@ add-total c =
     rw (toZ-ofZ (cast-total c) ∙ toZ-ofZ (points-fits c))
     (total-added (l .loop .inv) (accepted s) (order-is s) (t .loop-test .taken) (p .push .ensures) (c .before .score-last .ensures) (points-fits c) (s .pre .2))
 
+keep-requires : tie.Need-keep-requires Inv-loop μ-loop
+keep-requires c κs = search needs
+
 add-i : tie.Need-add-i Inv-loop μ-loop
 add-i c = search needs
 
@@ -104,12 +107,13 @@ loop-less c = search needs
 
 loop-again : tie.Need-loop-again Inv-loop μ-loop
 loop-again c =
-    let p = c .before .before in
+    let d = c .before in
+    let p = d .before .before in
     let t = p .before .before in
     let l = t .before in
     let s = l .before .before .before .before in
-    rw (toZ-ofZ (add-total c), toZ-ofZ (cast-total c), toZ-ofZ (points-fits c))
-    (scoring-more (l .loop .inv) (accepted s) (order-is s) (t .loop-test .taken) (p .push .ensures) (c .before .score-last .ensures) (points-fits c) (s .pre .3) (s .pre .4))
+    rw (toZ-ofZ (add-total d), toZ-ofZ (cast-total d), toZ-ofZ (points-fits d), c .keep .ensures)
+    (scoring-more (l .loop .inv) (accepted s) (order-is s) (t .loop-test .taken) (p .push .ensures) (d .before .score-last .ensures) (points-fits d) (s .pre .3) (s .pre .4))
 
 same-length : tie.Need-same-length Inv-loop μ-loop
 same-length c =
@@ -132,8 +136,8 @@ score-words-spec =
     μ-loop
     begin-requires
     loop-holds
-    mul-push
-    shared-slice-read-push
+    mul-word
+    shared-slice-read-word
     push-requires
     score-last-requires
     mul-p
@@ -141,6 +145,7 @@ score-words-spec =
     slice-write-lengths
     cast-total
     add-total
+    keep-requires
     add-i
     loop-less
     loop-again

@@ -1,9 +1,8 @@
 -- `score::length_byte` meets its contract. Assumes nothing.
-use mathlib.Core.Path.{_≡_, ap}
+use mathlib.Core.Path.{ap}
 use Prim.Native.Nat.{ℕ, _+_, _<_}
 use native.Mathlib.Omega.{arith}
-use Rattle.score.specs.Answers.{kindByte, byteOf}
-use borrow.Author.Needs.{needs}
+use Rattle.score.specs.Answers.{kindByte}
 use Rattle.score.proofs.length_byte.Statement.{statement}
 use Rattle.score.proofs.length_byte.Tie as tie
 

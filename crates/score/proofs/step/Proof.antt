@@ -1,5 +1,5 @@
 -- `score::step` meets its contract. Assumes nothing.
-use mathlib.Core.Path.{_≡_, sym, ap₂, _∙_, subst}
+use mathlib.Core.Path.{_≡_, sym, _∙_, subst}
 use mathlib.Core.Bool.{Bool}
 use mathlib.Core.List.{List}
 use Prim.Native.Nat.{ℕ}
@@ -10,20 +10,16 @@ use mir.Syntax.{w32}
 use mir.Val.{SFits}
 use mir.Facts.{toZ-ofZ}
 use Rattle.backoff.specs.Limits.{unknownWord}
-use Rattle.backoff.specs.State.{State as Carried}
-use Rattle.backoff.specs.Store.{Store, stuck, step}
-use Rattle.double_array.specs.DoubleArray.{childAt, orderIn, storeIn}
+use Rattle.double_array.specs.DoubleArray.{childAt, rootChild, orderIn, storeIn}
 use Rattle.double_array.specs.declared.Child.the-variants.{At}
-use Rattle.double_array.proofs.DoubleArray.{opened-sizes, root-child, child-inside}
+use Rattle.double_array.proofs.DoubleArray.{opened-sizes, child-inside}
 use Rattle.score.specs.declared.First.{First}
 use Rattle.score.specs.declared.First.the-variants.{From}
-use Rattle.score.specs.declared.Word.the-variants.{Refused}
-use Rattle.score.specs.declared.Packed.{Packed}
 use Rattle.score.specs.declared.Kept.{Kept}
 use Rattle.score.specs.declared.Walked.{Walked}
 use Rattle.score.specs.declared.Walked.the-variants.{Whole, Stuck}
-use Rattle.score.specs.Inner.{firstOf, heldIn, Carries, Read, WalkedOver, ScoredAs, SteppedTo}
-use Rattle.score.proofs.Stepping.{first-child, first-missing, first-broken, passed-few, word-is-word, stepped}
+use Rattle.score.specs.Inner.{firstOf, heldIn, Carries, Read, WalkedOver, ScoredAs}
+use Rattle.score.proofs.Stepping.{first-child, first-missing, first-broken, passed-few, word-is-word, refused, stepped}
 use Rattle.score.proofs.step.Statement.{statement}
 use Rattle.score.proofs.step.Tie as tie
 
@@ -36,15 +32,9 @@ enum-known-slot c = search needs
 enum-told : tie.Need-enum-told
 enum-told c = search needs
 
--- a word that is refused
-refused : {S : Store} {s : Carried} {w : ℕ} {next : Packed} {backoffs : List ℤ} → step S s w ≡ stuck → SteppedTo S s w (record { word = Refused; next = next }) backoffs
-refused e = record { is = sym e; carries = λ kind points extended q. let z : _≡_ {A = ℕ} 0 1 = cc in absurd (omega arith) }
-
 -- the first node is what `first_node` answered
-first-told : (c : tie.After-first-node) (r : First) → c .first-node .result ≡ r → firstOf (c .before .args .w) (childAt (c .before .args .base .now) (c .before .args .check .now) 0 (c .before .args .w)) (childAt (c .before .args .base .now) (c .before .args .check .now) 0 unknownWord) ≡ r
-first-told c r e =
-    let s = c .before in
-    ap₂ (firstOf (s .args .w)) (sym (root-child (s .args .base .now) (s .args .check .now) (s .pre .0) (s .args .w))) (sym (root-child (s .args .base .now) (s .args .check .now) (s .pre .0) unknownWord)) ∙ sym (c .first-node .ensures) ∙ e
+first-told : (c : tie.After-first-node) (r : First) → c .first-node .result ≡ r → firstOf (c .before .args .w) (rootChild (c .before .args .check .now) (c .before .args .w)) (rootChild (c .before .args .check .now) unknownWord) ≡ r
+first-told c r e = sym (c .first-node .ensures) ∙ e
 
 returns : tie.Need-returns
 returns c =
@@ -59,7 +49,7 @@ slot c = c .slot .given .0 .0
 abbrev word : tie.After-slot → ℕ
 word c = c .slot .given .0 .1 .0
 
-first-is : (c : tie.After-slot) → firstOf (c .before .before .before .args .w) (childAt (c .before .before .before .args .base .now) (c .before .before .before .args .check .now) 0 (c .before .before .before .args .w)) (childAt (c .before .before .before .args .base .now) (c .before .before .before .args .check .now) 0 unknownWord) ≡ From (slot c) (word c)
+first-is : (c : tie.After-slot) → firstOf (c .before .before .before .args .w) (rootChild (c .before .before .before .args .check .now) (c .before .before .before .args .w)) (rootChild (c .before .before .before .args .check .now) unknownWord) ≡ From (slot c) (word c)
 first-is c = first-told (c .before .before) _ (c .slot .given .1)
 
 child-is : (c : tie.After-slot) → childAt (c .before .before .before .args .base .now) (c .before .before .before .args .check .now) 0 (word c) ≡ At (slot c)
@@ -137,7 +127,7 @@ returns-3 c =
     let t = k .before .before .before in
     let s = t .before .before .before in
     let a = s .args in
-    stepped (a .base .now) (a .check .now) (s .pre .0) (a .carried) (a .backoffs .now) (held s) (word t) (slot t) (child-is t) (points m) (passed m) (kept m) (extended m) (backoffs k) (read m) (a .w) (first-is t) (c .scored .result)
+    stepped (a .base .now) (a .check .now) (s .pre .0) (a .carried) (a .backoffs .now) (held s) (word t) (slot t) (child-is t) (points m) (passed m) (kept m) (extended m) (backoffs k) (read m) (a .order) (a .w) (s .pre .1 .0) (first-is t) (c .scored .result)
     (subst (λ (x : ℤ). ScoredAs (a .carried .words) (word t) x (passed m) (kept m) (extended m) (c .scored .result)) (toZ-ofZ (points-fits (c .before))) (c .scored .ensures))
 
 pub step-spec : {M : Type 1} → statement M
