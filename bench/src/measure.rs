@@ -5,7 +5,7 @@ use crate::packed::Packed;
 use crate::score::Items;
 use crate::time::{compare, Compared};
 use crate::{array, list, plain, score, unload};
-use backoff::{Found, Total};
+use backoff::{Found, Status, Total};
 use std::hint::black_box;
 
 /// Nanoseconds that a call takes for a row, a lookup or a word, and the ratio of the two.
@@ -28,8 +28,9 @@ impl Measured {
 pub fn measure(list: &List) -> Vec<Measured> {
     let text = list.unseen_text();
     let [run, packed, hashed] = run(list, &text);
+    let [start, packed_start] = start(list);
     let built = build(list, list.arrays.slots());
-    vec![check(list), built, lookup(list), start(list), run, packed, ended_run(list), hashed, plain(list, &text), unload(list)]
+    vec![check(list), built, lookup(list), start, packed_start, run, packed, ended_run(list), hashed, plain(list, &text), unload(list)]
 }
 
 fn check(list: &List) -> Measured {
@@ -63,16 +64,20 @@ fn lookup(list: &List) -> Measured {
     Measured::new("lookup", "lookup", parts.len(), compared)
 }
 
-/// Many starts, each over the whole array.
-fn start(list: &List) -> Measured {
+type Start = fn(&[i32], &[i32], &mut [i32]) -> Status;
+
+/// Many starts, against Rust over the same arrays, and against the fastest such Rust.
+fn start(list: &List) -> [Measured; 2] {
     const STARTS: usize = 10_000;
     let Arrays { base, check, .. } = &list.arrays;
-    let (mut state, mut other_state) = ([0; 9], [0; 9]);
-    let mut ours = || (0..STARTS).for_each(|_| assert_eq!(backoff::start(black_box(base), check, &mut state).number, 0));
-    let mut rust = || (0..STARTS).for_each(|_| assert_eq!(score::start::<Packed>(black_box(base), check, &mut other_state).number, 0));
-    let compared = compare(&mut ours, &mut rust);
-    assert_eq!(state, other_state, "the states agree");
-    Measured::new("start", "start", STARTS, compared)
+    let many = |start: Start, state: &mut [i32]| (0..STARTS).for_each(|_| assert_eq!(start(black_box(base), check, state).number, 0));
+    let rows: [(&str, Start); 2] = [("start", score::start::<Items>), ("start, against packed states", score::start::<Packed>)];
+    rows.map(|(call, other)| {
+        let (mut state, mut other_state) = ([0; 9], [0; 9]);
+        let compared = compare(&mut || many(backoff::start, &mut state), &mut || many(other, &mut other_state));
+        assert_eq!(state, other_state, "the states agree");
+        Measured::new(call, "start", STARTS, compared)
+    })
 }
 
 /// What a scorer leaves behind.

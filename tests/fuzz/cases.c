@@ -277,7 +277,7 @@ static struct arrays other_arrays(struct slice table) {
     if (chance(90))
         damage_arrays(a.base, a.check);
     /* The head that arrays had before T-01. */
-    if (chance(5))
+    if (chance(5) && is_head(a.base, a.check))
         ints(a.check)[0] -= HEAD;
     return a;
 }

@@ -243,10 +243,10 @@ struct backoff_total __wrap_backoff_run(const int32_t *base, size_t base_len, co
     struct backoff_total total = __real_backoff_run(base, base_len, with_new_head(check, check_len, copy), check_len, state,
                                                     state_len, words, words_len, points, points_len, lengths, lengths_len);
     free(copy);
-    bool alone = words_len > 0 && words[words_len - 1] == BACKOFF_END_WORD && total.place == words_len;
+    bool at_the_end = words_len > 0 && words[words_len - 1] == BACKOFF_END_WORD && total.place == words_len;
     if (has("run-misses-12-of-start") && total.number == 12 && words[total.place - 1] == BACKOFF_END_WORD)
         return run_without_starts_12(base, check, base_len, state, words, words_len, points, lengths);
-    if (has("run-misses-12-of-start-behind-its-last-word") && total.number == 12 && alone)
+    if (has("run-misses-12-of-start-behind-its-last-word") && total.number == 12 && at_the_end)
         return run_without_starts_12(base, check, base_len, state, words, words_len, points, lengths);
     if (in_words() && total.number == 0) {
         memcpy(state, given, sizeof given);

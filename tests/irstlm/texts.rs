@@ -11,15 +11,14 @@ pub fn train() -> String {
     (0..4_000).map(|_| sentence(&mut random, following)).collect()
 }
 
-/// Sentences of the same kind, words in any order, and words that no list has; every tenth goes on after its `</s>`.
+/// Sentences of the same kind, words in any order, and words that no list has. None goes on after its `</s>`, which ends our context but not irstlm's.
 pub fn unseen() -> String {
     let mut random = Random::new(2);
     let any = |random: &mut Random, _| random.zipf(WORDS);
     let unknown = |random: &mut Random, word| if random.chance(20) { WORDS + random.between(1, 100) } else { following(random, word) };
     let mut text = String::from("<s> </s>\n");
     for i in 0..600 {
-        let sentence = sentence(&mut random, [following, any, unknown][i % 3]);
-        text += &if i % 10 == 0 { sentence.replace('\n', " w1 w2 </s>\n") } else { sentence };
+        text += &sentence(&mut random, [following, any, unknown][i % 3]);
     }
     text
 }
