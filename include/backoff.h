@@ -24,7 +24,7 @@
  * total can be dropped.
  *
  * Threads. Calls may run at the same time if no slice that one of them writes is lent to another. So threads may share
- * one array for lookups, starts, runs and unloading, each with its own slices to be written. */
+ * one array for lookups, starts, runs, batches and unloading, each with its own slices to be written. */
 #ifndef BACKOFF_H
 #define BACKOFF_H
 
@@ -36,8 +36,8 @@
 extern "C" {
 #endif
 
-/* The numbers of refusals. The place is the row for 3 to 8, the word (from 1) for 12 in a run, the line (from 1) for 17 to
- * 19 and, where an ARPA text is read, for 15; otherwise it is 0. */
+/* The numbers of refusals. The place is the row for 3 to 8, the word (from 1) for 12 in a run, the sentence (from 1) for 20
+ * and for 12 in a batch, the line (from 1) for 17 to 19 and, where an ARPA text is read, for 15; otherwise it is 0. */
 enum backoff_number {
     BACKOFF_ACCEPTED = 0,
     BACKOFF_TABLE_LENGTH = 1,    /* the table has no items, no multiple of 8 items, or more than 65,535 rows */
@@ -58,13 +58,15 @@ enum backoff_number {
                                     replaced by it; unload: the array holds no accepted list, or a marker tells wrongly
                                     which rows there are on either side of its row */
     BACKOFF_TEXT_LINE = 13,      /* a text line is not in form; only the totals program gives this */
-    BACKOFF_WORD_COUNT = 14,     /* a lookup has no or more than 5 words; a run has more than 65,535 */
+    BACKOFF_WORD_COUNT = 14,     /* a lookup has no or more than 5 words; a run has more than 65,535; a batch has more
+                                    than 65,535 words or sentences */
     BACKOFF_SHORT_SLICE = 15,    /* a slice to be written is too short */
     BACKOFF_BAD_STATE = 16,      /* the state has not nine numbers, its count is outside 0..n-1, an unused number is
                                     not 0, a word is outside 1..65,535, or a back-off is out of range */
     BACKOFF_ARPA_LINE = 17,      /* a line of an ARPA text is not in form, or missing at its end */
     BACKOFF_ARPA_WORD = 18,      /* a word of an ARPA text has no line among the rows of one word */
-    BACKOFF_ARPA_COUNT = 19      /* a section of an ARPA text has not as many lines as its count says */
+    BACKOFF_ARPA_COUNT = 19,     /* a section of an ARPA text has not as many lines as its count says */
+    BACKOFF_SENTENCE_ENDS = 20   /* the end of a sentence of a batch is below the one before it, or past the words */
 };
 
 /* Sizes and limits. */
@@ -74,7 +76,7 @@ enum backoff_limit {
     BACKOFF_ORDER_LIMIT = 5,      /* the most words of a row or a lookup */
     BACKOFF_ROW_LIMIT = 65535,    /* the most rows of a list */
     BACKOFF_WORD_LIMIT = 65535,   /* the largest word */
-    BACKOFF_RUN_LIMIT = 65535,    /* the most words of a run */
+    BACKOFF_RUN_LIMIT = 65535,    /* the most words of a run, and the most words and sentences of a batch */
     BACKOFF_SLOT_LIMIT = 1048576, /* the most slots of an array */
     BACKOFF_RECORD_BYTES = 64,    /* the bytes of a word's record in a store of texts */
     BACKOFF_TEXT_LIMIT = 63,      /* the most bytes of a word's text */
@@ -164,6 +166,36 @@ struct backoff_status backoff_start(const int32_t *base, size_t base_len, const 
 struct backoff_total backoff_run(const int32_t *base, size_t base_len, const int32_t *check, size_t check_len,
                                  int32_t *state, size_t state_len, const uint32_t *words, size_t words_len, int32_t *points,
                                  size_t points_len, uint8_t *lengths, size_t lengths_len);
+
+/* The answer of a batch, its sheet. words and unknown leave the closing 3s out; total has their points, and matched counts
+ * them: matched[L - 1] is how many of the scored words had the matched length L. So the five counts add up to words +
+ * sentences. All but number and place is 0 where the call refuses. The place may be the number of any sentence, so it has 64
+ * bits. */
+struct backoff_sheet {
+    uint32_t number;
+    uint32_t sentences;
+    uint64_t place;
+    int64_t total;
+    uint32_t words;
+    uint32_t unknown;
+    uint32_t matched[5];
+};
+
+/* Scores many sentences, each from <s> and closed with a 3. The words of all sentences lie in words, one sentence behind the
+ * other; ends has, for each sentence, the number of words up to its end. Words after the last end belong to no sentence. A
+ * sentence may have no words. Points and length bytes of each word are written at the word's own place, as a run over the
+ * sentence from the state after <s> writes them; the closing 3 has no place there, but counts in the sheet. points and
+ * lengths have at least one item for each word up to the last end. Parts of a sheet are independent: sentences i to j are
+ * the sheet of words, points and lengths from the end before i to the end of j, and of their ends less that first end. The
+ * fields of the sheets of all parts, added up, are those of the whole. So parts may be scored at the same time.
+ * Refusals: 11; 20, at the first sentence whose end is below the one before it or past the words; 14, where words or ends
+ * has more than 65,535 items; 15; 12, at the first sentence that met it, be it at its start, at a word or at its closing 3.
+ * Accepted: points and lengths have the answers, and are untouched past the last end.
+ * After 11, 14, 15 and 20: points and lengths are untouched.
+ * After 12: points and lengths are 0 up to the last end, and untouched past it. */
+struct backoff_sheet backoff_batch(const int32_t *base, size_t base_len, const int32_t *check, size_t check_len,
+                                   const uint32_t *words, size_t words_len, const uint32_t *ends, size_t ends_len,
+                                   int32_t *points, size_t points_len, uint8_t *lengths, size_t lengths_len);
 
 /* Scores words from the list alone, after <s> or with no context: points, length bytes and total are those of a run over
  * the array of the list; a 3 ends a sentence here too. Each call checks the list anew.

@@ -3,6 +3,7 @@
 
 mod arpa;
 mod array;
+mod batch;
 mod instructions;
 mod list;
 mod lists;

@@ -4,8 +4,8 @@ use crate::lists::{Arrays, List};
 use crate::packed::Packed;
 use crate::score::Items;
 use crate::time::{compare, Compared};
-use crate::{array, list, plain, score, unload};
-use backoff::{Found, Status, Total};
+use crate::{array, batch, list, plain, score, unload};
+use backoff::{Found, Sheet, Status, Total};
 use std::hint::black_box;
 
 /// Nanoseconds that a call takes for a row, a lookup or a word, and the ratio of the two.
@@ -30,7 +30,10 @@ pub fn measure(list: &List) -> Vec<Measured> {
     let [run, packed, hashed] = run(list, &text);
     let [start, packed_start] = start(list);
     let built = build(list, list.arrays.slots());
-    vec![check(list), built, lookup(list), start, packed_start, run, packed, ended_run(list), hashed, plain(list, &text), unload(list)]
+    let mut measured = vec![check(list), built, lookup(list), start, packed_start, run, packed, ended_run(list), hashed];
+    measured.extend(batch(list, &text));
+    measured.extend([plain(list, &text), unload(list)]);
+    measured
 }
 
 fn check(list: &List) -> Measured {
@@ -136,6 +139,29 @@ fn ended_run(list: &List) -> Measured {
     let compared = compare(&mut ours, &mut rust);
     assert!(left == right && state == other_state, "the scorers agree");
     Measured::new("run, a 3 every 20 words, against packed states", "word", text.len(), compared)
+}
+
+type Batch = fn(&[i32], &[i32], &[u32], &[u32], &mut [i32], &mut [u8]) -> Sheet;
+
+/// The text as a sheet, in sentences of 20 words and of one, against the calls that a caller makes for it otherwise, and against the fastest Rust.
+fn batch(list: &List, text: &[u32]) -> [Measured; 4] {
+    let Arrays { base, check, .. } = &list.arrays;
+    let rows: [(&str, usize, Batch); 4] = [
+        ("batch, sentences of 20, against start and runs", 20, batch::by_calls),
+        ("batch, sentences of 1, against start and runs", 1, batch::by_calls),
+        ("batch, sentences of 20, against packed states", 20, batch::batch::<Packed>),
+        ("batch, sentences of 1, against packed states", 1, batch::batch::<Packed>),
+    ];
+    rows.map(|(call, length, other)| {
+        let ends = batch::ends(text.len(), length);
+        let [mut left, mut right] = [(); 2].map(|()| Scores::new(text.len()));
+        let (mut sheet, mut other_sheet) = (None, None);
+        let mut ours = || sheet = Some(backoff::batch(base, check, text, &ends, &mut left.points, &mut left.lengths));
+        let mut rust = || other_sheet = Some(other(base, check, text, &ends, &mut right.points, &mut right.lengths));
+        let compared = compare(&mut ours, &mut rust);
+        assert!(left == right && sheet == other_sheet, "the sheets agree");
+        Measured::new(call, "word", text.len(), compared)
+    })
 }
 
 /// Plain scoring with its check of the list, against Rust with binary search too.

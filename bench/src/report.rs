@@ -1,5 +1,6 @@
 //! The tables, as Markdown.
 
+use crate::batch;
 use crate::lists::{List, KINDS};
 use crate::measure::{build, measure, unload, Measured};
 use crate::reading;
@@ -22,6 +23,7 @@ pub fn print() {
     print_times(&results);
     print_memory(&results);
     print_largest(&results);
+    batch::print_threads(&results[0].lists[1]);
     reading::print_tables();
 }
 

@@ -94,7 +94,7 @@ impl State for Items {
 
 /// The state after `<s>`; nothing where 12 refuses.
 #[inline]
-fn begin<S: State>(base: &[i32], check: &[i32], order: usize) -> Option<S> {
+pub fn begin<S: State>(base: &[i32], check: &[i32], order: usize) -> Option<S> {
     let mut state = S::default();
     state.step(base, check, order, 2)?;
     Some(state)
@@ -102,7 +102,7 @@ fn begin<S: State>(base: &[i32], check: &[i32], order: usize) -> Option<S> {
 
 /// A word of a run: behind a 3 the state is start's.
 #[inline]
-fn score<S: State>(state: &mut S, base: &[i32], check: &[i32], order: usize, word: u32) -> Option<(i32, u8)> {
+pub fn score<S: State>(state: &mut S, base: &[i32], check: &[i32], order: usize, word: u32) -> Option<(i32, u8)> {
     let scored = state.step(base, check, order, word)?;
     if word == 3 {
         *state = begin(base, check, order)?;

@@ -43,7 +43,7 @@ fn time(call: &mut dyn FnMut(), repetitions: usize) -> f64 {
     (processor_time() - begin).as_secs_f64() / repetitions as f64
 }
 
-fn median(mut times: Vec<f64>) -> f64 {
+pub fn median(mut times: Vec<f64>) -> f64 {
     times.sort_by(f64::total_cmp);
     times[times.len() / 2]
 }

@@ -92,8 +92,23 @@ pub struct Rows {
     pub place: u64,
 }
 
+/// The answer of a batch: the sentences, their words and unknown words (the closing 3s in neither), the total of all points, those of the closing 3s too,
+/// and how many scored words, closing 3s too, had each matched length: `matched[0]` the length 1, and so on. The counts add up to words plus sentences. A refused
+/// sheet has a number and a place, the sentence for 20 and 12, and zeros.
+#[repr(C)]
+#[derive(Clone, Copy, Debug, PartialEq, Eq)]
+pub struct Sheet {
+    pub number: u32,
+    pub sentences: u32,
+    pub place: u64,
+    pub total: i64,
+    pub words: u32,
+    pub unknown: u32,
+    pub matched: [u32; 5],
+}
+
 mod raw {
-    use super::{Found, Rows, Status, Total};
+    use super::{Found, Rows, Sheet, Status, Total};
 
     // A slice crosses as a pointer and a length.
     extern "C" {
@@ -166,6 +181,21 @@ mod raw {
             work_len: usize,
         ) -> Status;
 
+        pub fn backoff_batch(
+            base: *const i32,
+            base_len: usize,
+            check: *const i32,
+            check_len: usize,
+            words: *const u32,
+            words_len: usize,
+            ends: *const u32,
+            ends_len: usize,
+            points: *mut i32,
+            points_len: usize,
+            lengths: *mut u8,
+            lengths_len: usize,
+        ) -> Sheet;
+
         pub fn backoff_arpa(text: *const u8, text_len: usize, table: *mut i32, table_len: usize, store: *mut u8, store_len: usize) -> Rows;
     }
 }
@@ -231,6 +261,51 @@ pub fn run(base: &[i32], check: &[i32], state: &mut [i32], words: &[u32], points
             state.len(),
             words.as_ptr(),
             words.len(),
+            points.as_mut_ptr(),
+            points.len(),
+            lengths.as_mut_ptr(),
+            lengths.len(),
+        )
+    }
+}
+
+/// Scores the sentences of a sheet. All their words lie in `words`, and item i of `ends` is the number of words up to the end of sentence i; words after the last
+/// end belong to none. Each sentence is scored from `<s>` and closed with a 3, which has no place in the slices. `points` and `lengths` have at least one
+/// item for each word up to the last end. Parts of a sheet are independent: see `examples/batch.c`.
+///
+/// Refusals: 11; 20, at the first sentence whose end is below the one before it or past the words; 14, where `words` or `ends` has more than 65,535 items; 15; 12,
+/// whose place is the sentence, from 1. After 12 `points` and `lengths` are 0 up to the last end; after the others they are untouched. They are always
+/// untouched past the last end.
+///
+/// ```
+/// # let list = [
+/// #     [1, 1, 0, 0, 0, 0, -20_000, 0],
+/// #     [1, 2, 0, 0, 0, 0, -990_000, -3_000],
+/// #     [1, 3, 0, 0, 0, 0, -10_000, 0],
+/// #     [1, 4, 0, 0, 0, 0, -6_000, -2_000],
+/// #     [2, 2, 4, 0, 0, 0, -4_000, 0],
+/// # ];
+/// # let (mut base, mut check, mut work) = ([0; 64], [0; 64], [0; 5]);
+/// # assert_eq!(backoff::build(list.as_flattened(), &mut base, &mut check, &mut work).number, 0);
+/// // Three sentences: `4 9`, an empty one, and `4`. Word 9 is not listed.
+/// let (mut points, mut lengths) = ([0; 3], [0; 3]);
+/// let sheet = backoff::batch(&base, &check, &[4, 9, 4], &[2, 2, 3], &mut points, &mut lengths);
+/// assert_eq!((sheet.number, sheet.sentences, sheet.words, sheet.unknown), (0, 3, 3, 1));
+/// assert_eq!((points, lengths), ([-4_000, -22_000, -4_000], [2, 1 + 8, 2]));
+/// // The closing 3s: -10,000 after 9, -13,000 after `<s>`, -12,000 after 4.
+/// assert_eq!((sheet.total, sheet.matched), (-65_000, [4, 2, 0, 0, 0]));
+/// ```
+pub fn batch(base: &[i32], check: &[i32], words: &[u32], ends: &[u32], points: &mut [i32], lengths: &mut [u8]) -> Sheet {
+    unsafe {
+        raw::backoff_batch(
+            base.as_ptr(),
+            base.len(),
+            check.as_ptr(),
+            check.len(),
+            words.as_ptr(),
+            words.len(),
+            ends.as_ptr(),
+            ends.len(),
             points.as_mut_ptr(),
             points.len(),
             lengths.as_mut_ptr(),

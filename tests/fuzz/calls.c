@@ -4,7 +4,7 @@
 #include <stdio.h>
 
 /* In one call of LOCKED the slices that are not to be written lie in pages that cannot be written. */
-enum { NUMBERS = 20, SMALL_LIST = 8 * 300, SMALL_TEXT = 1 << 16, LOCKED = 10 };
+enum { NUMBERS = 21, SMALL_LIST = 8 * 300, SMALL_TEXT = 1 << 16, LOCKED = 10 };
 
 #define LIST_NUMBERS (1u << 1 | 0x3Fu << 3 | 1u << 9)
 
@@ -24,29 +24,49 @@ static const struct form FORMS[CALLS] = {
     {"backoff_plain", 4, {false, false, true, true}, LIST_NUMBERS | 1u << 14 | 1u << 15},
     {"backoff_unload", 4, {false, false, true, true}, 1u << 11 | 1u << 12 | 1u << 15},
     {"backoff_arpa", 3, {false, true, true}, (LIST_NUMBERS & ~(1u << 3)) | 1u << 15 | 7u << 17},
+    {"backoff_batch",
+     6,
+     {false, false, false, false, true, true},
+     1u << 11 | 1u << 12 | 1u << 14 | 1u << 15 | 1u << 20},
 };
 
 /* How often each call gave each number. */
 static uint64_t met[CALLS][NUMBERS];
 
 static struct answer of_status(struct backoff_status status) {
-    struct answer answer = {status.number, status.place, 0, 0, 0, 0, 0};
+    struct answer answer = {.number = status.number, .place = status.place};
     return answer;
 }
 
 static struct answer of_found(struct backoff_found found) {
-    struct answer answer = {found.number, found.place, found.found, found.p, found.b, found.left, 0};
+    struct answer answer = {.number = found.number,
+                            .place = found.place,
+                            .found = found.found,
+                            .p = found.p,
+                            .b = found.b,
+                            .left = found.left};
     return answer;
 }
 
 static struct answer of_total(struct backoff_total total) {
-    struct answer answer = {total.number, total.place, 0, 0, 0, 0, total.total};
+    struct answer answer = {.number = total.number, .place = total.place, .total = total.total};
     return answer;
 }
 
 /* The rows count as the total. */
 static struct answer of_rows(struct backoff_rows rows) {
     struct answer answer = {.number = rows.number, .place = rows.place, .total = rows.rows};
+    return answer;
+}
+
+static struct answer of_sheet(struct backoff_sheet sheet) {
+    struct answer answer = {.number = sheet.number,
+                            .place = sheet.place,
+                            .total = sheet.total,
+                            .sentences = sheet.sentences,
+                            .words = sheet.words,
+                            .unknown = sheet.unknown};
+    memcpy(answer.matched, sheet.matched, sizeof answer.matched);
     return answer;
 }
 
@@ -67,6 +87,9 @@ static struct answer perform(enum call call, bool after_start, void *const *p, c
         return of_total(backoff_plain(p[0], s[0].count, after_start, p[1], s[1].count, p[2], s[2].count, p[3], s[3].count));
     case ARPA:
         return of_rows(backoff_arpa(p[0], s[0].count, p[1], s[1].count, p[2], s[2].count));
+    case BATCH:
+        return of_sheet(backoff_batch(p[0], s[0].count, p[1], s[1].count, p[2], s[2].count, p[3], s[3].count, p[4],
+                                      s[4].count, p[5], s[5].count));
     default:
         return of_status(backoff_unload(p[0], s[0].count, p[1], s[1].count, p[2], s[2].count, p[3], s[3].count));
     }
@@ -274,7 +297,7 @@ static void see_plain(bool after_start, const struct slice *before, const struct
     size_t words = before[1].count;
     bool listed = answer.number == 0 || answer.number == 14 || answer.number == 15;
     bool fits = before[2].count >= words && before[3].count >= words;
-    struct answer verdict = {listed ? 0 : answer.number, answer.place, 0, 0, 0, 0, 0};
+    struct answer verdict = {.number = listed ? 0 : answer.number, .place = answer.place};
     see_verdict(before[0], verdict);
     require((answer.number == 14) == (listed && words > BACKOFF_RUN_LIMIT), "14 exactly where there are too many words");
     require((answer.number == 15) == (listed && words <= BACKOFF_RUN_LIMIT && !fits),
@@ -283,6 +306,64 @@ static void see_plain(bool after_start, const struct slice *before, const struct
     see_outputs(before + 2, after + 2, words, order, answer);
     if (answer.number == 0)
         see_ruled(after_start, before, after);
+}
+
+/* The first sentence, from 1, whose end is below the one before or past the words; 0 where there is none. */
+static size_t bad_end(struct slice words, struct slice ends) {
+    for (size_t i = 0; i < ends.count; i++)
+        if (words_of(ends)[i] > words.count || (i > 0 && words_of(ends)[i] < words_of(ends)[i - 1]))
+            return i + 1;
+    return 0;
+}
+
+/* The counts of an accepted sheet, as far as the lengths tell them: each closing 3 is one scored word more. */
+static void see_sheet(struct slice lengths, size_t sentences, size_t last, struct answer answer) {
+    uint32_t matched[BACKOFF_ORDER_LIMIT] = {0}, unknown = 0, sum = 0;
+    for (size_t i = 0; i < last; i++) {
+        uint8_t byte = bytes_of(lengths)[i];
+        require((byte & 7) >= 1 && (byte & 7) <= BACKOFF_ORDER_LIMIT && byte < 32, "a length byte");
+        matched[(byte & 7) - 1]++;
+        unknown += (byte & BACKOFF_UNKNOWN_LENGTH) != 0;
+    }
+    for (size_t i = 0; i < BACKOFF_ORDER_LIMIT; i++) {
+        require(answer.matched[i] >= matched[i], "each word counts in its matched length");
+        sum += answer.matched[i];
+    }
+    require(answer.sentences == sentences && answer.words == last && answer.unknown == unknown, "the counts of a sheet");
+    require(sum == last + sentences, "the matched lengths add up to words and sentences");
+}
+
+static bool is_zero_sheet(struct answer answer) {
+    uint32_t sum = answer.sentences | answer.words | answer.unknown;
+    for (size_t i = 0; i < BACKOFF_ORDER_LIMIT; i++)
+        sum |= answer.matched[i];
+    return sum == 0 && answer.total == 0;
+}
+
+static void see_batch(const struct slice *before, const struct slice *after, struct answer answer) {
+    bool head = is_head(before[0], before[1]);
+    size_t words = before[2].count, sentences = before[3].count, bad = bad_end(before[2], before[3]);
+    size_t last = bad != 0 || sentences == 0 ? 0 : words_of(before[3])[sentences - 1];
+    bool counts = words <= BACKOFF_RUN_LIMIT && sentences <= BACKOFF_RUN_LIMIT;
+    bool fits = before[4].count >= last && before[5].count >= last;
+    require((answer.number == 11) == !head, "11 exactly where the head is wrong");
+    require((answer.number == 20) == (head && bad != 0), "20 exactly where an end is wrong");
+    require((answer.number == 14) == (head && bad == 0 && !counts), "14 exactly where there are too many words or ends");
+    require((answer.number == 15) == (head && bad == 0 && counts && !fits), "15 exactly where a slice is too short");
+    require(answer.number != 20 || answer.place == bad, "the first end that is wrong");
+    require(answer.number != 12 || (answer.place >= 1 && answer.place <= sentences), "place of a broken sentence");
+    require(answer.number == 12 || answer.number == 20 || answer.place == 0, "place of a batch");
+    require(answer.number == 0 || is_zero_sheet(answer), "a refused sheet is all zeros");
+    if (answer.number != 0 && answer.number != 12) {
+        require(same(before[4], after[4]) && same(before[5], after[5]), "points and lengths untouched");
+        return;
+    }
+    require(is_kept_from(before[4], after[4], last) && is_kept_from(before[5], after[5], last),
+            "points and lengths past the last end");
+    if (answer.number == 12)
+        require(is_all(after[4], last, 0) && is_all(after[5], last, 0), "points and lengths 0 after 12");
+    else
+        see_sheet(after[5], sentences, last, answer);
 }
 
 static void see_unload(const struct slice *before, const struct slice *after, struct answer answer) {
@@ -329,6 +410,9 @@ static void see(enum call call, bool after_start, const struct slice *before, co
     case ARPA:
         see_arpa(before, after, answer);
         break;
+    case BATCH:
+        see_batch(before, after, answer);
+        break;
     default:
         see_unload(before, after, answer);
     }
@@ -336,7 +420,8 @@ static void see(enum call call, bool after_start, const struct slice *before, co
 
 static bool same_answer(struct answer a, struct answer b) {
     return a.number == b.number && a.place == b.place && a.found == b.found && a.p == b.p && a.b == b.b &&
-           a.left == b.left && a.total == b.total;
+           a.left == b.left && a.total == b.total && a.sentences == b.sentences && a.words == b.words &&
+           a.unknown == b.unknown && memcmp(a.matched, b.matched, sizeof a.matched) == 0;
 }
 
 /* The call that is made, or was made last. */
@@ -345,7 +430,7 @@ const char *call_name = "";
 struct answer ask(enum call call, bool after_start, struct slice *slices) {
     const struct form *form = &FORMS[call];
     struct slice before[MOST_SLICES];
-    struct answer answer = {0, 0, 0, 0, 0, 0, 0};
+    struct answer answer = {.number = 0};
     call_name = form->name;
     memcpy(before, slices, form->slices * sizeof *slices);
     for (int placement = AT_END; placement < PLACEMENTS; placement++) {

@@ -1,12 +1,6 @@
-/* The cases: lists, built arrays, arrays that no build wrote, lengths, and ARPA texts (arpa.c), with what must hold between
- * calls. */
+/* The cases: lists, built arrays, arrays that no build wrote, lengths, ARPA texts (arpa.c) and batches (batch.c), with what
+ * must hold between calls. */
 #include "fuzz.h"
-
-struct arrays {
-    struct slice base;
-    struct slice check;
-    struct slice work;
-};
 
 /* ---- the calls, with fresh slices to be written */
 
@@ -27,28 +21,21 @@ static struct answer look_up(struct arrays a, const void *words, size_t count) {
     return ask(LOOKUP, false, slices);
 }
 
-static struct answer start(struct arrays a, struct slice *state) {
+struct answer start(struct arrays a, struct slice *state) {
     struct slice slices[3] = {a.base, a.check, *state};
     struct answer answer = ask(START, false, slices);
     *state = slices[2];
     return answer;
 }
 
-struct scored {
-    struct answer answer;
-    struct slice state;
-    struct slice points;
-    struct slice lengths;
-};
-
-static struct scored run(struct arrays a, struct slice state, struct slice words, size_t points, size_t lengths) {
+struct scored run(struct arrays a, struct slice state, struct slice words, size_t points, size_t lengths) {
     struct slice slices[6] = {a.base, a.check, state, words, rubbish(points, 4), rubbish(lengths, 1)};
     struct answer answer = ask(RUN, false, slices);
     struct scored scored = {answer, slices[2], slices[4], slices[5]};
     return scored;
 }
 
-static struct scored plain(struct slice table, bool after_start, struct slice words, size_t points, size_t lengths) {
+struct scored plain(struct slice table, bool after_start, struct slice words, size_t points, size_t lengths) {
     struct slice slices[4] = {table, words, rubbish(points, 4), rubbish(lengths, 1)};
     struct answer answer = ask(PLAIN, after_start, slices);
     struct scored scored = {answer, block(0, 4), slices[2], slices[3]};
@@ -102,7 +89,7 @@ static size_t least_slots(struct slice table) {
 }
 
 /* An array of an accepted list, with as many slots as it needs. */
-static struct arrays build_fitting(struct slice table) {
+struct arrays build_fitting(struct slice table) {
     struct arrays built, exact;
     size_t rows = rows_in(table), slots = least_slots(table), used = 0;
     while (build(table, slots, rows, &built).number == 10)
@@ -265,7 +252,7 @@ static void see_unload_of(struct arrays a) {
 }
 
 /* Changed or drawn arrays, and a list whose words to walk. */
-static struct arrays other_arrays(struct slice table) {
+struct arrays other_arrays(struct slice table) {
     struct arrays a = {block(0, 4), block(0, 4), block(0, 4)};
     if (chance(30)) {
         draw_arrays(&a.base, &a.check);
@@ -361,6 +348,9 @@ static void limit_case(size_t kind) {
     case 3:
         arpa_limit_case();
         break;
+    case 4:
+        batch_limit_case();
+        break;
     default:
         built = build_fitting(table);
         see_split(built, empty_state(), text(table, words));
@@ -369,13 +359,14 @@ static void limit_case(size_t kind) {
     }
 }
 
-enum { LIMITS = 5 };
+/* The limits, each once from this case on; they take long, so a wrong library is mostly caught before. */
+enum { FIRST_LIMIT = 400, LIMITS = 6 };
 
-/* The first cases are those of the limits; later they are rare. */
+/* The other cases are drawn, those of the limits rarely. */
 void run_case(uint64_t number) {
-    size_t kind = below(1300);
-    if (number < LIMITS)
-        limit_case((size_t)number);
+    size_t kind = below(1500);
+    if (number >= FIRST_LIMIT && number < FIRST_LIMIT + LIMITS)
+        limit_case((size_t)number - FIRST_LIMIT);
     else if (kind < 1)
         limit_case(below(LIMITS));
     else if (kind < 300)
@@ -386,6 +377,8 @@ void run_case(uint64_t number) {
         lent_case();
     else if (kind < 1000)
         length_case();
-    else
+    else if (kind < 1300)
         arpa_case();
+    else
+        batch_case();
 }

@@ -19,7 +19,7 @@ static inline uint32_t *words_of(struct slice slice) { return (uint32_t *)slice.
 static inline uint8_t *bytes_of(struct slice slice) { return (uint8_t *)slice.items; }
 
 /* The calls, the most slices that one of them takes, and their answers put into one form. */
-enum call { CHECK, BUILD, LOOKUP, START, RUN, PLAIN, UNLOAD, ARPA, CALLS };
+enum call { CHECK, BUILD, LOOKUP, START, RUN, PLAIN, UNLOAD, ARPA, BATCH, CALLS };
 
 enum { MOST_SLICES = 6 };
 
@@ -31,6 +31,10 @@ struct answer {
     int32_t b;
     uint32_t left;
     int64_t total;
+    uint32_t sentences;
+    uint32_t words;
+    uint32_t unknown;
+    uint32_t matched[BACKOFF_ORDER_LIMIT];
 };
 
 /* The case that is run (main.c). */
@@ -100,6 +104,30 @@ struct answer arpa_by_rules(struct slice text, struct slice table, struct slice 
 extern const char *call_name;
 struct answer ask(enum call call, bool after_start, struct slice *slices);
 bool report_calls(enum call call);
+
+/* The calls with fresh slices to be written, of the lengths given (cases.c). */
+struct arrays {
+    struct slice base;
+    struct slice check;
+    struct slice work;
+};
+
+struct scored {
+    struct answer answer;
+    struct slice state;
+    struct slice points;
+    struct slice lengths;
+};
+
+struct answer start(struct arrays a, struct slice *state);
+struct scored run(struct arrays a, struct slice state, struct slice words, size_t points, size_t lengths);
+struct scored plain(struct slice table, bool after_start, struct slice words, size_t points, size_t lengths);
+struct arrays build_fitting(struct slice table);
+struct arrays other_arrays(struct slice table);
+
+/* Batches (batch.c). */
+void batch_case(void);
+void batch_limit_case(void);
 
 /* ARPA texts, drawn and read (arpa.c). */
 void arpa_case(void);

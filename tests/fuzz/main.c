@@ -1,4 +1,4 @@
-/* A random driver over all eight calls: fuzz SECONDS SEED [CASE]. Case k of a seed is always the same; with CASE only that
+/* A random driver over all calls: fuzz SECONDS SEED [CASE]. Case k of a seed is always the same; with CASE only that
  * one is run. The last line is 'N passed, M failed': a call passes where nothing was violated in any case and it gave each
  * of its numbers in some case. */
 #include "fuzz.h"
@@ -8,7 +8,7 @@
 #include <time.h>
 
 /* So many cases are run however slow the machine is: enough to meet every number. */
-enum { LEAST_CASES = 5200 };
+enum { LEAST_CASES = 7600 };
 
 static unsigned long long seed, number;
 

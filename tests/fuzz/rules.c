@@ -146,7 +146,7 @@ static uint32_t row_fault(struct slice table, size_t i) {
 
 /* "1, then row by row 3 to 8, then 9." */
 struct answer verdict_on(struct slice table) {
-    struct answer verdict = {BACKOFF_TABLE_LENGTH, 0, 0, 0, 0, 0, 0};
+    struct answer verdict = {.number = BACKOFF_TABLE_LENGTH};
     size_t rows = rows_in(table);
     if (rows == 0 || table.count % BACKOFF_ROW_ITEMS != 0 || rows > BACKOFF_ROW_LIMIT)
         return verdict;

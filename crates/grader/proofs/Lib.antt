@@ -1,5 +1,6 @@
 -- The theorems over the calls' outcomes, and a law of lists.
 pub mod RunsInARow
+pub mod BatchSheet
 pub mod LeftExtension
 pub mod SentencesApart
 pub mod MarkedCases

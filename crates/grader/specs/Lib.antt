@@ -2,5 +2,6 @@
 pub mod Exports
 pub mod RunsInARow
 pub mod SentencesApart
+pub mod BatchSheet
 pub mod MarkedCases
 pub mod Returns

@@ -1,6 +1,7 @@
 // The calls that cross to C. A slice is a pointer and then a length. Each export is thin: one call, and its answer as numbers.
 use arpa::Rows;
 use backoff::Verdict;
+use batch::Sheet;
 use double_array::Lookup;
 use score::State;
 ghost use mathlib.Core.Path.{_≡_};
@@ -15,6 +16,8 @@ ghost use Rattle.backoff.specs.Store.{startOutcome, runOutcome};
 ghost use Rattle.double_array.specs.DoubleArray.{opened};
 ghost use Rattle.score.specs.Answers.{numbersOf};
 ghost use Rattle.score.specs.Meaning.{StartMeans, RunMeans};
+ghost use Rattle.batch.specs.Sheet.{sheetOutcome};
+ghost use Rattle.batch.specs.Meaning.{SheetMeans};
 ghost use Rattle.plain.specs.Plain.{runOf, plainOutcome, PlainMeans};
 ghost use Rattle.unload.specs.Unload.{unloadOutcome};
 ghost use Rattle.unload.specs.Meaning.{UnloadMeans};
@@ -238,6 +241,22 @@ pub extern "C" fn backoff_run(
         place: ran.place,
         total: ran.total,
     }
+}
+
+// Scores sentences, each on its own stretch of the slices: 11, 20 with the sentence's number, 14, 15, 12 with the sentence's number.
+#[no_mangle]
+pub extern "C" fn backoff_batch(
+    base: &[i32],
+    check: &[i32],
+    words: &[u32],
+    ends: &[u32],
+    points: &mut [i32],
+    lengths: &mut [u8],
+) -> Sheet
+    ensures outcome { λ r. ⌜ record { sheet = r; points = now (points .exit); lengths = now (lengths .exit) } ≡ sheetOutcome (opened (now (base .entry)) (now (check .entry))) (now (ends .entry)) (runOf (now (words .entry)) (now (points .entry)) (now (lengths .entry))) ⌝ }
+    ensures meaning { λ r. ⌜ SheetMeans (now (ends .entry)) (runOf (now (words .entry)) (now (points .entry)) (now (lengths .entry))) (record { sheet = r; points = now (points .exit); lengths = now (lengths .exit) }) ⌝ }
+{
+    batch::score_batch(base, check, words, ends, points, lengths)
 }
 
 // Scores the words by the list alone, after `<s>` or with no context: 1, rows 3 to 8, 9, then 14, 15.

@@ -470,8 +470,8 @@ fn write_word(
     lengths[i] = length_byte(kind, extended);
 }
 
-// The run's points and lengths after refusal 12.
-fn clear(points: &mut [i32], lengths: &mut [u8], count: usize)
+// The first `count` points and lengths after refusal 12.
+pub fn clear(points: &mut [i32], lengths: &mut [u8], count: usize)
     requires { ⌜ (count ≤ length (now points)) × (count ≤ length (now lengths)) ⌝ }
     ensures points { λ _. ⌜ now (points .exit) ≡ written (replicate count (pos 0)) (now (points .entry)) ⌝ }
     ensures lengths { λ _. ⌜ now (lengths .exit) ≡ written (replicate count 0) (now (lengths .entry)) ⌝ }

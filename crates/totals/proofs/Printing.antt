@@ -3,19 +3,16 @@ use mathlib.Core.Path.{_≡_, sym, ap, _∙_}
 use mathlib.Core.List.{List, _++_}
 use Prim.Native.Nat.{ℕ, _+_, _≤_}
 use native.Mathlib.Omega.{arith}
-use lib.ListN.{length, take, drop, length-append, length-drop}
+use lib.ListN.{length, take, drop, length-append}
 use lib.Seq.{take-at, length-take-le, paste, take-paste}
 use Rattle.backoff.specs.Run.{written}
+use Rattle.backoff.proofs.Slices.{length-written}
 use Rattle.io.specs.Counts.{Counts}
 
 -- the line that was written
 pub front-of : {A : Type 0} (n : ℕ) (line old out : List A) → n ≡ length line → out ≡ written line old → take n out ≡ line
 unfolding written
 front-of {A} n line old out e f = ap (λ (l : List A). take n l) f ∙ take-at line _ n (sym e)
-
-pub length-written : {A : Type 0} (new old : List A) → length new ≤ length old → length (written new old) ≡ length old
-unfolding written
-length-written new old h = omega (arith, length-append new (drop (length new) old), length-drop (length new) old)
 
 -- its length is a count of the buffer's characters
 pub counted : (n : ℕ) (line old out : List ℕ) → n ≡ length line → out ≡ written line old → Counts n out

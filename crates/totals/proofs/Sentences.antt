@@ -17,12 +17,12 @@ use Rattle.backoff.specs.Refusal.{textLine}
 use Rattle.backoff.specs.Model.{Model}
 use Rattle.backoff.specs.Rule.{rulePoints}
 use Rattle.backoff.specs.Run.{written}
+use Rattle.backoff.proofs.Slices.{length-written}
 use Rattle.totals_text.specs.declared.TextLine.the-variants.{Words, NotInForm}
 use Rattle.totals_text.specs.Lines.{isTextLine, textWords, textAnswer, sentenceLine, refusedLine}
 use Rattle.totals_text.proofs.Lines.{length-words}
 use Rattle.totals.specs.Totals.{unknownIn, totalOf, sentenceOutput}
 use Rattle.totals.specs.Steps.{lineOutput}
-use Rattle.totals.proofs.Printing.{length-written}
 
 -- a line that is in form is answered with its words
 pub not-words : (line : List ℕ) → isTextLine line ≡ true → textAnswer line ≡ NotInForm → ⊥

@@ -2,6 +2,7 @@
 
 pub mod arpa;
 pub mod array;
+pub mod batch;
 pub mod build;
 pub mod list;
 pub mod rule;

@@ -1,0 +1,274 @@
+-- The three calls of one sentence: what they answer together, and how large its total gets. Assumes nothing.
+use mathlib.Core.Path.{_≡_, refl, sym, ap, ap₂, subst, _∙_}
+use mathlib.Core.Bool.{Bool, true, false, cond, true≢false}
+use mathlib.Core.List.{List, [], _∷_}
+use mathlib.Core.Option.{Option}
+use Prim.Native.Nat.{ℕ, suc, _+_, _*_, _-_, _≤_, _<_}
+use native.Mathlib.Omega.{arith}
+use lib.ListN.{length, getD, take}
+use lib.IntN.{ℤ, natAbs, _+ℤ_}
+use lib.Dec.{eqb}
+use mir.Syntax.{w64}
+use mir.Val.{SFits, ofZ, toZ}
+use mir.Facts.{toZ-ofZ}
+use borrow.Author.Tests.{eq-eqb, ne-eqb, eqb-true, eqb-false}
+use Rattle.integer.proofs.Arithmetic.{zarith, abs, add, and-no}
+use Rattle.backoff.specs.Limits.{runLimit, orderLimit, largestBackoff}
+use Rattle.backoff.specs.Refusal.{arrayHead, badState}
+use Rattle.backoff.specs.NineNumbers.{nineZeros}
+use Rattle.backoff.specs.Run.{Run, Answer, refusedRun}
+use Rattle.backoff.specs.Runs.{flat}
+use Rattle.backoff.specs.Store.{Store, Started, startOutcome, runOutcome}
+use Rattle.backoff.proofs.Sizes.{total-size}
+use Rattle.backoff.proofs.Slices.{Keeps, runOutcome-keeps}
+use Rattle.double_array.specs.DoubleArray.{isArray, storeIn, opened}
+use Rattle.double_array.proofs.DoubleArray.{opened-some, opened-none, opened-order}
+use Rattle.score.proofs.Rows.{rows-in-probability, rows-in-backoff}
+use Rattle.batch.specs.declared.Sentence.{Sentence}
+use Rattle.batch.specs.declared.Sentence.the-variants.{Whole, Refused}
+use Rattle.batch.specs.Sheet.{sentence, sentences, wordPoints, wordBytes, closingBytes, stretch, lastEnd, badEnd, closingRun, begun, wordsRun, closed, isScored, sentenceTotal}
+use Rattle.batch.specs.Inner.{closingOf, sentenceOf, SentenceIs, counted, OneRefused}
+use Rattle.batch.proofs.Ends.{lastEnd-next, good-end, good-last}
+use Rattle.batch.proofs.Stretches.{length-stretch, length-all}
+use Rattle.batch.proofs.Sentences.{totalLimit, putBack, Batching, batching-on, batching-refused}
+
+-- ---- an answer by a test: whole, or refused
+
+module _ (t : Bool) (x : ℤ) (b : ℕ) where
+  told-whole : (y : ℤ) (c : ℕ) → Whole y c ≡ cond t (Whole x b) Refused → (t ≡ true) × ((y ≡ x) × (c ≡ b))
+  told-whole y c e = go t e
+    where
+      go : (u : Bool) → Whole y c ≡ cond u (Whole x b) Refused → (u ≡ true) × ((y ≡ x) × (c ≡ b))
+      go true q = (refl, (cc, cc))
+      go false q = let z : _≡_ {A = ℕ} 0 1 = cc in absurd (omega arith)
+
+  told-refused : Refused ≡ cond t (Whole x b) Refused → t ≡ false
+  told-refused e = go t e
+    where
+      go : (u : Bool) → Refused ≡ cond u (Whole x b) Refused → u ≡ false
+      go true q = let z : _≡_ {A = ℕ} 0 1 = cc in absurd (omega arith)
+      go false q = refl
+
+-- ---- the closing 3
+
+module _ {a b : Answer (List ℤ)} (e : b ≡ a) where
+  pub closing-no : (b .number ≡ 0 → ⊥) → Refused ≡ closingOf a
+  closing-no n = rw (sym e, ne-eqb (b .number) 0 n)
+
+  pub closing-yes : b .number ≡ 0 → (x : ℤ) → x ≡ b .total → Whole x (getD (b .lengths) 0 0) ≡ closingOf a
+  closing-yes z x t = rw (sym e, eq-eqb (b .number) 0 z, t)
+
+module _ (a : Answer (List ℤ)) where
+  closing-whole : (y : ℤ) (c : ℕ) → Whole y c ≡ closingOf a → (a .number ≡ 0) × ((y ≡ a .total) × (c ≡ getD (a .lengths) 0 0))
+  closing-whole y c e = let t = told-whole (eqb (a .number) 0) (a .total) (getD (a .lengths) 0 0) y c e in (eqb-true _ _ (t .0), t .1)
+
+  closing-refused : Refused ≡ closingOf a → a .number ≡ 0 → ⊥
+  closing-refused e = eqb-false (a .number) 0 (told-refused (eqb (a .number) 0) (a .total) (getD (a .lengths) 0 0) e)
+
+list-of-one : (l : List ℕ) → length l ≡ 1 → l ≡ getD l 0 0 ∷ []
+list-of-one [] h = absurd (omega arith)
+list-of-one (x ∷ []) h = refl
+list-of-one (x ∷ y ∷ l) h = absurd (omega arith)
+
+module _ (o : Option Store) (r : Run) where
+  pub closed-long : length (closed o r .lengths) ≡ 1
+  unfolding closed
+  closed-long = runOutcome-keeps (wordsRun o r .end) closingRun o .lengths
+
+  -- it has one length byte
+  pub closed-one : closed o r .lengths ≡ getD (closed o r .lengths) 0 0 ∷ []
+  closed-one = list-of-one (closed o r .lengths) closed-long
+
+  -- ---- the three calls
+
+  start-refuses : (begun o .number ≡ 0 → ⊥) → isScored o r ≡ false
+  unfolding isScored
+  start-refuses n = rw (ne-eqb (begun o .number) 0 n)
+
+  words-refuse : (wordsRun o r .number ≡ 0 → ⊥) → isScored o r ≡ false
+  unfolding isScored
+  words-refuse n = and-no (eqb (begun o .number) 0) _ (rw (ne-eqb (wordsRun o r .number) 0 n))
+
+  closing-refuses : (closed o r .number ≡ 0 → ⊥) → isScored o r ≡ false
+  unfolding isScored
+  closing-refuses n = and-no (eqb (begun o .number) 0) _ (and-no (eqb (wordsRun o r .number) 0) _ (ne-eqb (closed o r .number) 0 n))
+
+  pub none-refuses : begun o .number ≡ 0 → wordsRun o r .number ≡ 0 → closed o r .number ≡ 0 → isScored o r ≡ true
+  unfolding isScored
+  none-refuses p q s = rw (eq-eqb (begun o .number) 0 p, eq-eqb (wordsRun o r .number) 0 q, eq-eqb (closed o r .number) 0 s)
+
+  refused-sentence : isScored o r ≡ false → (points : List ℤ) (lengths : List ℕ) → SentenceIs o r Refused points lengths
+  refused-sentence e points lengths = record { answer-is = rw e; points-are = λ t. absurd (true≢false (sym t ∙ e)); lengths-are = λ t. absurd (true≢false (sym t ∙ e)) }
+
+  whole-sentence : isScored o r ≡ true → (total : ℤ) → total ≡ sentenceTotal o r → (closing : ℕ) → closing ≡ getD (closed o r .lengths) 0 0 → (points : List ℤ) → points ≡ wordsRun o r .points → (lengths : List ℕ) → lengths ≡ wordsRun o r .lengths → SentenceIs o r (Whole total closing) points lengths
+  whole-sentence s total t closing c points p lengths l = record { answer-is = rw (s, t, c); points-are = λ e. p; lengths-are = λ e. l }
+
+  pub sentence-whole : (y : ℤ) (c : ℕ) → Whole y c ≡ sentenceOf o r → (isScored o r ≡ true) × ((y ≡ sentenceTotal o r) × (c ≡ getD (closed o r .lengths) 0 0))
+  sentence-whole = told-whole (isScored o r) (sentenceTotal o r) (getD (closed o r .lengths) 0 0)
+
+  pub sentence-refused : Refused ≡ sentenceOf o r → isScored o r ≡ false
+  sentence-refused = told-refused (isScored o r) (sentenceTotal o r) (getD (closed o r .lengths) 0 0)
+
+-- a run that was answered from start's state, and a 3 from the state that it left
+module _ (o : Option Store) (s : Started) (s-is : s ≡ startOutcome o nineZeros) where
+  begun-is : s .number ≡ begun o .number
+  begun-is = ap (λ (x : Started). x .number) s-is
+
+  -- start is refused
+  pub no-start : (s .number ≡ 0 → ⊥) → (r : Run) (points : List ℤ) (lengths : List ℕ) → SentenceIs o r Refused points lengths
+  no-start n r = refused-sentence o r (start-refuses o r (λ e. n (begun-is ∙ e)))
+
+  module _ (r : Run) (a : Answer (List ℤ)) (a-is : a ≡ runOutcome o (s .state) r) where
+    wordsRun-is : a ≡ wordsRun o r
+    unfolding wordsRun
+    wordsRun-is = a-is ∙ ap (λ (x : Started). runOutcome o (x .state) r) s-is
+
+    closed-is : runOutcome o (a .end) closingRun ≡ closed o r
+    unfolding closed
+    closed-is = ap (λ (x : Answer (List ℤ)). runOutcome o (x .end) closingRun) wordsRun-is
+
+    -- the words are refused
+    pub no-words : (a .number ≡ 0 → ⊥) → (points : List ℤ) (lengths : List ℕ) → SentenceIs o r Refused points lengths
+    no-words n = refused-sentence o r (words-refuse o r (λ e. n (ap (λ (x : Answer (List ℤ)). x .number) wordsRun-is ∙ e)))
+
+    -- the 3 is refused
+    pub no-closing : Refused ≡ closingOf (runOutcome o (a .end) closingRun) → (points : List ℤ) (lengths : List ℕ) → SentenceIs o r Refused points lengths
+    no-closing e = refused-sentence o r (closing-refuses o r (closing-refused (closed o r) (e ∙ ap closingOf closed-is)))
+
+    -- none is
+    pub all-three : s .number ≡ 0 → a .number ≡ 0 → (y : ℤ) (c : ℕ) → Whole y c ≡ closingOf (runOutcome o (a .end) closingRun) → (total : ℤ) → total ≡ a .total +ℤ y → SentenceIs o r (Whole total c) (a .points) (a .lengths)
+    all-three p q y c e total t =
+        let w = closing-whole (closed o r) y c (e ∙ ap closingOf closed-is) in
+        whole-sentence o r
+        (none-refuses o r (sym begun-is ∙ p) (sym (ap (λ (x : Answer (List ℤ)). x .number) wordsRun-is) ∙ q) (w .0))
+        total (t ∙ ap₂ (λ (u v : ℤ). u +ℤ v) (ap (λ (x : Answer (List ℤ)). x .total) wordsRun-is) (w .1 .0) ∙ (unfold sentenceTotal in refl))
+        c (w .1 .1)
+        (a .points) (ap (λ (x : Answer (List ℤ)). x .points) wordsRun-is)
+        (a .lengths) (ap (λ (x : Answer (List ℤ)). x .lengths) wordsRun-is)
+
+-- ---- how many items all sentences have
+
+pub closing-long : (o : Option Store) (rs : List Run) → length (closingBytes o rs) ≡ length rs
+unfolding closingBytes flat
+closing-long o [] = refl
+closing-long o (r ∷ rs) = rw (closed-one o r) (ap suc (closing-long o rs))
+
+module _ (o : Option Store) where
+  pub words-keep : (q : Run) → Keeps q (wordsRun o q)
+  unfolding wordsRun
+  words-keep q = runOutcome-keeps (begun o .state) q o
+
+  module _ (r : Run) where
+    -- what the words of one sentence leave is as long as their stretch
+    pub points-each : (a e : ℕ) → a ≤ e → e ≤ length (r .points) → length (wordsRun o (sentence a e r) .points) ≡ e - a
+    points-each a e h k = words-keep (sentence a e r) .points ∙ length-stretch a e (r .points) h k
+
+    pub bytes-each : (a e : ℕ) → a ≤ e → e ≤ length (r .lengths) → length (wordsRun o (sentence a e r) .lengths) ≡ e - a
+    bytes-each a e h k = words-keep (sentence a e r) .lengths ∙ length-stretch a e (r .lengths) h k
+
+    -- and that of all words reaches to the last end
+    pub points-long : (es : List ℕ) → badEnd (length (r .words)) 1 0 es ≡ 0 → lastEnd 0 es ≤ length (r .points) → length (wordPoints o (sentences 0 es r)) ≡ lastEnd 0 es
+    unfolding wordPoints
+    points-long es g h = omega (arith, length-all r (λ q. wordsRun o q .points) (length (r .points)) points-each 0 0 es g h)
+
+    pub bytes-long : (es : List ℕ) → badEnd (length (r .words)) 1 0 es ≡ 0 → lastEnd 0 es ≤ length (r .lengths) → length (wordBytes o (sentences 0 es r)) ≡ lastEnd 0 es
+    unfolding wordBytes
+    bytes-long es g h = omega (arith, length-all r (λ q. wordsRun o q .lengths) (length (r .lengths)) bytes-each 0 0 es g h)
+
+-- ---- how large totals get, over any lent arrays
+
+-- no run's total gets further from 0
+abbrev pub runTotal : ℕ
+runTotal = runLimit * (orderLimit * largestBackoff)
+
+module _ (base check : List ℤ) where
+  pub run-total-small : (l : List ℤ) (r : Run) → natAbs (runOutcome (opened base check) l r .total) ≤ runTotal
+  run-total-small l r = go (isArray base check) refl
+    where
+      go : (b : Bool) → isArray base check ≡ b → natAbs (runOutcome (opened base check) l r .total) ≤ runTotal
+      go true e = rw (opened-some base check e) (total-size (storeIn base check) (rows-in-probability base check) (rows-in-backoff base check) (unfold storeIn in opened-order base check e .1) l r)
+      go false e = rw (opened-none base check e) (unfold runOutcome refusedRun in elim (eqb (length l) 9) as (λ b. natAbs (cond b (refusedRun arrayHead 0 l r) (refusedRun badState 0 l r) .total) ≤ runTotal) [ true ↦ omega arith | false ↦ omega arith ])
+
+  pub run-answer-small : (l : List ℤ) (r : Run) (a : Answer (List ℤ)) → a ≡ runOutcome (opened base check) l r → natAbs (a .total) ≤ runTotal
+  run-answer-small l r a e = rw e (run-total-small l r)
+
+  pub closing-small : (l : List ℤ) (r : Run) (y : ℤ) (c : ℕ) → Whole y c ≡ closingOf (runOutcome (opened base check) l r) → natAbs y ≤ runTotal
+  closing-small l r y c e = rw (closing-whole (runOutcome (opened base check) l r) y c e .1 .0) (run-total-small l r)
+
+  pub sentence-total-small : (r : Run) → natAbs (sentenceTotal (opened base check) r) ≤ totalLimit
+  unfolding sentenceTotal wordsRun closed
+  sentence-total-small r =
+      let o = opened base check in
+      let x = wordsRun o r .total in
+      let y = closed o r .total in
+      omega (arith, run-total-small (begun o .state) r, run-total-small (wordsRun o r .end) closingRun, add x y, abs x, abs y, abs (x +ℤ y))
+
+pub total-back : (x : ℤ) → natAbs x ≤ runTotal → toZ w64 (ofZ w64 x) ≡ x
+total-back x h = let f : SFits w64 x = omega (zarith, abs x) in toZ-ofZ f
+
+-- two of them, added
+module _ (x y : ℤ) (p : natAbs x ≤ runTotal) (q : natAbs y ≤ runTotal) where
+  pub two-fit : SFits w64 (toZ w64 (ofZ w64 x) +ℤ toZ w64 (ofZ w64 y))
+  two-fit = rw (total-back x p, total-back y q) (omega (zarith, add x y, abs x, abs y))
+
+  pub two-added : toZ w64 (ofZ w64 (toZ w64 (ofZ w64 x) +ℤ toZ w64 (ofZ w64 y))) ≡ x +ℤ y
+  two-added = toZ-ofZ two-fit ∙ ap₂ (λ (u v : ℤ). u +ℤ v) (total-back x p) (total-back y q)
+
+-- a sentence's total added to those of the n sentences before it
+module _ (n : ℕ) (few : n ≤ runLimit) (x y : ℤ) (p : natAbs x ≤ n * totalLimit) (q : natAbs y ≤ totalLimit) where
+  sentence-back : toZ w64 (ofZ w64 y) ≡ y
+  sentence-back = let f : SFits w64 y = omega (zarith, abs y) in toZ-ofZ f
+
+  pub next-fits : SFits w64 (x +ℤ toZ w64 (ofZ w64 y))
+  next-fits = rw sentence-back (omega (zarith, add x y, abs x, abs y))
+
+  pub next-added : toZ w64 (ofZ w64 (x +ℤ toZ w64 (ofZ w64 y))) ≡ x +ℤ y
+  next-added = toZ-ofZ next-fits ∙ ap (λ (v : ℤ). x +ℤ v) sentence-back
+
+-- ---- one turn of the loop
+
+-- a stretch lies within slices of so many items
+pub record Within (a e words points lengths : ℕ) : Type 0 where
+  pub below : a ≤ e
+  pub in-words : e ≤ words
+  pub in-points : e ≤ points
+  pub in-lengths : e ≤ lengths
+
+module _ (base check : List ℤ) (ends : List ℕ) (r : Run) where
+  abbrev o : Option Store
+  o = opened base check
+
+  module _ (a i : ℕ) (total : ℤ) (points : List ℤ) (lengths counts : List ℕ) (b : Batching o ends r a i total points lengths counts) (h : i < length ends) (good : badEnd (length (r .words)) 1 0 ends ≡ 0) (in-points : lastEnd 0 ends ≤ length (r .points)) (in-lengths : lastEnd 0 ends ≤ length (r .lengths)) where
+    abbrev e : ℕ
+    e = getD ends i 0
+
+    last : e ≤ lastEnd 0 ends
+    last = omega (arith, lastEnd-next 0 ends i h, good-last (length (r .words)) 0 0 ends (i + 1) good)
+
+    pub next-within : Within a e (length (r .words)) (length points) (length lengths)
+    next-within =
+        let g = good-end (length (r .words)) 0 0 ends i good h in
+        record { below = omega (arith, b .a-is, g .0); in-words = g .1; in-points = omega (arith, last, b .points-done .long); in-lengths = omega (arith, last, b .lengths-done .long) }
+
+    -- what it is lent is what stood there at first
+    lent-is : record { words = stretch a e (r .words); points = stretch a e points; lengths = stretch a e lengths } ≡ sentence a e r
+    lent-is =
+        ap₂ (λ (ps : List ℤ) (bs : List ℕ). record { words = stretch a e (r .words); points = ps; lengths = bs }) (ap (take (e - a)) (b .points-done .past)) (ap (take (e - a)) (b .lengths-done .past))
+
+    module _ (answer : Sentence) (ps : List ℤ) (bs : List ℕ) (long-points : length ps ≡ e - a) (long-bytes : length bs ≡ e - a) (is : SentenceIs o (record { words = stretch a e (r .words); points = stretch a e points; lengths = stretch a e lengths }) answer ps bs) where
+      next-is : SentenceIs o (sentence a e r) answer ps bs
+      next-is = subst (λ (q : Run). SentenceIs o q answer ps bs) lent-is is
+
+      pub turn-total : (y : ℤ) (c : ℕ) → answer ≡ Whole y c → natAbs y ≤ totalLimit
+      turn-total y c w = rw (sentence-whole o (sentence a e r) y c (sym w ∙ next-is .answer-is) .1 .0) (sentence-total-small base check (sentence a e r))
+
+      pub turn-on : (y : ℤ) (c : ℕ) → answer ≡ Whole y c → Batching o ends r e (i + 1) (total +ℤ y) (putBack a e ps points) (putBack a e bs lengths) (counted c counts)
+      turn-on y c w =
+          let q = sentence a e r in
+          let t = sentence-whole o q y c (sym w ∙ next-is .answer-is) in
+          rw (t .1 .0)
+          (batching-on o ends r a i total points lengths counts b h (next-within .below) (omega (arith, last)) (omega (arith, last)) (t .0) ps long-points (next-is .points-are (t .0)) bs long-bytes (next-is .lengths-are (t .0)) (sentence-total-small base check q) c (closed-one o q ∙ ap (λ (k : ℕ). k ∷ []) (sym (t .1 .1))))
+
+      pub turn-refused : answer ≡ Refused → OneRefused o ends r i (putBack a e ps points) (putBack a e bs lengths)
+      turn-refused w =
+          batching-refused o ends r a i total points lengths counts b h good in-points in-lengths (sentence-refused o (sentence a e r) (sym w ∙ next-is .answer-is)) ps long-points bs long-bytes

@@ -1,0 +1,9 @@
+-- The laws of the batch sheet.
+pub mod Ends
+pub mod Counts
+pub mod Stretches
+pub mod Sentences
+pub mod Calls
+pub mod Outcome
+pub mod Refusals
+pub mod Meaning

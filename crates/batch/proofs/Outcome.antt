@@ -1,0 +1,108 @@
+-- The sheet's outcome from what the code finds: refused early, some sentence refused, or all scored and counted. Assumes nothing.
+use mathlib.Core.Path.{_≡_, refl, sym, ap, _∙_}
+use mathlib.Core.Bool.{Bool, true, false}
+use mathlib.Core.List.{List, [], _∷_, _++_}
+use mathlib.Core.Option.{Option}
+use Prim.Native.Nat.{ℕ, _+_, _≤_, _<_}
+use native.Mathlib.Omega.{arith}
+use lib.ListN.{length, take, drop, getD, replicate, length-replicate, length-append}
+use lib.Seq.{take-at}
+use lib.IntN.{ℤ, pos}
+use lib.Dec.{eqb}
+use borrow.Author.Tests.{eq-eqb, ne-eqb, eqb-true}
+use Rattle.backoff.specs.Refusal.{arrayHead, sentenceEnd}
+use Rattle.backoff.specs.Run.{Run, written}
+use Rattle.backoff.specs.Store.{Store}
+use Rattle.double_array.specs.DoubleArray.{isArray, opened}
+use Rattle.double_array.proofs.DoubleArray.{opened-some, opened-none}
+use Rattle.batch.specs.declared.Refusal.{Refusal}
+use Rattle.batch.specs.declared.Sheet.{Sheet}
+use Rattle.batch.specs.Counts.{hasMatched, saysUnknown, count}
+use Rattle.batch.specs.Sheet.{sentences, lastEnd, badEnd, sheetSize, earlyRefusal, met, Outcome, wordBytes, closingBytes, unknownOf, matchedOf, firstRefused, refusedSheet, brokenSheet, acceptedSheet, scoredSheet, sheetOutcome}
+use Rattle.batch.specs.Inner.{Tallied, AllScored, OneRefused}
+use Rattle.batch.proofs.Ends.{Fits, fits, good-within}
+use Rattle.batch.proofs.Counts.{count-append}
+
+-- ---- what comes early
+
+module _ (base check : List ℤ) (words : ℕ) (ends : List ℕ) (points lengths : ℕ) where
+  pub array-refused : isArray base check ≡ false → record { number = arrayHead; place = 0 } ≡ earlyRefusal (opened base check) words ends points lengths
+  array-refused e = rw (opened-none base check e)
+
+  module _ (h : isArray base check ≡ true) where
+    pub end-refused : (k : ℕ) → k ≡ badEnd words 1 0 ends → (k ≡ 0 → ⊥) → record { number = sentenceEnd; place = k } ≡ earlyRefusal (opened base check) words ends points lengths
+    end-refused k e n = rw (opened-some base check h, sym e, ne-eqb k 0 n)
+
+    pub sizes-refused : (k : ℕ) → k ≡ badEnd words 1 0 ends → k ≡ 0 → (number : ℕ) → number ≡ sheetSize words (length ends) (lastEnd 0 ends) points lengths → record { number = number; place = 0 } ≡ earlyRefusal (opened base check) words ends points lengths
+    sizes-refused k e z number f = rw (opened-some base check h, sym e, eq-eqb k 0 z, f)
+
+-- what is known where nothing comes early
+pub record Passed (base check : List ℤ) (ends : List ℕ) (r : Run) : Type 0 where
+  pub array : isArray base check ≡ true
+  pub ends-good : badEnd (length (r .words)) 1 0 ends ≡ 0
+  pub sizes : Fits (length (r .words)) (length ends) (lastEnd 0 ends) (length (r .points)) (length (r .lengths))
+
+pub passed : (base check : List ℤ) (ends : List ℕ) (r : Run) → met (opened base check) ends r .number ≡ 0 → Passed base check ends r
+unfolding met
+passed base check ends r = go (isArray base check) refl (eqb (badEnd (length (r .words)) 1 0 ends) 0) refl
+  where
+    go : (b : Bool) → isArray base check ≡ b → (c : Bool) → eqb (badEnd (length (r .words)) 1 0 ends) 0 ≡ c → earlyRefusal (opened base check) (length (r .words)) ends (length (r .points)) (length (r .lengths)) .number ≡ 0 → Passed base check ends r
+    go false e c f z = let q : arrayHead ≡ 0 = rw (opened-none base check e) at z in absurd (omega arith)
+    go true e false f z = let q : sentenceEnd ≡ 0 = rw (opened-some base check e, f) at z in absurd (omega arith)
+    go true e true f z = record { array = e; ends-good = eqb-true _ _ f; sizes = fits _ _ _ _ _ (rw (opened-some base check e, f) at z) }
+
+-- so the last end lies in the words
+pub last-within : (base check : List ℤ) (ends : List ℕ) (r : Run) → Passed base check ends r → lastEnd 0 ends ≤ length (r .words)
+last-within base check ends r p = good-within (length (r .words)) 0 0 ends (omega arith) (p .ends-good)
+
+module _ (o : Option Store) (ends : List ℕ) (r : Run) where
+  abbrev rs : List Run
+  rs = sentences 0 ends r
+
+  module _ (f : Refusal) (f-is : f ≡ earlyRefusal o (length (r .words)) ends (length (r .points)) (length (r .lengths))) where
+    pub met-is : f ≡ met o ends r
+    unfolding met
+    met-is = f-is
+
+    pub early-outcome : (f .number ≡ 0 → ⊥) → (s : Sheet) → s ≡ refusedSheet (f .number) (f .place) → record { sheet = s; points = r .points; lengths = r .lengths } ≡ sheetOutcome o ends r
+    unfolding sheetOutcome
+    early-outcome n s q = rw (sym met-is, ne-eqb (f .number) 0 n, q)
+
+    pub none-met : f .number ≡ 0 → met o ends r .number ≡ 0
+    none-met e = sym (ap (λ (x : Refusal). x .number) met-is) ∙ e
+
+    pub late-outcome : f .number ≡ 0 → (x : Outcome) → x ≡ scoredSheet o ends r → x ≡ sheetOutcome o ends r
+    unfolding sheetOutcome
+    late-outcome e x q = rw (eq-eqb (met o ends r .number) 0 (none-met e), q)
+
+  -- ---- 12
+
+  pub refused-outcome : (k : ℕ) (points : List ℤ) (lengths : List ℕ) → OneRefused o ends r k points lengths → (s : Sheet) → s ≡ refusedSheet 12 (k + 1)
+      → (ps : List ℤ) → ps ≡ written (replicate (lastEnd 0 ends) (pos 0)) points → (bs : List ℕ) → bs ≡ written (replicate (lastEnd 0 ends) 0) lengths
+      → record { sheet = s; points = ps; lengths = bs } ≡ scoredSheet o ends r
+  unfolding scoredSheet brokenSheet written
+  refused-outcome k points lengths u s q ps p bs b =
+      let f : firstRefused o 1 rs ≡ k + 1 = omega (arith, u .refused-is) in
+      rw (f, ne-eqb (k + 1) 0 (λ z. omega arith), q, p, b, length-replicate (lastEnd 0 ends) (pos 0), length-replicate {A = ℕ} (lastEnd 0 ends) 0, u .points-past, u .lengths-past)
+
+  -- ---- all sentences
+
+  module _ (total : ℤ) (points : List ℤ) (lengths counts : List ℕ) (u : AllScored o ends r total points lengths counts) (long : length (wordBytes o rs) ≡ lastEnd 0 ends) where
+    pub lengths-reach : lastEnd 0 ends ≤ length lengths
+    lengths-reach = rw (u .lengths-are) (omega (arith, length-append (wordBytes o rs) (drop (lastEnd 0 ends) (r .lengths)), long))
+
+    module _ (last : ℕ) (last-is : last ≡ lastEnd 0 ends) where
+      -- the bytes that are counted last are the words'
+      counted-bytes : take last lengths ≡ wordBytes o rs
+      counted-bytes = rw last-is (ap (take (lastEnd 0 ends)) (u .lengths-are) ∙ take-at (wordBytes o rs) _ (lastEnd 0 ends) long)
+
+      matched-is : (all : List ℕ) → Tallied (closingBytes o rs ++ take last lengths) all → (k : ℕ) → k < 8 → getD all k 0 ≡ matchedOf o rs k
+      unfolding matchedOf
+      matched-is all t k h = t .each k h ∙ count-append (hasMatched k) (closingBytes o rs) (take last lengths) ∙ rw counted-bytes (omega arith)
+
+      pub all-outcome : (all : List ℕ) → Tallied (closingBytes o rs ++ take last lengths) all → (unknown : ℕ) → unknown ≡ count saysUnknown (take last lengths) → (x : ℤ) → x ≡ total
+          → record { sheet = record { number = 0; sentences = length ends; place = 0; total = x; words = last; unknown = unknown; matched = getD all 1 0 ∷ getD all 2 0 ∷ getD all 3 0 ∷ getD all 4 0 ∷ getD all 5 0 ∷ [] }; points = points; lengths = lengths } ≡ scoredSheet o ends r
+      unfolding scoredSheet acceptedSheet unknownOf
+      all-outcome all t unknown n x y =
+          let unknown-is : unknown ≡ count saysUnknown (wordBytes o rs) = n ∙ ap (count saysUnknown) counted-bytes in
+          rw (u .none-refused, unknown-is, y, u .total-is, u .points-are, u .lengths-are, last-is, matched-is all t 1 (omega arith), matched-is all t 2 (omega arith), matched-is all t 3 (omega arith), matched-is all t 4 (omega arith), matched-is all t 5 (omega arith))

@@ -1,0 +1,121 @@
+-- `batch::score_sentence` meets its contract. Assumes nothing.
+use mathlib.Core.Path.{sym, _∙_}
+use mathlib.Core.List.{List}
+use mathlib.Core.Option.{Option}
+use Prim.Native.Nat.{_≤_}
+use lib.IntN.{ℤ, natAbs}
+use borrow.Author.Needs.{needs}
+use Rattle.backoff.specs.Run.{Run, Answer}
+use Rattle.backoff.specs.Store.{Store}
+use Rattle.double_array.specs.DoubleArray.{opened}
+use Rattle.score.specs.Answers.{numbersOf, startedOf, answerOf}
+use Rattle.batch.specs.Sheet.{closingRun}
+use Rattle.batch.proofs.Calls.{no-start, no-words, no-closing, all-three, runTotal, run-answer-small, closing-small, two-fit, two-added}
+use Rattle.batch.proofs.score_sentence.Statement.{statement}
+use Rattle.batch.proofs.score_sentence.Tie as tie
+
+-- the function's start, and the run over the words
+abbrev start : tie.After-run → tie.Start
+start k = k .before .before .before .before .before .before .before .before
+
+abbrev ran : tie.After-close → tie.After-run
+ran d = d .before .before .before .before .before .before .before
+
+abbrev array : tie.Start → Option Store
+array s = opened (s .args .base .now) (s .args .check .now)
+
+-- the run that is asked for, and its answer
+abbrev asked : tie.Start → Run
+asked s = record { words = s .args .words .now; points = s .args .points .now; lengths = s .args .lengths .now }
+
+abbrev answer : tie.After-run → Answer (List ℤ)
+answer k = answerOf (k .run .result) (k .run .last .1 .1 .1 .1 .0) (k .run .last .1 .1 .1 .1 .1 .0)
+
+-- both totals are small
+words-total : (k : tie.After-run) → natAbs (k .run .result .total) ≤ runTotal
+words-total k = let s = start k in run-answer-small (s .args .base .now) (s .args .check .now) (numbersOf (s .args .started .state)) (asked s) (answer k) (k .run .ensures .0)
+
+closing-total : (t : tie.After-total) → natAbs (t .total .given .0 .0) ≤ runTotal
+closing-total t =
+    let k = ran (t .before .before) in
+    let s = start k in
+    closing-small (s .args .base .now) (s .args .check .now) (numbersOf (k .run .result .end)) closingRun (t .total .given .0 .0) (t .total .given .0 .1 .0) (sym (t .total .given .1) ∙ t .before .before .close .ensures)
+
+returns : tie.Need-returns
+returns c = let s = c .before .before .before .before in no-start (array s) (startedOf (s .args .started)) (s .pre) (c .if1 .taken) (asked s) _ _
+
+run-requires : tie.Need-run-requires
+run-requires c κs = search needs
+
+same-length : tie.Need-same-length
+same-length c = search needs
+
+same-length-2 : tie.Need-same-length-2
+same-length-2 c = search needs
+
+returns-2 : tie.Need-returns-2
+returns-2 c =
+    let k = c .before .before .before .before .before in
+    let s = start k in
+    no-words (array s) (startedOf (s .args .started)) (s .pre) (asked s) (answer k) (k .run .ensures .0) (c .if2 .taken) _ _
+
+close-requires : tie.Need-close-requires
+close-requires c κs = search needs
+
+enum-known-total : tie.Need-enum-known-total
+enum-known-total c = search needs
+
+enum-told : tie.Need-enum-told
+enum-told c = search needs
+
+same-length-3 : tie.Need-same-length-3
+same-length-3 c = search needs
+
+same-length-4 : tie.Need-same-length-4
+same-length-4 c = search needs
+
+returns-3 : tie.Need-returns-3
+returns-3 c =
+    let d = c .before .before in
+    let k = ran d in
+    let s = start k in
+    no-closing (array s) (startedOf (s .args .started)) (s .pre) (asked s) (answer k) (k .run .ensures .0) (sym (c .enum-told .given .1) ∙ d .close .ensures) _ _
+
+add-t18 : tie.Need-add-t18
+add-t18 c =
+    let d = c .before .before .before .before .before in
+    two-fit (ran d .run .result .total) (c .before .before .before .total .given .0 .0) (words-total (ran d)) (closing-total (c .before .before .before))
+
+same-length-5 : tie.Need-same-length-5
+same-length-5 c = search needs
+
+same-length-6 : tie.Need-same-length-6
+same-length-6 c = search needs
+
+returns-4 : tie.Need-returns-4
+returns-4 c =
+    let t = c .before .before .before in
+    let d = t .before .before in
+    let k = ran d in
+    let s = start k in
+    all-three (array s) (startedOf (s .args .started)) (s .pre) (asked s) (answer k) (k .run .ensures .0) (k .before .before .before .before .if1 .left) (d .before .before .if2 .left) _ _ (sym (t .total .given .1) ∙ d .close .ensures) _ (two-added (k .run .result .total) (t .total .given .0 .0) (words-total k) (closing-total t))
+
+pub score-sentence-spec : {M : Type 1} → statement M
+score-sentence-spec =
+    tie.close
+    (tie.spec
+    returns
+    run-requires
+    same-length
+    same-length-2
+    returns-2
+    close-requires
+    enum-known-total
+    enum-told
+    same-length-3
+    same-length-4
+    returns-3
+    add-t18
+    same-length-5
+    same-length-6
+    returns-4)
