@@ -2,7 +2,7 @@
 pub mod Words
 pub mod Rows
 pub mod Newest
-pub mod Owed
+pub mod TextRule
 pub mod Preceding
 pub mod Progress
 pub mod Run

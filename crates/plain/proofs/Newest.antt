@@ -1,15 +1,16 @@
--- Laws of the newest words as the code holds them, in five places: the parts that it searches for, and one word more behind them. Assumes nothing.
-use mathlib.Core.Path.{_≡_, refl, ap, _∙_}
+-- Laws of the newest words as the code holds them, in five places: the history before the last one, and one word more behind them. Assumes nothing.
+use mathlib.Core.Path.{_≡_, refl, sym, ap, _∙_}
 use mathlib.Core.Bool.{true}
 use mathlib.Core.List.{List, [], _∷_, _++_, map-append, reverse}
 use Prim.Native.Nat.{ℕ, zero, suc, _+_, _-_, _<_, _≤_, min}
 use native.Mathlib.Omega.{arith}
-use lib.ListN.{length, getD, take, drop, length-take, length-drop, length-append}
+use lib.ListN.{length, getD, take, drop, length-take, length-drop, length-append, length-map}
 use lib.IntN.{ℤ, pos}
 use Rattle.backoff.specs.Limits.{orderLimit, wordLimit}
 use Rattle.backoff.specs.Words.{areWords}
 use Rattle.backoff.specs.Model.{Model}
-use Rattle.backoff.specs.Rule.{replaced}
+use Rattle.backoff.specs.Rule.{replaced, scoreAfter, textRule}
+use Rattle.backoff.proofs.Rule.{scoreAfter-is-textRule}
 use Rattle.backoff.proofs.Words.{words-rest, words-more, first-some, first-limit, areWords-snoc}
 use Rattle.list.specs.Table.{wordOf, wordsOf}
 use Rattle.plain.specs.declared.Recent.{Recent}
@@ -29,51 +30,50 @@ five-places (a ∷ b ∷ c ∷ d ∷ e ∷ []) h = places a b c d e
 five-places (a ∷ b ∷ c ∷ d ∷ e ∷ f ∷ l) h = absurd (omega arith)
 
 -- a part of words is words
-areWords-drop : (j : ℕ) (zs : List ℤ) → areWords (wordsOf zs) ≡ true → areWords (wordsOf (drop j zs)) ≡ true
+pub areWords-drop : (j : ℕ) (zs : List ℤ) → areWords (wordsOf zs) ≡ true → areWords (wordsOf (drop j zs)) ≡ true
 unfolding wordsOf
 areWords-drop zero zs e = e
 areWords-drop (suc j) [] e = e
 areWords-drop (suc j) (z ∷ zs) e = areWords-drop j zs (words-rest (wordOf z) (wordsOf zs) e)
 
-areWords-take : (k : ℕ) (zs : List ℤ) → areWords (wordsOf zs) ≡ true → areWords (wordsOf (take k zs)) ≡ true
+pub areWords-take : (k : ℕ) (zs : List ℤ) → areWords (wordsOf zs) ≡ true → areWords (wordsOf (take k zs)) ≡ true
 unfolding wordsOf
 areWords-take zero zs e = unfold areWords in refl
 areWords-take (suc k) [] e = e
 areWords-take (suc k) (z ∷ zs) e =
     words-more (wordOf z) (wordsOf (take k zs)) (first-some (wordOf z) (wordsOf zs) e) (first-limit (wordOf z) (wordsOf zs) e) (areWords-take k zs (words-rest (wordOf z) (wordsOf zs) e))
 
--- the parts that the code searches for: the last word with the k words before it, and these alone
-abbrev partWith : ℕ → List ℤ → List ℤ
-partWith k ws = take (5 - (4 - k)) (drop (4 - k) ws)
+-- the part that is the history: the words before the last one, where `count` words are in use
+abbrev pub historyPart : ℕ → List ℤ → List ℤ
+historyPart count ws = take (4 - (5 - count)) (drop (5 - count) ws)
 
-abbrev partBefore : ℕ → List ℤ → List ℤ
-partBefore k ws = take (4 - (4 - k)) (drop (4 - k) ws)
-
-module _ (ws : List ℤ) (k : ℕ) (f : FiveWords ws) (h : k < orderLimit) where
-  parts : (reverse (wordsOf (partWith k ws)) ≡ lastWord ws ∷ take k (wordsBefore ws)) × (reverse (wordsOf (partBefore k ws)) ≡ take k (wordsBefore ws))
-  unfolding lastWord wordsBefore wordsOf
-  parts = go k h (five-places ws (f .five))
+module _ (ws : List ℤ) (count : ℕ) (f : FiveWords ws) (some : 0 < count) (most : count ≤ orderLimit) where
+  pub history-words : reverse (wordsOf (historyPart count ws)) ≡ take (count - 1) (wordsBefore ws)
+  unfolding wordsBefore wordsOf
+  history-words = go count some most (five-places ws (f .five))
     where
-      go : {ws : List ℤ} (k : ℕ) → k < orderLimit → Five ws → (reverse (wordsOf (partWith k ws)) ≡ lastWord ws ∷ take k (wordsBefore ws)) × (reverse (wordsOf (partBefore k ws)) ≡ take k (wordsBefore ws))
-      go zero h (places a b c d e) = (refl, refl)
-      go (suc zero) h (places a b c d e) = (refl, refl)
-      go (suc (suc zero)) h (places a b c d e) = (refl, refl)
-      go (suc (suc (suc zero))) h (places a b c d e) = (refl, refl)
-      go (suc (suc (suc (suc zero)))) h (places a b c d e) = (refl, refl)
-      go (suc (suc (suc (suc (suc k))))) h q = absurd (omega arith)
+      go : {ws : List ℤ} (k : ℕ) → 0 < k → k ≤ orderLimit → Five ws → reverse (wordsOf (historyPart k ws)) ≡ take (k - 1) (wordsBefore ws)
+      go zero l h q = absurd (omega arith)
+      go (suc zero) l h (places a b c d e) = refl
+      go (suc (suc zero)) l h (places a b c d e) = refl
+      go (suc (suc (suc zero))) l h (places a b c d e) = refl
+      go (suc (suc (suc (suc zero)))) l h (places a b c d e) = refl
+      go (suc (suc (suc (suc (suc zero))))) l h (places a b c d e) = refl
+      go (suc (suc (suc (suc (suc (suc k)))))) l h q = absurd (omega arith)
 
-  pub words-with : reverse (wordsOf (partWith k ws)) ≡ lastWord ws ∷ take k (wordsBefore ws)
-  words-with = parts .0
+  history-length : length (historyPart count ws) ≡ count - 1
+  history-length = rw (length-take, length-drop) (omega (arith, f .five))
 
-  pub words-before : reverse (wordsOf (partBefore k ws)) ≡ take k (wordsBefore ws)
-  words-before = parts .1
+  pub history-are-words : areWords (wordsOf (historyPart count ws)) ≡ true
+  history-are-words = areWords-take (4 - (5 - count)) (drop (5 - count) ws) (areWords-drop (5 - count) ws (f .are-words))
 
-  -- what the search asks of a part
-  pub part-with-fits : (length (partWith k ws) ≤ orderLimit) × (areWords (wordsOf (partWith k ws)) ≡ true)
-  part-with-fits = (rw length-take (omega arith), areWords-take (5 - (4 - k)) (drop (4 - k) ws) (areWords-drop (4 - k) ws (f .are-words)))
-
-  pub part-before-fits : (length (partBefore k ws) ≤ orderLimit) × (areWords (wordsOf (partBefore k ws)) ≡ true)
-  part-before-fits = (rw length-take (omega arith), areWords-take (4 - (4 - k)) (drop (4 - k) ws) (areWords-drop (4 - k) ws (f .are-words)))
+  -- the rule for that part is the last word's score
+  pub history-score : (M : Model) → textRule M (wordsOf (historyPart count ws)) (lastWord ws) ≡ scoreAfter M (count - 1) (wordsBefore ws) (lastWord ws)
+  unfolding wordsOf
+  history-score M = sym (scoreAfter-is-textRule M (wordsOf (historyPart count ws)) (wordsBefore ws) (lastWord ws) (rw size (sym history-words))) ∙ rw size
+    where
+      size : length (wordsOf (historyPart count ws)) ≡ count - 1
+      size = length-map (historyPart count ws) _ ∙ history-length
 
 -- one word more behind five places, as the code writes it
 shift : (ws : List ℤ) (v : ℤ) → length ws ≡ orderLimit → getD ws 1 (pos 0) ∷ getD ws 2 (pos 0) ∷ getD ws 3 (pos 0) ∷ getD ws 4 (pos 0) ∷ v ∷ [] ≡ drop 1 ws ++ (v ∷ [])

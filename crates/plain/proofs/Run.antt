@@ -1,8 +1,8 @@
 -- The loop over the words of a run: i words are scored by the rule, each after all before it, and the rest are left. Assumes nothing.
 use mathlib.Core.Path.{_≡_, ap, _∙_}
-use mathlib.Core.Bool.{Bool, true}
+use mathlib.Core.Bool.{Bool}
 use mathlib.Core.List.{List, [], _∷_}
-use Prim.Native.Nat.{ℕ, _+_, _-_, _<_, _≤_}
+use Prim.Native.Nat.{ℕ, _+_, _<_, _≤_}
 use native.Mathlib.Numerals.{add-one}
 use native.Mathlib.Omega.{arith}
 use lib.ListN.{length, getD, drop, set, drop-of-length-le}
@@ -12,13 +12,13 @@ use mir.Syntax.{w32, w64}
 use mir.Val.{SFits}
 use Rattle.integer.specs.Integer.{sum}
 use Rattle.backoff.specs.Limits.{orderLimit, runLimit}
-use Rattle.backoff.specs.Model.{Model, AcceptedModel, listed}
-use Rattle.backoff.specs.Rule.{Score, grow, scoreAfter, rule, ruleByte, rulePoints, ruleBytes}
+use Rattle.backoff.specs.Model.{Model, AcceptedModel}
+use Rattle.backoff.specs.Rule.{Score, grow, rule, ruleByte, rulePoints, ruleBytes}
 use Rattle.backoff.specs.Run.{front, written}
 use Rattle.plain.specs.declared.Recent.{Recent}
-use Rattle.plain.specs.declared.Scored.{Scored}
-use Rattle.plain.specs.Held.{IsScored, FiveWords, lastWord, wordsBefore, begun, pushed, kept}
-use Rattle.plain.proofs.Preceding.{Holds, begun-holds, pushed-holds, kept-holds, rule-held, byte-held, last-listed}
+use Rattle.plain.specs.declared.Next.{Next}
+use Rattle.plain.specs.Held.{IsNext, begun}
+use Rattle.plain.proofs.Preceding.{Holds, Enough, begun-holds, begun-enough, begun-few, rule-held, byte-held, kept-holds, kept-enough, kept-few}
 use Rattle.plain.proofs.Progress.{Progress, progress-none, progress-more, progress-length, progress-end, Summed, summed-none, summed-more, summed-end, total-fits}
 
 -- the rule over the words that are left
@@ -40,32 +40,29 @@ module _ (M : Model) (h ws : List ℕ) (i : ℕ) where
   bytes-end l = rw (drop-of-length-le ws l)
 
 -- The run's words are ws, after `<s>` where b says so; `points₀` and `lengths₀` are the lent slices at entry.
-pub record Scoring (M : Model) (n : ℕ) (b : Bool) (ws : List ℕ) (points₀ : List ℤ) (lengths₀ : List ℕ) (points : List ℤ) (lengths : List ℕ) (recent : Recent) (total : ℤ) (i : ℕ) : Type 0 where
+pub record Scoring (M : Model) (b : Bool) (ws : List ℕ) (points₀ : List ℤ) (lengths₀ : List ℕ) (points : List ℤ) (lengths : List ℕ) (recent : Recent) (total : ℤ) (i : ℕ) : Type 0 where
   pub within : i ≤ length ws
   pub before : List ℕ
-  pub holds : Holds M n recent before
+  pub holds : Holds M recent before
+  pub enough : Enough M recent before
+  pub few : recent .count ≤ orderLimit
   pub points-left : Progress (rulePoints M (front b) ws) (rulePoints M before (drop i ws)) points₀ points i
   pub lengths-left : Progress (ruleBytes M (front b) ws) (ruleBytes M before (drop i ws)) lengths₀ lengths i
   pub total-left : Summed (rulePoints M (front b) ws) (rulePoints M before (drop i ws)) total i
 
-module _ {M : Model} {n : ℕ} (A : AcceptedModel M) (order : n ≡ M .order) where
-  low : 1 ≤ n
-  low = omega (arith, A .order-low)
+pub scoring-none : {M : Model} → AcceptedModel M → (b : Bool) (ws : List ℕ) (points : List ℤ) (lengths : List ℕ) → Scoring M b ws points lengths points lengths (begun b) (pos 0) 0
+scoring-none A b ws points lengths = record {
+  within = omega arith;
+  before = front b;
+  holds = begun-holds A b;
+  enough = begun-enough A b;
+  few = begun-few b;
+  points-left = progress-none _ _;
+  lengths-left = progress-none _ _;
+  total-left = summed-none _;
+}
 
-  high : n ≤ orderLimit
-  high = omega (arith, A .order-high)
-
-  pub scoring-none : (b : Bool) (ws : List ℕ) (points : List ℤ) (lengths : List ℕ) → Scoring M n b ws points lengths points lengths (begun b) (pos 0) 0
-  scoring-none b ws points lengths = record {
-    within = omega arith;
-    before = front b;
-    holds = begun-holds A low b;
-    points-left = progress-none _ _;
-    lengths-left = progress-none _ _;
-    total-left = summed-none _;
-  }
-
-module _ {M : Model} {n : ℕ} {b : Bool} {ws : List ℕ} {points₀ : List ℤ} {lengths₀ : List ℕ} {points : List ℤ} {lengths : List ℕ} {recent : Recent} {total : ℤ} {i : ℕ} (s : Scoring M n b ws points₀ lengths₀ points lengths recent total i) where
+module _ {M : Model} {b : Bool} {ws : List ℕ} {points₀ : List ℤ} {lengths₀ : List ℕ} {points : List ℤ} {lengths : List ℕ} {recent : Recent} {total : ℤ} {i : ℕ} (s : Scoring M b ws points₀ lengths₀ points lengths recent total i) where
   pub scored-all : length ws ≤ i → (total ≡ sum (rulePoints M (front b) ws)) × ((points ≡ written (rulePoints M (front b) ws) points₀) × (lengths ≡ written (ruleBytes M (front b) ws) lengths₀))
   scored-all l =
       let e = points-end M (s .before) ws i l in (
@@ -79,42 +76,29 @@ module _ {M : Model} {n : ℕ} {b : Bool} {ws : List ℕ} {points₀ : List ℤ}
   pub lengths-length : length ws ≤ length lengths₀ → length lengths ≡ length lengths₀
   lengths-length h = progress-length (s .lengths-left) (omega (arith, s .within))
 
-  module _ (A : AcceptedModel M) (order : n ≡ M .order) where
-    pub recent-count : recent .count ≤ orderLimit
-    recent-count = omega (arith, s .holds .count-is, A .order-high)
+  -- one word more
+  module _ {n : ℕ} (A : AcceptedModel M) (order : n ≡ M .order) (l : i < length ws) {r : Next} (k : IsNext M n recent (getD ws i 0) r) (f : SFits w32 (r .points)) where
+    points-rest : rulePoints M (s .before) (drop i ws) ≡ r .points ∷ rulePoints M (grow M (s .before) (getD ws i 0)) (drop (i + 1) ws)
+    points-rest =
+        rw (k .points-are ∙ ap (λ (q : Score). q .points) (rule-held A order (s .holds) (s .enough) (getD ws i 0))) (points-step M (s .before) ws i l)
 
-    -- one word more
-    module _ (l : i < length ws) {next : Recent} (e : next ≡ pushed M n recent (getD ws i 0)) where
-      next-holds : Holds M n next (getD ws i 0 ∷ s .before)
-      next-holds = rw e (pushed-holds A (low A order) (high A order) (s .holds) (getD ws i 0))
+    bytes-rest : ruleBytes M (s .before) (drop i ws) ≡ r .byte ∷ ruleBytes M (grow M (s .before) (getD ws i 0)) (drop (i + 1) ws)
+    bytes-rest =
+        rw (k .byte-is ∙ byte-held A order (s .holds) (s .enough) (getD ws i 0)) (bytes-step M (s .before) ws i l)
 
-      pub next-words : FiveWords (next .words)
-      next-words = next-holds .places
-
-      pub next-count : (0 < next .count) × (next .count ≤ orderLimit)
-      next-count = (omega (arith, next-holds .count-is, low A order), omega (arith, next-holds .count-is, high A order))
-
-      pub next-listed : listed M (lastWord (next .words) ∷ []) ≡ true
-      next-listed = last-listed order (low A order) next-holds A
-
-      module _ {r : Scored} (k : IsScored (scoreAfter M (next .count - 1) (wordsBefore (next .words)) (lastWord (next .words))) (lastWord (next .words)) r) (f : SFits w32 (r .points)) where
-        points-rest : rulePoints M (s .before) (drop i ws) ≡ r .points ∷ rulePoints M (grow M (s .before) (getD ws i 0)) (drop (i + 1) ws)
-        points-rest =
-            rw (k .points-are ∙ ap (λ (q : Score). q .points) (rule-held order (low A order) next-holds)) (points-step M (s .before) ws i l)
-
-        bytes-rest : ruleBytes M (s .before) (drop i ws) ≡ r .byte ∷ ruleBytes M (grow M (s .before) (getD ws i 0)) (drop (i + 1) ws)
-        bytes-rest =
-            rw (k .byte-is ∙ byte-held order (low A order) next-holds) (bytes-step M (s .before) ws i l)
-
-        pub scoring-more : length ws ≤ length points₀ → length ws ≤ length lengths₀ → Scoring M n b ws points₀ lengths₀ (set points i (r .points)) (set lengths i (r .byte)) (kept next (getD ws i 0)) (total +ℤ r .points) (i + 1)
-        scoring-more room space = record {
+    pub scoring-more : length ws ≤ length points₀ → length ws ≤ length lengths₀ → Scoring M b ws points₀ lengths₀ (set points i (r .points)) (set lengths i (r .byte)) (r .recent) (total +ℤ r .points) (i + 1)
+    scoring-more room space =
+        rw (k .recent-is)
+        (record {
           within = omega arith;
           before = grow M (s .before) (getD ws i 0);
-          holds = kept-holds A (low A order) (getD ws i 0) next-holds;
+          holds = kept-holds A order (s .holds) (s .enough) (getD ws i 0);
+          enough = kept-enough A order (s .holds) (s .enough) (getD ws i 0);
+          few = kept-few A order (s .holds) (s .enough) (getD ws i 0);
           points-left = progress-more (rw points-rest at (s .points-left)) (omega arith);
           lengths-left = progress-more (rw bytes-rest at (s .lengths-left)) (omega arith);
           total-left = summed-more (rw points-rest at (s .total-left)) f;
-        }
+        })
 
-        pub total-added : length ws ≤ runLimit → SFits w64 (total +ℤ r .points)
-        total-added h = total-fits (rw points-rest at (s .total-left)) f (omega arith)
+    pub total-added : length ws ≤ runLimit → SFits w64 (total +ℤ r .points)
+    total-added h = total-fits (rw points-rest at (s .total-left)) f (omega arith)

@@ -1,29 +1,32 @@
 // Plain scoring: the back-off rule over the lent list alone. The definitions that the contracts cite are in specs/.
 ghost use mathlib.Core.Path.{_≡_};
 ghost use mathlib.Core.Bool.{true};
-ghost use mathlib.Core.List.{[], _∷_, reverse};
-ghost use Prim.Native.Nat.{_-_, _<_, _≤_, min};
+ghost use mathlib.Core.List.{[], _∷_, _++_, reverse};
+ghost use Prim.Native.Nat.{_+_, _<_, _≤_, min};
 ghost use lib.IntN.{pos};
-ghost use lib.ListN.{length, take};
+ghost use lib.ListN.{length, take, getD};
 ghost use Rattle.integer.specs.Integer.{sum};
 ghost use Rattle.backoff.specs.Limits.{orderLimit, runLimit};
 ghost use Rattle.backoff.specs.Words.{areWords};
 ghost use Rattle.backoff.specs.Model.{listed};
-ghost use Rattle.backoff.specs.Rule.{replaced, scoreAfter, lengthByte, rulePoints, ruleBytes};
+ghost use Rattle.backoff.specs.Rule.{replaced, textRule, lengthByte, rulePoints, ruleBytes};
 ghost use Rattle.backoff.specs.Run.{written, front};
 ghost use Rattle.backoff.specs.declared.Verdict.the-variants.{Accepted};
-ghost use Rattle.list.specs.Table.{orderOf, wordOf, wordsOf};
+ghost use Rattle.list.specs.Table.{rowsOf, orderOf, wordOf, wordsOf, words};
 ghost use Rattle.list.specs.Check.{verdict};
-ghost use Rattle.list.specs.ListModel.{modelOf};
+ghost use Rattle.list.specs.ListModel.{extendedIn, modelOf};
 ghost use Rattle.plain.specs.Plain.{runOf, plainOutcome, Answers, PlainMeans};
-ghost use Rattle.plain.specs.Held.{IsRow, IsScore, IsScored, FiveWords, lastWord, wordsBefore, begun, pushed, kept};
+ghost use Rattle.plain.specs.Held.{noRow, IsRow, IsScore, IsScored, IsNext, FiveWords, lastWord, lastScore, begun, pushed, kept};
 use backoff::Verdict;
 use backoff::WORD_LIMIT;
 use list::Found;
+use list::Span;
 
 const UNKNOWN_WORD: i32 = backoff::UNKNOWN_WORD as i32;
 
 const START_WORD: i32 = backoff::START_WORD as i32;
+
+const LONGEST_ROW: usize = backoff::ORDER_LIMIT as usize;
 
 // A sequence as the list has it: `at` is where its row stands. That, p and b are 0 if it is unlisted.
 struct Row {
@@ -33,19 +36,104 @@ struct Row {
     b: i32,
 }
 
+fn unlisted() -> Row
+    ensures { λ r. ⌜ r ≡ noRow ⌝ }
+{
+    Row {
+        listed: false,
+        at: 0,
+        p: 0,
+        b: 0,
+    }
+}
+
+// The smaller of the two.
+fn smaller(a: usize, b: usize) -> usize
+    ensures { λ r. ⌜ r ≡ min a b ⌝ }
+{
+    if a < b {
+        return a;
+    }
+    b
+}
+
+// How many words up to the largest have no one-word row, where `count` have one.
+fn count_missing(table: &[i32], count: usize) -> usize {
+    if count == 0 {
+        return 0;
+    }
+    if table.len() / 8 < count {
+        return 0;
+    }
+    let largest = list::field(table, count - 1, 1);
+    if largest < 0 {
+        return 0;
+    }
+    let words = largest as usize;
+    if words < count {
+        return 0;
+    }
+    words - count
+}
+
+// Where rows are likely, on which no answer depends: item m, from 1 on, is the first row of m words or more, and item 0 how many words below the
+// largest have no one-word row.
+fn find_starts(table: &[i32]) -> [usize; 8] {
+    let rows = table.len() / 8;
+    let mut starts = [rows; 8];
+    starts[1] = 0;
+    for i in 0..rows {
+        let m = list::length_of(table, i);
+        starts[m + 1] = i + 1;
+    }
+    let count = starts[2];
+    starts[0] = count_missing(table, count);
+    starts
+}
+
+// The rows of m words, at most six.
+fn rows_of(starts: &[usize; 8], m: usize) -> Span
+    requires { ⌜ m ≤ 6 ⌝ }
+{
+    Span {
+        from: starts[m],
+        to: starts[m + 1],
+    }
+}
+
+// Where the row of one word is likely, among `count` such rows: behind those of the smaller words, which are all listed but `missing` of them.
+fn rows_near(missing: usize, count: usize, word: usize) -> Span {
+    let to = smaller(word, count);
+    if word <= missing {
+        return Span { from: 0, to };
+    }
+    Span {
+        from: word - missing - 1,
+        to,
+    }
+}
+
+// Where the row of these words is likely, of which there are at most five.
+fn likely_rows(starts: &[usize; 8], words: &[i32]) -> Span
+    requires { ⌜ (length (now words) ≤ orderLimit) × (areWords (wordsOf (now words)) ≡ true) ⌝ }
+{
+    if words.len() == 1 {
+        return rows_near(starts[0], starts[2], words[0] as usize);
+    }
+    rows_of(starts, words.len())
+}
+
 // The row of these words, oldest first.
-fn row_of(table: &[i32], words: &[i32]) -> Row
-    requires { ⌜ (verdict (now table) ≡ Accepted) × (length (now words) ≤ orderLimit) × (areWords (wordsOf (now words)) ≡ true) ⌝ }
+fn row_of(table: &[i32], starts: &[usize; 8], words: &[i32]) -> Row
+    requires { ⌜ (verdict (now table) ≡ Accepted) × (areWords (wordsOf (now words)) ≡ true) ⌝ }
     ensures { λ r. ⌜ IsRow (now (table .entry)) (reverse (wordsOf (now (words .entry)))) r ⌝ }
 {
-    let found = list::find_row(table, words);
+    if LONGEST_ROW < words.len() {
+        return unlisted();
+    }
+    let found = list::find_among(table, words, likely_rows(starts, words));
     let Found::At(i) = found else {
-        return Row {
-            listed: false,
-            at: 0,
-            p: 0,
-            b: 0,
-        };
+        return unlisted();
     };
     Row {
         listed: true,
@@ -56,7 +144,7 @@ fn row_of(table: &[i32], words: &[i32]) -> Row
 }
 
 // The word itself where it has a one-word row, else 1.
-fn replaced(table: &[i32], word: u32) -> i32
+fn replaced(table: &[i32], starts: &[usize; 8], word: u32) -> i32
     requires { ⌜ verdict (now table) ≡ Accepted ⌝ }
     ensures { λ r. ⌜ r ≡ pos (replaced (modelOf (now (table .entry))) word) ⌝ }
 {
@@ -67,29 +155,45 @@ fn replaced(table: &[i32], word: u32) -> i32
         return UNKNOWN_WORD;
     }
     let known = word as i32;
-    let row = row_of(table, &[known]);
-    if row.listed {
+    let alone = row_of(table, starts, &[known]);
+    if alone.listed {
         return known;
     }
     UNKNOWN_WORD
 }
 
-// The row of the last recent word with the k words before it.
-fn row_with(table: &[i32], recent: &[i32], k: usize) -> Row
-    requires { ⌜ (verdict (now table) ≡ Accepted) × FiveWords (now recent) × (k < orderLimit) ⌝ }
-    ensures { λ r. ⌜ IsRow (now (table .entry)) (lastWord (now (recent .entry)) ∷ take k (wordsBefore (now (recent .entry)))) r ⌝ }
+// Word j of the history, the given word past its last.
+fn word_at(history: &[i32], word: i32, j: usize) -> i32
+    ensures { λ r. ⌜ r ≡ getD (now (history .entry)) j word ⌝ }
 {
-    let first = 4 - k;
-    row_of(table, &recent[first..5])
+    if j < history.len() {
+        return history[j];
+    }
+    word
 }
 
-// The row of the k words before the last recent word.
-fn row_before(table: &[i32], recent: &[i32], k: usize) -> Row
-    requires { ⌜ (verdict (now table) ≡ Accepted) × FiveWords (now recent) × (0 < k) × (k < orderLimit) ⌝ }
-    ensures { λ r. ⌜ IsRow (now (table .entry)) (take k (wordsBefore (now (recent .entry)))) r ⌝ }
+// The history followed by the word, and by that word again in the places left.
+fn followed(history: &[i32], word: i32) -> [i32; 5]
+    requires { ⌜ length (now history) < orderLimit ⌝ }
+    ensures { λ r. ⌜ take (length (now (history .entry)) + 1) r ≡ now (history .entry) ++ (word ∷ []) ⌝ }
 {
-    let oldest = 4 - k;
-    row_of(table, &recent[oldest..4])
+    let a = word_at(history, word, 0);
+    let b = word_at(history, word, 1);
+    let c = word_at(history, word, 2);
+    [a, b, c, word_at(history, word, 3), word]
+}
+
+// The row of the history followed by the word.
+fn row_with(table: &[i32], starts: &[usize; 8], history: &[i32], word: i32) -> Row
+    requires { ⌜ (verdict (now table) ≡ Accepted) × (areWords (wordsOf (now history)) ≡ true) × (areWords (wordOf word ∷ []) ≡ true) ⌝ }
+    ensures { λ r. ⌜ IsRow (now (table .entry)) (wordOf word ∷ reverse (wordsOf (now (history .entry)))) r ⌝ }
+{
+    if LONGEST_ROW <= history.len() {
+        return unlisted();
+    }
+    let words = followed(history, word);
+    let end = history.len() + 1;
+    row_of(table, starts, &words[..end])
 }
 
 // `row` is where the row whose p was used stands.
@@ -99,31 +203,27 @@ struct Score {
     row: usize,
 }
 
-// The last recent word after the k words before it: the longest history first, and its back-off is owed where it fails.
-fn score_after(table: &[i32], recent: &[i32], k: usize) -> Score
-    requires { ⌜ (verdict (now table) ≡ Accepted) × FiveWords (now recent) × (k < orderLimit) × (listed (modelOf (now table)) (lastWord (now recent) ∷ []) ≡ true) ⌝ }
-    ensures { λ r. ⌜ IsScore (now (table .entry)) (scoreAfter (modelOf (now (table .entry))) k (wordsBefore (now (recent .entry))) (lastWord (now (recent .entry)))) r ⌝ }
+// The word after the history, oldest word first: by the row of history and word together, else by the history's back-off and the word after the history
+// without its oldest word.
+fn score_after(table: &[i32], starts: &[usize; 8], history: &[i32], word: i32) -> Score
+    requires { ⌜ (verdict (now table) ≡ Accepted) × (areWords (wordsOf (now history)) ≡ true) × (listed (modelOf (now table)) (wordOf word ∷ []) ≡ true) ⌝ }
+    ensures { λ r. ⌜ IsScore (now (table .entry)) (textRule (modelOf (now (table .entry))) (wordsOf (now (history .entry))) (wordOf word)) r ⌝ }
 {
-    let mut owed: i32 = 0;
-    let mut left = k;
-    while 0 < left {
-        let row = row_with(table, recent, left);
-        if row.listed {
-            return Score {
-                points: owed + row.p,
-                matched: (left + 1) as u8,
-                row: row.at,
-            };
-        }
-        let history = row_before(table, recent, left);
-        owed += history.b;
-        left -= 1;
+    let row = row_with(table, starts, history, word);
+    if row.listed {
+        return Score {
+            points: row.p,
+            matched: (history.len() + 1) as u8,
+            row: row.at,
+        };
     }
-    let row = row_with(table, recent, 0);
+    let shorter = &history[1..];
+    let back_off = row_of(table, starts, history).b;
+    let score = score_after(table, starts, shorter, word);
     Score {
-        points: owed + row.p,
-        matched: 1,
-        row: row.at,
+        points: back_off + score.points,
+        matched: score.matched,
+        row: score.row,
     }
 }
 
@@ -170,53 +270,87 @@ fn begin(after_start: bool) -> Recent
     }
 }
 
-// The smaller of the two.
-fn smaller(a: usize, b: usize) -> usize
-    ensures { λ r. ⌜ r ≡ min a b ⌝ }
-{
-    if a < b {
-        return a;
-    }
-    b
-}
-
 // The word, replaced, behind the recent ones, of which at most n are in use.
-fn push(table: &[i32], n: usize, recent: Recent, word: u32) -> Recent
+fn push(table: &[i32], starts: &[usize; 8], n: usize, recent: Recent, word: u32) -> Recent
     requires { ⌜ (verdict (now table) ≡ Accepted) × (recent .count ≤ orderLimit) ⌝ }
     ensures { λ r. ⌜ r ≡ pushed (modelOf (now (table .entry))) n recent word ⌝ }
 {
     let old = recent.words;
-    let words = [old[1], old[2], old[3], old[4], replaced(table, word)];
+    let words = [
+        old[1],
+        old[2],
+        old[3],
+        old[4],
+        replaced(table, starts, word),
+    ];
     let count = smaller(n, recent.count + 1);
     Recent { words, count }
 }
 
-// The newest words once the given word is scored: after a 3 `<s>` alone.
-fn keep(recent: Recent, word: u32) -> Recent
-    ensures { λ r. ⌜ r ≡ kept recent word ⌝ }
+// The newest words once the given word is scored: after a 3 `<s>` alone, else as many as were matched. With more of them no row is listed.
+fn keep(recent: Recent, word: u32, matched: u8) -> Recent
+    ensures { λ r. ⌜ r ≡ kept recent word matched ⌝ }
 {
     if word == backoff::END_WORD {
         return begin(true);
     }
-    recent
+    let words = recent.words;
+    Recent {
+        words,
+        count: matched as usize,
+    }
+}
+
+// The length byte of the word with this score.
+fn byte_of(table: &[i32], starts: &[usize; 8], score: Score, word: i32) -> u8
+    requires { ⌜ (verdict (now table) ≡ Accepted) × (score .row < rowsOf (now table)) × (score .matched ≤ orderLimit) ⌝ }
+    ensures { λ r. ⌜ r ≡ lengthByte (score .matched) (wordOf word) (extendedIn (now (table .entry)) (words (now (table .entry)) (score .row))) ⌝ }
+{
+    let likely = rows_of(starts, score.matched as usize + 1);
+    let extended = list::extended(table, score.row, likely);
+    length_byte(score.matched, word, extended)
 }
 
 struct Scored {
     points: i32,
     byte: u8,
+    matched: u8,
 }
 
 // The last recent word after the others in use.
-fn score_last(table: &[i32], recent: Recent) -> Scored
+fn score_last(table: &[i32], starts: &[usize; 8], recent: Recent) -> Scored
     requires { ⌜ (verdict (now table) ≡ Accepted) × FiveWords (recent .words) × (0 < recent .count) × (recent .count ≤ orderLimit) × (listed (modelOf (now table)) (lastWord (recent .words) ∷ []) ≡ true) ⌝ }
-    ensures { λ r. ⌜ IsScored (scoreAfter (modelOf (now (table .entry))) (recent .count - 1) (wordsBefore (recent .words)) (lastWord (recent .words))) (lastWord (recent .words)) r ⌝ }
+    ensures { λ r. ⌜ IsScored (lastScore (modelOf (now (table .entry))) recent) (lastWord (recent .words)) r ⌝ }
 {
     let words = recent.words;
-    let score = score_after(table, &words, recent.count - 1);
-    let extended = list::extended(table, score.row);
+    let word = words[4];
+    let oldest = 5 - recent.count;
+    let score = score_after(table, starts, &words[oldest..4], word);
     Scored {
         points: score.points,
-        byte: length_byte(score.matched, words[4], extended),
+        byte: byte_of(table, starts, score, word),
+        matched: score.matched,
+    }
+}
+
+// A word's points and length byte, and the newest words once it is scored.
+struct Next {
+    points: i32,
+    byte: u8,
+    recent: Recent,
+}
+
+// The word after the recent ones.
+fn score_next(table: &[i32], starts: &[usize; 8], n: usize, recent: Recent, word: u32) -> Next
+    requires { ⌜ (verdict (now table) ≡ Accepted) × (n ≡ orderOf (now table)) × FiveWords (recent .words) × (recent .count ≤ orderLimit) ⌝ }
+    ensures { λ r. ⌜ IsNext (modelOf (now (table .entry))) n recent word r ⌝ }
+{
+    let newest = push(table, starts, n, recent, word);
+    let scored = score_last(table, starts, newest);
+    Next {
+        points: scored.points,
+        byte: scored.byte,
+        recent: keep(newest, word, scored.matched),
     }
 }
 
@@ -234,17 +368,16 @@ fn score_words(
     ensures points { λ _. ⌜ now (points .exit) ≡ written (rulePoints (modelOf (now (table .entry))) (front «after_start») (now (words .entry))) (now (points .entry)) ⌝ }
     ensures lengths { λ _. ⌜ now (lengths .exit) ≡ written (ruleBytes (modelOf (now (table .entry))) (front «after_start») (now (words .entry))) (now (lengths .entry)) ⌝ }
 {
+    let starts = find_starts(table);
     let mut recent = begin(after_start);
     let mut total: i64 = 0;
     for i in 0..words.len() {
-        let word = words[i];
-        let newest = push(table, n, recent, word);
-        let scored = score_last(table, newest);
-        let p = scored.points;
+        let next = score_next(table, &starts, n, recent, words[i]);
+        let p = next.points;
         points[i] = p;
-        lengths[i] = scored.byte;
+        lengths[i] = next.byte;
         total += p as i64;
-        recent = keep(newest, word);
+        recent = next.recent;
     }
     total
 }

@@ -16,8 +16,7 @@ unfolding rowsOf
 front-key-requires c κs = (c .pre .0, c .pre .1 .row (c .args .i) (omega arith))
 
 first-not-below-requires : tie.Need-first-not-below-requires
-unfolding rowsOf
-first-not-below-requires c κs = (c .before .pre .1, omega arith)
+first-not-below-requires c κs = c .before .pre .1
 
 bracket : (c : tie.After-first-not-below) → Bracket (now (c .before .before .args .table)) (radix * rowKey (now (c .before .before .args .table)) (c .before .before .args .i)) (c .first-not-below .result) (c .first-not-below .result)
 bracket c =

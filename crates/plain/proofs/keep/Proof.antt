@@ -14,7 +14,7 @@ returns c = rw (c .before .if1 .taken) (c .begin .ensures)
 
 returns-2 : tie.Need-returns-2
 unfolding kept
-returns-2 c = rw (ne-eqb _ _ (c .if1 .left))
+returns-2 c = rw (ne-eqb _ _ (c .before .if1 .left))
 
 pub keep-spec : {M : Type 1} → statement M
 keep-spec = tie.close (tie.spec begin-requires returns returns-2)

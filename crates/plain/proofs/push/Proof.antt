@@ -10,17 +10,17 @@ use Rattle.plain.proofs.Newest.{pushed-is}
 use Rattle.plain.proofs.push.Statement.{statement}
 use Rattle.plain.proofs.push.Tie as tie
 
-array-copy-out-t10 : tie.Need-array-copy-out-t10
-array-copy-out-t10 c = search needs
+array-copy-out-t11 : tie.Need-array-copy-out-t11
+array-copy-out-t11 c = search needs
 
-array-copy-out-t13 : tie.Need-array-copy-out-t13
-array-copy-out-t13 c = search needs
+array-copy-out-t14 : tie.Need-array-copy-out-t14
+array-copy-out-t14 c = search needs
 
-array-copy-out-t16 : tie.Need-array-copy-out-t16
-array-copy-out-t16 c = search needs
+array-copy-out-t17 : tie.Need-array-copy-out-t17
+array-copy-out-t17 c = search needs
 
-array-copy-out-t19 : tie.Need-array-copy-out-t19
-array-copy-out-t19 c = search needs
+array-copy-out-t20 : tie.Need-array-copy-out-t20
+array-copy-out-t20 c = search needs
 
 replaced-requires : tie.Need-replaced-requires
 replaced-requires c κs = search needs
@@ -34,17 +34,17 @@ smaller-requires c κs = search needs
 five : (c : tie.After-old) → length (c .before .args .recent .words) ≡ 5
 five c = search needs
 
-fits-1 : (c : tie.After-t10) → SFits w32 (getD (c .before .before .args .recent .words) 1 (pos 0))
-fits-1 c = sfits-of (c .t10 .given)
+fits-1 : (c : tie.After-t11) → SFits w32 (getD (c .before .before .args .recent .words) 1 (pos 0))
+fits-1 c = sfits-of (c .t11 .given)
 
-fits-2 : (c : tie.After-t13) → SFits w32 (getD (c .before .before .before .args .recent .words) 2 (pos 0))
-fits-2 c = sfits-of (c .t13 .given)
+fits-2 : (c : tie.After-t14) → SFits w32 (getD (c .before .before .before .args .recent .words) 2 (pos 0))
+fits-2 c = sfits-of (c .t14 .given)
 
-fits-3 : (c : tie.After-t16) → SFits w32 (getD (c .before .before .before .before .args .recent .words) 3 (pos 0))
-fits-3 c = sfits-of (c .t16 .given)
+fits-3 : (c : tie.After-t17) → SFits w32 (getD (c .before .before .before .before .args .recent .words) 3 (pos 0))
+fits-3 c = sfits-of (c .t17 .given)
 
-fits-4 : (c : tie.After-t19) → SFits w32 (getD (c .before .before .before .before .before .args .recent .words) 4 (pos 0))
-fits-4 c = sfits-of (c .t19 .given)
+fits-4 : (c : tie.After-t20) → SFits w32 (getD (c .before .before .before .before .before .args .recent .words) 4 (pos 0))
+fits-4 c = sfits-of (c .t20 .given)
 
 fits-word : (c : tie.After-replaced) → SFits w32 (c .replaced .result)
 fits-word c = sfits-of (c .replaced .ok)
@@ -62,10 +62,10 @@ pub push-spec : {M : Type 1} → statement M
 push-spec =
     tie.close
     (tie.spec
-    array-copy-out-t10
-    array-copy-out-t13
-    array-copy-out-t16
-    array-copy-out-t19
+    array-copy-out-t11
+    array-copy-out-t14
+    array-copy-out-t17
+    array-copy-out-t20
     replaced-requires
     add-smaller
     smaller-requires

@@ -3,7 +3,6 @@ use mathlib.Core.Path.{_≡_, refl, sym, ap, _∙_}
 use mathlib.Core.List.{List, [], _∷_, reverse}
 use Prim.Native.Nat.{ℕ}
 use native.Mathlib.Omega.{arith}
-use lib.Dec.{lit≤}
 use lib.IntN.{pos}
 use denote.Ref.{now}
 use mir.Syntax.{w32}
@@ -46,7 +45,7 @@ one-word c = rw (read-back c) (ap (λ (w : ℕ). w ∷ []) (wordOf-pos (c .befor
 row-of-requires : tie.Need-row-of-requires
 row-of-requires c κs =
     let w = c .before .before .before .args .word in
-    (c .before .before .before .pre, lit≤ tt, rw (one-word (c .before)) (words-more w [] (omega arith) (omega arith) (unfold areWords in refl)))
+    (c .before .before .before .pre, rw (one-word (c .before)) (words-more w [] (omega arith) (omega arith) (unfold areWords in refl)))
 
 listed-is : (c : tie.After-row-of) → listed (modelOf (now (c .before .before .before .before .args .table))) (c .before .before .before .before .args .word ∷ []) ≡ c .row-of .result .listed
 listed-is c =

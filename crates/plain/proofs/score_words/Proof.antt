@@ -11,16 +11,16 @@ use Rattle.integer.proofs.Arithmetic.{to-wide}
 use Rattle.backoff.specs.Model.{Model, AcceptedModel}
 use Rattle.list.specs.ListModel.{modelOf}
 use Rattle.list.proofs.ListModel.{accepted-model}
-use Rattle.plain.proofs.Run.{Scoring, scoring-none, scoring-more, total-added, points-length, lengths-length, recent-count, next-words, next-count, next-listed, scored-all}
+use Rattle.plain.proofs.Run.{Scoring, scoring-none, scoring-more, total-added, points-length, lengths-length, scored-all}
 use Rattle.plain.proofs.score_words.Statement.{statement}
 use Rattle.plain.proofs.score_words.Tie as tie
 
 abbrev Inv-loop : tie.InvT-loop
-Inv-loop table n after-start words points₀ lengths₀ recent₀ total₀ i₀ i-end points lengths recent total i =
-    Scoring (modelOf table) n after-start words points₀ lengths₀ points lengths recent (toZ w64 total) i
+Inv-loop table n after-start words points₀ lengths₀ starts recent₀ total₀ i₀ i-end points lengths recent total i =
+    Scoring (modelOf table) after-start words points₀ lengths₀ points lengths recent (toZ w64 total) i
 
 abbrev μ-loop : tie.MeasureT-loop
-μ-loop table n after-start words points₀ lengths₀ recent₀ total₀ i₀ i-end points lengths recent total i =
+μ-loop table n after-start words points₀ lengths₀ starts recent₀ total₀ i₀ i-end points lengths recent total i =
     i-end - i
 
 abbrev model : tie.Start Inv-loop μ-loop → Model
@@ -33,55 +33,45 @@ order-is s = s .pre .1
 accepted : (s : tie.Start Inv-loop μ-loop) → AcceptedModel (model s)
 accepted s = accepted-model _ (s .pre .0)
 
+find-starts-requires : tie.Need-find-starts-requires Inv-loop μ-loop
+find-starts-requires c κs = search needs
+
 begin-requires : tie.Need-begin-requires Inv-loop μ-loop
 begin-requires c κs = search needs
 
 loop-holds : tie.Need-loop-holds Inv-loop μ-loop
 loop-holds c =
-    let s = c .before .before .before in
-    rw (c .begin .ensures) (scoring-none (accepted s) (order-is s) _ _ _ _)
+    let s = c .before .before .before .before in
+    rw (c .begin .ensures) (scoring-none (accepted s) _ _ _ _)
 
-mul-word : tie.Need-mul-word Inv-loop μ-loop
-mul-word c = search needs
+abbrev start : tie.At-loop Inv-loop μ-loop → tie.Start Inv-loop μ-loop
+start l = l .before .before .before .before .before
 
-shared-slice-read-word : tie.Need-shared-slice-read-word Inv-loop μ-loop
-shared-slice-read-word c = search needs
+mul-score-next : tie.Need-mul-score-next Inv-loop μ-loop
+mul-score-next c = search needs
 
-push-requires : tie.Need-push-requires Inv-loop μ-loop
-push-requires c κs =
-    let l = c .before .before in
-    let s = l .before .before .before .before in
-    (s .pre .0, recent-count (l .loop .inv) (accepted s) (order-is s))
+shared-slice-read-score-next : tie.Need-shared-slice-read-score-next Inv-loop μ-loop
+shared-slice-read-score-next c = search needs
 
-score-last-requires : tie.Need-score-last-requires Inv-loop μ-loop
-score-last-requires c κs =
-    let t = c .before .before in
-    let l = t .before in
-    let s = l .before .before .before .before in
-    let k = next-count (l .loop .inv) (accepted s) (order-is s) (t .loop-test .taken) (c .push .ensures) in (
-      s .pre .0,
-      next-words (l .loop .inv) (accepted s) (order-is s) (t .loop-test .taken) (c .push .ensures),
-      k .0,
-      k .1,
-      next-listed (l .loop .inv) (accepted s) (order-is s) (t .loop-test .taken) (c .push .ensures),
-    )
+score-next-requires : tie.Need-score-next-requires Inv-loop μ-loop
+score-next-requires c κs =
+    let l = c .before .before .before in
+    let s = start l in
+    (s .pre .0, s .pre .1, l .loop .inv .holds .places, l .loop .inv .few)
 
 mul-p : tie.Need-mul-p Inv-loop μ-loop
 mul-p c = search needs
 
+abbrev turn : tie.After-struct-told Inv-loop μ-loop → tie.At-loop Inv-loop μ-loop
+turn c = c .before .before .before .before .before
+
 slice-set-from-p : tie.Need-slice-set-from-p Inv-loop μ-loop
-slice-set-from-p c =
-    let l = c .before .before .before .before .before in
-    let h = l .before .before .before .before .pre .3 in
-    omega (arith, points-length (l .loop .inv) h)
+slice-set-from-p c = omega (arith, points-length (turn c .loop .inv) (start (turn c) .pre .3))
 
 slice-write-lengths : tie.Need-slice-write-lengths Inv-loop μ-loop
-slice-write-lengths c =
-    let l = c .before .before .before .before .before in
-    let h = l .before .before .before .before .pre .4 in
-    omega (arith, lengths-length (l .loop .inv) h)
+slice-write-lengths c = omega (arith, lengths-length (turn c .loop .inv) (start (turn c) .pre .4))
 
-points-fits : (c : tie.After-struct-told Inv-loop μ-loop) → SFits w32 (c .before .score-last .result .points)
+points-fits : (c : tie.After-struct-told Inv-loop μ-loop) → SFits w32 (c .before .score-next .result .points)
 points-fits c = sfits-of (c .struct-told .given .0 .1)
 
 cast-total : tie.Need-cast-total Inv-loop μ-loop
@@ -89,15 +79,10 @@ cast-total c = to-wide tt (points-fits c)
 
 add-total : tie.Need-add-total Inv-loop μ-loop
 add-total c =
-    let p = c .before .before in
-    let t = p .before .before in
-    let l = t .before in
-    let s = l .before .before .before .before in
+    let l = turn c in
+    let s = start l in
     rw (toZ-ofZ (cast-total c) ∙ toZ-ofZ (points-fits c))
-    (total-added (l .loop .inv) (accepted s) (order-is s) (t .loop-test .taken) (p .push .ensures) (c .before .score-last .ensures) (points-fits c) (s .pre .2))
-
-keep-requires : tie.Need-keep-requires Inv-loop μ-loop
-keep-requires c κs = search needs
+    (total-added (l .loop .inv) (accepted s) (order-is s) (c .before .before .before .before .loop-test .taken) (c .before .score-next .ensures) (points-fits c) (s .pre .2))
 
 add-i : tie.Need-add-i Inv-loop μ-loop
 add-i c = search needs
@@ -108,22 +93,16 @@ loop-less c = search needs
 loop-again : tie.Need-loop-again Inv-loop μ-loop
 loop-again c =
     let d = c .before in
-    let p = d .before .before in
-    let t = p .before .before in
-    let l = t .before in
-    let s = l .before .before .before .before in
-    rw (toZ-ofZ (add-total d), toZ-ofZ (cast-total d), toZ-ofZ (points-fits d), c .keep .ensures)
-    (scoring-more (l .loop .inv) (accepted s) (order-is s) (t .loop-test .taken) (p .push .ensures) (d .before .score-last .ensures) (points-fits d) (s .pre .3) (s .pre .4))
+    let l = turn d in
+    let s = start l in
+    rw (toZ-ofZ (add-total d), toZ-ofZ (cast-total d), toZ-ofZ (points-fits d))
+    (scoring-more (l .loop .inv) (accepted s) (order-is s) (d .before .before .before .before .loop-test .taken) (d .before .score-next .ensures) (points-fits d) (s .pre .3) (s .pre .4))
 
 same-length : tie.Need-same-length Inv-loop μ-loop
-same-length c =
-    let l = c .before in
-    points-length (l .loop .inv) (l .before .before .before .before .pre .3)
+same-length c = points-length (c .before .loop .inv) (start (c .before) .pre .3)
 
 same-length-2 : tie.Need-same-length-2 Inv-loop μ-loop
-same-length-2 c =
-    let l = c .before in
-    lengths-length (l .loop .inv) (l .before .before .before .before .pre .4)
+same-length-2 c = lengths-length (c .before .loop .inv) (start (c .before) .pre .4)
 
 returns : tie.Need-returns Inv-loop μ-loop
 returns c = scored-all (c .before .loop .inv) (c .loop-test .left)
@@ -134,18 +113,17 @@ score-words-spec =
     (tie.spec
     Inv-loop
     μ-loop
+    find-starts-requires
     begin-requires
     loop-holds
-    mul-word
-    shared-slice-read-word
-    push-requires
-    score-last-requires
+    mul-score-next
+    shared-slice-read-score-next
+    score-next-requires
     mul-p
     slice-set-from-p
     slice-write-lengths
     cast-total
     add-total
-    keep-requires
     add-i
     loop-less
     loop-again
