@@ -24,7 +24,7 @@
  * total can be dropped.
  *
  * Threads. Calls may run at the same time if no slice that one of them writes is lent to another. So threads may share
- * one array for lookups, starts, runs, batches and unloading, each with its own slices to be written. */
+ * one array for lookups, starts, runs, batches, fragments and unloading, each with its own slices to be written. */
 #ifndef BACKOFF_H
 #define BACKOFF_H
 
@@ -36,8 +36,9 @@
 extern "C" {
 #endif
 
-/* The numbers of refusals. The place is the row for 3 to 8, the word (from 1) for 12 in a run, the sentence (from 1) for 20
- * and for 12 in a batch, the line (from 1) for 17 to 19 and, where an ARPA text is read, for 15; otherwise it is 0. */
+/* The numbers of refusals. The place is the row for 3 to 8, the word (from 1) for 12 in a run or a fragment, the
+ * sentence (from 1) for 20 and for 12 in a batch, 1 or 2 for the first or second fragment for 21, the line (from 1) for
+ * 17 to 19 and, where an ARPA text is read, for 15; otherwise it is 0. */
 enum backoff_number {
     BACKOFF_ACCEPTED = 0,
     BACKOFF_TABLE_LENGTH = 1,    /* the table has no items, no multiple of 8 items, or more than 65,535 rows */
@@ -58,15 +59,17 @@ enum backoff_number {
                                     replaced by it; unload: the array holds no accepted list, or a marker tells wrongly
                                     which rows there are on either side of its row */
     BACKOFF_TEXT_LINE = 13,      /* a text line is not in form; only the totals program gives this */
-    BACKOFF_WORD_COUNT = 14,     /* a lookup has no or more than 5 words; a run has more than 65,535; a batch has more
-                                    than 65,535 words or sentences */
+    BACKOFF_WORD_COUNT = 14,     /* a lookup has no or more than 5 words; a run, a fragment or a join has more than
+                                    65,535; a batch has more than 65,535 words or sentences */
     BACKOFF_SHORT_SLICE = 15,    /* a slice to be written is too short */
     BACKOFF_BAD_STATE = 16,      /* the state has not nine numbers, its count is outside 0..n-1, an unused number is
                                     not 0, a word is outside 1..65,535, or a back-off is out of range */
     BACKOFF_ARPA_LINE = 17,      /* a line of an ARPA text is not in form, or missing at its end */
     BACKOFF_ARPA_WORD = 18,      /* a word of an ARPA text has no line among the rows of one word */
     BACKOFF_ARPA_COUNT = 19,     /* a section of an ARPA text has not as many lines as its count says */
-    BACKOFF_SENTENCE_ENDS = 20   /* the end of a sentence of a batch is below the one before it, or past the words */
+    BACKOFF_SENTENCE_ENDS = 20,  /* the end of a sentence of a batch is below the one before it, or past the words */
+    BACKOFF_BAD_FRAGMENT = 21    /* kept is not the smaller of n-1 and count, the state is one that 16 refuses, or total is
+                                    further from 0 than count * n * 990,000 */
 };
 
 /* Sizes and limits. */
@@ -76,7 +79,7 @@ enum backoff_limit {
     BACKOFF_ORDER_LIMIT = 5,      /* the most words of a row or a lookup */
     BACKOFF_ROW_LIMIT = 65535,    /* the most rows of a list */
     BACKOFF_WORD_LIMIT = 65535,   /* the largest word */
-    BACKOFF_RUN_LIMIT = 65535,    /* the most words of a run, and the most words and sentences of a batch */
+    BACKOFF_RUN_LIMIT = 65535,    /* the most words of a run or a fragment, and the most words and sentences of a batch */
     BACKOFF_SLOT_LIMIT = 1048576, /* the most slots of an array */
     BACKOFF_RECORD_BYTES = 64,    /* the bytes of a word's record in a store of texts */
     BACKOFF_TEXT_LIMIT = 63,      /* the most bytes of a word's text */
@@ -196,6 +199,42 @@ struct backoff_sheet {
 struct backoff_sheet backoff_batch(const int32_t *base, size_t base_len, const int32_t *check, size_t check_len,
                                    const uint32_t *words, size_t words_len, const uint32_t *ends, size_t ends_len,
                                    int32_t *points, size_t points_len, uint8_t *lengths, size_t lengths_len);
+
+/* Some words of a reading, scored without left context: the total of their points, how many they are, how many first words
+ * are kept (the smaller of n - 1 and count), these words as they were given, and the state after all words. Unused items of
+ * first are 0; a join does not read them. Nine zeros, nothing kept, count 0 and total 0 are the empty fragment. A fragment
+ * belongs to the array that it came from, or a copy of it. */
+struct backoff_fragment {
+    int64_t total;
+    uint32_t count;
+    uint32_t kept;
+    uint32_t first[4];
+    int32_t state[9];
+};
+
+/* The answer of scoring a fragment or of a join: the empty fragment where the call refuses. */
+struct backoff_joined {
+    uint32_t number;
+    uint32_t place;
+    struct backoff_fragment fragment;
+};
+
+/* Scores words without left context. Total and state are those of a run from nine zeros over these words. It writes nothing.
+ * Refusals: 11; 14; 12, at the word that met it. */
+struct backoff_joined backoff_score_fragment(const int32_t *base, size_t base_len, const int32_t *check, size_t check_len,
+                                             const uint32_t *words, size_t words_len);
+
+/* Joins two neighbours: the fragment of the words of one, followed by those of two. Over the array of backoff_build, and for
+ * fragments that came from it, the answer is what backoff_score_fragment gives for all the words at once. So a reading may
+ * be built from the middle outwards, in any order; every order gives the same fragment, where no scoring and no join was
+ * refused. Joined after an empty fragment that has the state of backoff_start, a fragment gets the total and the state of a
+ * run from there.
+ * For any two fragments that pass 21, the total is both totals, less the points of two's kept words from nine zeros, plus
+ * their points after one's state; the state is two's if two has n - 1 words or more, else what those points left. A join
+ * without kept words in two walks nothing.
+ * Refusals: 11; 21, with 1 or 2; 14, where both have more than 65,535 words together; 12, with 0. */
+struct backoff_joined backoff_join_fragments(const int32_t *base, size_t base_len, const int32_t *check, size_t check_len,
+                                             struct backoff_fragment one, struct backoff_fragment two);
 
 /* Scores words from the list alone, after <s> or with no context: points, length bytes and total are those of a run over
  * the array of the list; a 3 ends a sentence here too. Each call checks the list anew.

@@ -4,8 +4,8 @@ use crate::lists::{Arrays, List};
 use crate::packed::Packed;
 use crate::score::Items;
 use crate::time::{compare, Compared};
-use crate::{array, batch, list, plain, score, unload};
-use backoff::{Found, Sheet, Status, Total};
+use crate::{array, batch, fragments, list, plain, score, unload};
+use backoff::{Found, Fragment, Joined, Sheet, Status, Total};
 use std::hint::black_box;
 
 /// Nanoseconds that a call takes for a row, a lookup or a word, and the ratio of the two.
@@ -32,6 +32,8 @@ pub fn measure(list: &List) -> Vec<Measured> {
     let built = build(list, list.arrays.slots());
     let mut measured = vec![check(list), built, lookup(list), start, packed_start, run, packed, ended_run(list), hashed];
     measured.extend(batch(list, &text));
+    measured.extend(fragment(list, &text));
+    measured.push(join(list, &text));
     measured.extend([plain(list, &text), unload(list)]);
     measured
 }
@@ -162,6 +164,35 @@ fn batch(list: &List, text: &[u32]) -> [Measured; 4] {
         assert!(left == right && sheet == other_sheet, "the sheets agree");
         Measured::new(call, "word", text.len(), compared)
     })
+}
+
+/// The text as one fragment, against a run of ours, which writes points and lengths too, and against Rust that writes nothing either.
+fn fragment(list: &List, text: &[u32]) -> [Measured; 2] {
+    let Arrays { base, check, .. } = &list.arrays;
+    let mut scores = Scores::new(text.len());
+    let (mut state, mut total, mut fragment, mut other) = ([0; 9], 0, None, None);
+    let mut ours = || fragment = Some(backoff::score_fragment(base, check, text));
+    let mut run = || {
+        state = [0; 9];
+        total = backoff::run(base, check, &mut state, text, &mut scores.points, &mut scores.lengths).total;
+    };
+    let with_run = compare(&mut ours, &mut run);
+    let with_packed = compare(&mut ours, &mut || other = Some(fragments::score_fragment::<Packed>(base, check, text)));
+    assert!(fragment == other && fragment.is_some_and(|joined| joined.fragment.total == total && joined.fragment.state == state));
+    [("fragment, against a run", with_run), ("fragment, against packed states", with_packed)]
+        .map(|(call, compared)| Measured::new(call, "word", text.len(), compared))
+}
+
+/// Neighbours of 20 words each, joined: twice n − 1 words are scored.
+fn join(list: &List, text: &[u32]) -> Measured {
+    let Arrays { base, check, .. } = &list.arrays;
+    let parts: Vec<Fragment> = text.chunks(20).map(|words| backoff::score_fragment(base, check, words).fragment).collect();
+    let sum = |join: &dyn Fn(Fragment, Fragment) -> Joined| parts.windows(2).map(|pair| join(pair[0], pair[1]).fragment.total).sum::<i64>();
+    let expected = sum(&|one, two| fragments::join_fragments::<Packed>(base, check, one, two));
+    let mut ours = || assert_eq!(sum(&|one, two| backoff::join_fragments(base, check, one, two)), expected);
+    let mut rust = || assert_eq!(sum(&|one, two| fragments::join_fragments::<Packed>(base, check, one, two)), expected);
+    let compared = compare(&mut ours, &mut rust);
+    Measured::new("join, against packed states", "join", parts.len() - 1, compared)
 }
 
 /// Plain scoring with its check of the list, against Rust with binary search too.

@@ -107,8 +107,54 @@ pub struct Sheet {
     pub matched: [u32; 5],
 }
 
+/// Some words of a reading, scored without left context: their total, how many they are, how many first words are kept (the smaller of n − 1 and `count`), these
+/// words as they were given (unused ones 0), and the state after all words.
+///
+/// ```
+/// use backoff::Fragment;
+/// # let list = [
+/// #     [1, 1, 0, 0, 0, 0, -20_000, 0],
+/// #     [1, 2, 0, 0, 0, 0, -990_000, -3_000],
+/// #     [1, 3, 0, 0, 0, 0, -10_000, 0],
+/// #     [1, 4, 0, 0, 0, 0, -6_000, -2_000],
+/// #     [2, 2, 4, 0, 0, 0, -4_000, 0],
+/// # ];
+/// # let (mut base, mut check, mut work) = ([0; 64], [0; 64], [0; 5]);
+/// # assert_eq!(backoff::build(list.as_flattened(), &mut base, &mut check, &mut work).number, 0);
+/// // The middle first, then what stands after it, then what stands before it.
+/// let middle = Fragment::score(&base, &check, &[9, 4])?;
+/// let end = Fragment::score(&base, &check, &[3])?;
+/// let later = middle.join(end, &base, &check)?;
+/// let whole = Fragment::score(&base, &check, &[4])?.join(later, &base, &check)?;
+/// assert_eq!(whole, Fragment::score(&base, &check, &[4, 9, 4, 3])?);
+///
+/// // After the state of start it is a run's total.
+/// let mut begin = Fragment::EMPTY;
+/// assert_eq!(backoff::start(&base, &check, &mut begin.state).number, 0);
+/// assert_eq!(begin.join(whole, &base, &check)?.total, -44_000);
+/// # Ok::<(), backoff::Status>(())
+/// ```
+#[repr(C)]
+#[derive(Clone, Copy, Debug, Default, PartialEq, Eq)]
+pub struct Fragment {
+    pub total: i64,
+    pub count: u32,
+    pub kept: u32,
+    pub first: [u32; 4],
+    pub state: [i32; 9],
+}
+
+/// The answer of scoring a fragment or of a join: the empty fragment where the call refuses.
+#[repr(C)]
+#[derive(Clone, Copy, Debug, PartialEq, Eq)]
+pub struct Joined {
+    pub number: u32,
+    pub place: u32,
+    pub fragment: Fragment,
+}
+
 mod raw {
-    use super::{Found, Rows, Sheet, Status, Total};
+    use super::{Found, Fragment, Joined, Rows, Sheet, Status, Total};
 
     // A slice crosses as a pointer and a length.
     extern "C" {
@@ -195,6 +241,24 @@ mod raw {
             lengths: *mut u8,
             lengths_len: usize,
         ) -> Sheet;
+
+        pub fn backoff_score_fragment(
+            base: *const i32,
+            base_len: usize,
+            check: *const i32,
+            check_len: usize,
+            words: *const u32,
+            words_len: usize,
+        ) -> Joined;
+
+        pub fn backoff_join_fragments(
+            base: *const i32,
+            base_len: usize,
+            check: *const i32,
+            check_len: usize,
+            one: Fragment,
+            two: Fragment,
+        ) -> Joined;
 
         pub fn backoff_arpa(text: *const u8, text_len: usize, table: *mut i32, table_len: usize, store: *mut u8, store_len: usize) -> Rows;
     }
@@ -311,6 +375,48 @@ pub fn batch(base: &[i32], check: &[i32], words: &[u32], ends: &[u32], points: &
             lengths.as_mut_ptr(),
             lengths.len(),
         )
+    }
+}
+
+/// Scores words without left context: total and state are those of a run from nine zeros. It writes nothing.
+///
+/// Refusals: 11; 14; 12, whose place is the word, from 1. [`Fragment::score`] is the same as a `Result`.
+pub fn score_fragment(base: &[i32], check: &[i32], words: &[u32]) -> Joined {
+    unsafe { raw::backoff_score_fragment(base.as_ptr(), base.len(), check.as_ptr(), check.len(), words.as_ptr(), words.len()) }
+}
+
+/// Joins two neighbours. Over the array of a list it is the fragment of the words of both, however they were joined before. For any fragments the total is both
+/// totals, less the points of the second's kept words from nothing, plus their points after the first's state; the state is the second's if that has n − 1 words or
+/// more, else what those points left.
+///
+/// Refusals: 11; 21 with 1 or 2, where the first or second keeps another number of words than the smaller of n − 1 and its count, has a state that 16 refuses, or a
+/// total further from 0 than its count times n times 990,000; 14, where they have more than 65,535 words together; 12 with 0. [`Fragment::join`] is the
+/// same as a `Result`.
+pub fn join_fragments(base: &[i32], check: &[i32], one: Fragment, two: Fragment) -> Joined {
+    unsafe { raw::backoff_join_fragments(base.as_ptr(), base.len(), check.as_ptr(), check.len(), one, two) }
+}
+
+impl Joined {
+    fn accepted(self) -> Result<Fragment, Status> {
+        match self.number {
+            0 => Ok(self.fragment),
+            number => Err(Status { number, place: self.place }),
+        }
+    }
+}
+
+impl Fragment {
+    /// No words and no context; with another state, what stands before a reading.
+    pub const EMPTY: Fragment = Fragment { total: 0, count: 0, kept: 0, first: [0; 4], state: [0; 9] };
+
+    /// [`score_fragment`].
+    pub fn score(base: &[i32], check: &[i32], words: &[u32]) -> Result<Fragment, Status> {
+        score_fragment(base, check, words).accepted()
+    }
+
+    /// This fragment, followed by the next: [`join_fragments`].
+    pub fn join(self, next: Fragment, base: &[i32], check: &[i32]) -> Result<Fragment, Status> {
+        join_fragments(base, check, self, next).accepted()
     }
 }
 

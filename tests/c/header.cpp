@@ -11,6 +11,9 @@ int main() {
     const backoff_status none = backoff_start(nullptr, 0, nullptr, 0, state, BACKOFF_STATE_LENGTH);
     const backoff_rows no_text = backoff_arpa(nullptr, 0, nullptr, 0, nullptr, 0);
     const backoff_sheet no_sheet = backoff_batch(nullptr, 0, nullptr, 0, nullptr, 0, nullptr, 0, nullptr, 0, nullptr, 0);
+    const backoff_fragment empty{};
+    const backoff_joined no_fragment = backoff_join_fragments(nullptr, 0, nullptr, 0, empty, empty);
     const bool holds = missing.number == BACKOFF_RESERVED_WORD && none.number == BACKOFF_ARRAY_HEAD && state[0] == 0;
-    return holds && no_text.number == BACKOFF_ARPA_LINE && no_sheet.number == BACKOFF_ARRAY_HEAD ? 0 : 1;
+    const bool refused = no_sheet.number == BACKOFF_ARRAY_HEAD && no_fragment.number == BACKOFF_ARRAY_HEAD;
+    return holds && refused && no_text.number == BACKOFF_ARPA_LINE ? 0 : 1;
 }

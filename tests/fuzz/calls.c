@@ -4,7 +4,7 @@
 #include <stdio.h>
 
 /* In one call of LOCKED the slices that are not to be written lie in pages that cannot be written. */
-enum { NUMBERS = 21, SMALL_LIST = 8 * 300, SMALL_TEXT = 1 << 16, LOCKED = 10 };
+enum { NUMBERS = 22, SMALL_LIST = 8 * 300, SMALL_TEXT = 1 << 16, LOCKED = 10 };
 
 #define LIST_NUMBERS (1u << 1 | 0x3Fu << 3 | 1u << 9)
 
@@ -28,6 +28,8 @@ static const struct form FORMS[CALLS] = {
      6,
      {false, false, false, false, true, true},
      1u << 11 | 1u << 12 | 1u << 14 | 1u << 15 | 1u << 20},
+    {"backoff_score_fragment", 3, {false}, 1u << 11 | 1u << 12 | 1u << 14},
+    {"backoff_join_fragments", 4, {false}, 1u << 11 | 1u << 12 | 1u << 14 | 1u << 21},
 };
 
 /* How often each call gave each number. */
@@ -70,6 +72,11 @@ static struct answer of_sheet(struct backoff_sheet sheet) {
     return answer;
 }
 
+static struct answer of_joined(struct backoff_joined joined) {
+    struct answer answer = {.number = joined.number, .place = joined.place, .fragment = joined.fragment};
+    return answer;
+}
+
 static struct answer perform(enum call call, bool after_start, void *const *p, const struct slice *s) {
     switch (call) {
     case CHECK:
@@ -90,6 +97,10 @@ static struct answer perform(enum call call, bool after_start, void *const *p, c
     case BATCH:
         return of_sheet(backoff_batch(p[0], s[0].count, p[1], s[1].count, p[2], s[2].count, p[3], s[3].count, p[4],
                                       s[4].count, p[5], s[5].count));
+    case FRAGMENT:
+        return of_joined(backoff_score_fragment(p[0], s[0].count, p[1], s[1].count, p[2], s[2].count));
+    case JOIN:
+        return of_joined(backoff_join_fragments(p[0], s[0].count, p[1], s[1].count, fragment_in(s[2]), fragment_in(s[3])));
     default:
         return of_status(backoff_unload(p[0], s[0].count, p[1], s[1].count, p[2], s[2].count, p[3], s[3].count));
     }
@@ -118,6 +129,13 @@ static struct answer ask_at(enum placement placement, enum call call, bool after
 static bool is_all(struct slice slice, size_t end, int32_t number) {
     for (size_t i = 0; i < end; i++)
         if (slice.width == 1 ? bytes_of(slice)[i] != (uint8_t)number : ints(slice)[i] != number)
+            return false;
+    return true;
+}
+
+static bool are_zeros(const uint32_t *items, size_t count) {
+    for (size_t i = 0; i < count; i++)
+        if (items[i] != 0)
             return false;
     return true;
 }
@@ -366,6 +384,53 @@ static void see_batch(const struct slice *before, const struct slice *after, str
         see_sheet(after[5], sentences, last, answer);
 }
 
+/* The empty fragment where refused; else one that passes 21, of these first words. */
+static void see_first_words(struct backoff_fragment fragment, int32_t order, uint64_t count, const uint32_t *words,
+                            size_t words_len) {
+    require(fragment.count == count && fragment.kept <= words_len, "the count of a fragment");
+    require(are_zeros(fragment.first + fragment.kept, 4 - fragment.kept), "unused first words");
+    require(fragment.kept == (count < (uint64_t)order - 1 ? count : (uint64_t)order - 1), "the number of kept words");
+    require(memcmp(fragment.first, words, fragment.kept * sizeof *words) == 0, "kept words as they were given");
+    require(fragment.state[0] >= 0 && fragment.state[0] < order, "the state of a fragment");
+}
+
+static void see_fragment(const struct slice *s, struct answer answer) {
+    struct backoff_fragment empty = {0};
+    bool head = is_head(s[0], s[1]);
+    size_t words = s[2].count;
+    require((answer.number == 11) == !head, "11 exactly where the head is wrong");
+    require((answer.number == 14) == (head && words > BACKOFF_RUN_LIMIT), "14 exactly where there are too many words");
+    require(answer.number == 12 ? answer.place >= 1 && answer.place <= words : answer.place == 0, "place of a fragment");
+    if (answer.number != 0) {
+        require(same_fragment(answer.fragment, empty), "the empty fragment where refused");
+        return;
+    }
+    require(is_fragment(answer.fragment, order_in(s[1])), "a fragment that 21 lets pass");
+    see_first_words(answer.fragment, order_in(s[1]), words, words_of(s[2]), words);
+}
+
+static void see_join(const struct slice *s, struct answer answer) {
+    struct backoff_fragment empty = {0}, one = fragment_in(s[2]), two = fragment_in(s[3]);
+    bool head = is_head(s[0], s[1]);
+    int32_t order = head ? order_in(s[1]) : 1;
+    uint32_t bad = !head ? 0 : !is_fragment(one, order) ? 1 : !is_fragment(two, order) ? 2 : 0;
+    uint64_t count = (uint64_t)one.count + two.count;
+    require((answer.number == 11) == !head, "11 exactly where the head is wrong");
+    require((answer.number == 21) == (bad != 0), "21 exactly where a fragment is wrong");
+    require(bad == 0 || answer.place == bad, "the first fragment that is wrong");
+    require((answer.number == 14) == (head && bad == 0 && count > BACKOFF_RUN_LIMIT),
+            "14 exactly where there are too many words");
+    require(answer.number == 21 || answer.place == 0, "place of a join");
+    if (answer.number != 0) {
+        require(same_fragment(answer.fragment, empty), "the empty fragment where refused");
+        return;
+    }
+    uint32_t words[8];
+    memcpy(words, one.first, one.kept * sizeof *words);
+    memcpy(words + one.kept, two.first, two.kept * sizeof *words);
+    see_first_words(answer.fragment, order, count, words, one.kept + two.kept);
+}
+
 static void see_unload(const struct slice *before, const struct slice *after, struct answer answer) {
     bool head = is_head(before[0], before[1]);
     size_t rows = head ? (size_t)ints(before[0])[1] : 0;
@@ -413,6 +478,12 @@ static void see(enum call call, bool after_start, const struct slice *before, co
     case BATCH:
         see_batch(before, after, answer);
         break;
+    case FRAGMENT:
+        see_fragment(before, answer);
+        break;
+    case JOIN:
+        see_join(before, answer);
+        break;
     default:
         see_unload(before, after, answer);
     }
@@ -421,7 +492,8 @@ static void see(enum call call, bool after_start, const struct slice *before, co
 static bool same_answer(struct answer a, struct answer b) {
     return a.number == b.number && a.place == b.place && a.found == b.found && a.p == b.p && a.b == b.b &&
            a.left == b.left && a.total == b.total && a.sentences == b.sentences && a.words == b.words &&
-           a.unknown == b.unknown && memcmp(a.matched, b.matched, sizeof a.matched) == 0;
+           a.unknown == b.unknown && memcmp(a.matched, b.matched, sizeof a.matched) == 0 &&
+           same_fragment(a.fragment, b.fragment);
 }
 
 /* The call that is made, or was made last. */

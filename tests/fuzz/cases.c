@@ -1,5 +1,5 @@
-/* The cases: lists, built arrays, arrays that no build wrote, lengths, ARPA texts (arpa.c) and batches (batch.c), with what
- * must hold between calls. */
+/* The cases: lists, built arrays, arrays that no build wrote, lengths, ARPA texts (arpa.c), batches (batch.c) and fragments
+ * (fragments.c), with what must hold between calls. */
 #include "fuzz.h"
 
 /* ---- the calls, with fresh slices to be written */
@@ -351,6 +351,9 @@ static void limit_case(size_t kind) {
     case 4:
         batch_limit_case();
         break;
+    case 5:
+        fragment_limit_case();
+        break;
     default:
         built = build_fitting(table);
         see_split(built, empty_state(), text(table, words));
@@ -360,11 +363,11 @@ static void limit_case(size_t kind) {
 }
 
 /* The limits, each once from this case on; they take long, so a wrong library is mostly caught before. */
-enum { FIRST_LIMIT = 400, LIMITS = 6 };
+enum { FIRST_LIMIT = 400, LIMITS = 7 };
 
 /* The other cases are drawn, those of the limits rarely. */
 void run_case(uint64_t number) {
-    size_t kind = below(1500);
+    size_t kind = below(1700);
     if (number >= FIRST_LIMIT && number < FIRST_LIMIT + LIMITS)
         limit_case((size_t)number - FIRST_LIMIT);
     else if (kind < 1)
@@ -379,6 +382,8 @@ void run_case(uint64_t number) {
         length_case();
     else if (kind < 1300)
         arpa_case();
-    else
+    else if (kind < 1500)
         batch_case();
+    else
+        fragment_case();
 }

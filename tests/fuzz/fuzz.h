@@ -18,8 +18,10 @@ static inline uint32_t *words_of(struct slice slice) { return (uint32_t *)slice.
 
 static inline uint8_t *bytes_of(struct slice slice) { return (uint8_t *)slice.items; }
 
+static inline struct backoff_fragment fragment_in(struct slice slice) { return *(struct backoff_fragment *)slice.items; }
+
 /* The calls, the most slices that one of them takes, and their answers put into one form. */
-enum call { CHECK, BUILD, LOOKUP, START, RUN, PLAIN, UNLOAD, ARPA, BATCH, CALLS };
+enum call { CHECK, BUILD, LOOKUP, START, RUN, PLAIN, UNLOAD, ARPA, BATCH, FRAGMENT, JOIN, CALLS };
 
 enum { MOST_SLICES = 6 };
 
@@ -35,6 +37,7 @@ struct answer {
     uint32_t words;
     uint32_t unknown;
     uint32_t matched[BACKOFF_ORDER_LIMIT];
+    struct backoff_fragment fragment;
 };
 
 /* The case that is run (main.c). */
@@ -95,6 +98,8 @@ struct answer verdict_on(struct slice table);
 bool is_head(struct slice base, struct slice check);
 int32_t order_in(struct slice check);
 bool is_state(struct slice state, int32_t order);
+bool is_fragment(struct backoff_fragment fragment, int32_t order);
+bool same_fragment(struct backoff_fragment a, struct backoff_fragment b);
 
 /* What document 02 says of an ARPA text (arpa_rules.c): fills table and store as the call must leave them. */
 struct answer arpa_by_rules(struct slice text, struct slice table, struct slice store);
@@ -128,6 +133,10 @@ struct arrays other_arrays(struct slice table);
 /* Batches (batch.c). */
 void batch_case(void);
 void batch_limit_case(void);
+
+/* Fragments (fragments.c). */
+void fragment_case(void);
+void fragment_limit_case(void);
 
 /* ARPA texts, drawn and read (arpa.c). */
 void arpa_case(void);

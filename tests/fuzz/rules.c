@@ -176,8 +176,7 @@ bool is_head(struct slice base, struct slice check) {
 }
 
 /* What 16 lets pass. */
-bool is_state(struct slice state, int32_t order) {
-    const int32_t *numbers = ints(state);
+static bool are_state(const int32_t *numbers, int32_t order) {
     if (!in_range(numbers[0], 0, order - 1))
         return false;
     for (int32_t i = 0; i < 4; i++) {
@@ -190,4 +189,21 @@ bool is_state(struct slice state, int32_t order) {
             return false;
     }
     return true;
+}
+
+bool is_state(struct slice state, int32_t order) { return are_state(ints(state), order); }
+
+static uint32_t smaller(uint32_t a, uint32_t b) { return a < b ? a : b; }
+
+/* What 21 lets pass: as many kept words as the smaller of n - 1 and the count, a state that 16 lets pass, and a total no
+ * further from 0 than the count times n times the largest back-off. */
+bool is_fragment(struct backoff_fragment fragment, int32_t order) {
+    int64_t bound = (int64_t)fragment.count * order * BACKOFF_LARGEST_BACKOFF;
+    return fragment.kept == smaller((uint32_t)order - 1, fragment.count) && are_state(fragment.state, order) &&
+           fragment.total >= -bound && fragment.total <= bound;
+}
+
+bool same_fragment(struct backoff_fragment a, struct backoff_fragment b) {
+    return a.total == b.total && a.count == b.count && a.kept == b.kept &&
+           memcmp(a.first, b.first, sizeof a.first) == 0 && memcmp(a.state, b.state, sizeof a.state) == 0;
 }

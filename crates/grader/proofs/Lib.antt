@@ -8,3 +8,4 @@ pub mod Returns
 pub mod Lookups
 pub mod Items
 pub mod Crossing
+pub mod Fragments

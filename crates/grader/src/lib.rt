@@ -3,6 +3,8 @@ use arpa::Rows;
 use backoff::Verdict;
 use batch::Sheet;
 use double_array::Lookup;
+use fragments::Fragment;
+use fragments::Joined;
 use score::State;
 ghost use mathlib.Core.Path.{_≡_};
 ghost use lib.ListN.{length};
@@ -18,6 +20,8 @@ ghost use Rattle.score.specs.Answers.{numbersOf};
 ghost use Rattle.score.specs.Meaning.{StartMeans, RunMeans};
 ghost use Rattle.batch.specs.Sheet.{sheetOutcome};
 ghost use Rattle.batch.specs.Meaning.{SheetMeans};
+ghost use Rattle.fragments.specs.Outcome.{fragmentOutcome, joinOutcome};
+ghost use Rattle.fragments.specs.Meaning.{ScoringMeans, JoinMeans};
 ghost use Rattle.plain.specs.Plain.{runOf, plainOutcome, PlainMeans};
 ghost use Rattle.unload.specs.Unload.{unloadOutcome};
 ghost use Rattle.unload.specs.Meaning.{UnloadMeans};
@@ -257,6 +261,29 @@ pub extern "C" fn backoff_batch(
     ensures meaning { λ r. ⌜ SheetMeans (now (ends .entry)) (runOf (now (words .entry)) (now (points .entry)) (now (lengths .entry))) (record { sheet = r; points = now (points .exit); lengths = now (lengths .exit) }) ⌝ }
 {
     batch::score_batch(base, check, words, ends, points, lengths)
+}
+
+// Scores words without left context, as a fragment: 11, 14, 12. Nothing is written.
+#[no_mangle]
+pub extern "C" fn backoff_score_fragment(base: &[i32], check: &[i32], words: &[u32]) -> Joined
+    ensures outcome { λ r. ⌜ r ≡ fragmentOutcome (opened (now (base .entry)) (now (check .entry))) (now (words .entry)) ⌝ }
+    ensures meaning { λ r. ⌜ ScoringMeans (now (base .entry)) (now (check .entry)) (now (words .entry)) r ⌝ }
+{
+    fragments::score_fragment(base, check, words)
+}
+
+// Joins two neighbours, whatever they hold: 11, 21 with 1 or 2 for the first or second, 14, 12.
+#[no_mangle]
+pub extern "C" fn backoff_join_fragments(
+    base: &[i32],
+    check: &[i32],
+    one: Fragment,
+    two: Fragment,
+) -> Joined
+    ensures outcome { λ r. ⌜ r ≡ joinOutcome (opened (now (base .entry)) (now (check .entry))) one two ⌝ }
+    ensures meaning { λ r. ⌜ JoinMeans (now (base .entry)) (now (check .entry)) one two r ⌝ }
+{
+    fragments::join_fragments(base, check, one, two)
 }
 
 // Scores the words by the list alone, after `<s>` or with no context: 1, rows 3 to 8, 9, then 14, 15.

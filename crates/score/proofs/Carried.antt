@@ -5,8 +5,8 @@ use mathlib.Core.Bool.{Bool, true, false, _&&_, and-assoc, and-true}
 use mathlib.Core.List.{List, [], _∷_, _++_, map}
 use Prim.Native.Nat.{ℕ, _-_, _≤_}
 use native.Mathlib.Omega.{arith}
-use lib.ListN.{length, take, drop, length-append}
-use lib.Seq.{take-at, drop-at, take-all, take-append-le, length-take-le}
+use lib.ListN.{length, take, drop, getD, length-append, length-drop, take-append-drop}
+use lib.Seq.{take-at, drop-at, drop-cons, drop-drop, take-all, take-append-le, length-take-le}
 use lib.IntN.{ℤ, pos, natAbs}
 use lib.Signed.{leZ, ltZ, _≤ℤ_}
 use lib.Dec.{ltb}
@@ -24,7 +24,7 @@ use Rattle.backoff.proofs.Rule.{take-map}
 use Rattle.backoff.proofs.NineNumbers.{Bounded, count-is, stateOk-bounded, four-in-backoff, four-in-words, four-sum}
 use Rattle.score.specs.declared.State.{State}
 use Rattle.score.specs.declared.Packed.{Packed}
-use Rattle.score.specs.Answers.{numbersOf}
+use Rattle.score.specs.Answers.{numbersOf, stateFrom}
 use Rattle.score.specs.Inner.{partOk, digits, packedAs, heldIn, Carries}
 use Rattle.score.proofs.Digits.{length-digits, digits-key}
 
@@ -47,6 +47,10 @@ module _ (s : State) (four : Four s) where
   unfolding numbersOf
   backoffs-among = ap (take 4) (drop-at (s .words) (s .backoffs) 4 (four .words)) ∙ take-all 4 (s .backoffs) (omega arith)
 
+  pub stateFrom-numbers : stateFrom (numbersOf s) ≡ s
+  unfolding stateFrom numbersOf
+  stateFrom-numbers = λ i. record { count = s .count; words = words-among i; backoffs = backoffs-among i }
+
   five-tests : (a b c d e : Bool) → all (a ∷ b ∷ c ∷ d ∷ e ∷ []) ≡ (a && ((b && c) && (d && e)))
   unfolding all
   five-tests a b c d e = simp (and-assoc, and-true)
@@ -55,6 +59,13 @@ module _ (s : State) (four : Four s) where
   pub stateOk-parts : (n : ℕ) → stateOk n (numbersOf s) ≡ (between (pos 0) (pos (n - 1)) (s .count) && (partOk (between (pos 1) (pos wordLimit)) (natAbs (s .count)) (s .words) && partOk inBackoff (natAbs (s .count)) (s .backoffs)))
   unfolding stateOk numbersOf countOf partOk
   stateOk-parts n = rw (words-among, backoffs-among) (five-tests _ _ _ _ _)
+
+pub numbers-stateFrom : (l : List ℤ) → length l ≡ 9 → numbersOf (stateFrom l) ≡ l
+unfolding numbersOf stateFrom
+numbers-stateFrom l e =
+    ap (λ (r : List ℤ). getD l 0 (pos 0) ∷ (take 4 (drop 1 l) ++ r)) (take-all 4 (drop 5 l) (omega (arith, length-drop 5 l)) ∙ sym (drop-drop 4 1 l))
+    ∙ ap (λ (r : List ℤ). getD l 0 (pos 0) ∷ r) (take-append-drop 4 (drop 1 l))
+    ∙ sym (drop-cons l 0 (pos 0) (omega arith))
 
 -- the code's test of a count that is not negative
 pub between-count : (n : ℕ) (z : ℤ) → pos 0 ≤ℤ z → 1 ≤ n → between (pos 0) (pos (n - 1)) z ≡ ltb (natAbs z) n

@@ -9,4 +9,5 @@ pub mod Owing
 pub mod Beginning
 pub mod Stepping
 pub mod Running
+pub mod Pieces
 pub mod Outcomes

@@ -1,19 +1,23 @@
 -- A store's rows from what a look at them comes to; the rows of a double array are in range; its order. Assumes nothing.
 use mathlib.Core.Path.{_≡_, refl, sym, _∙_}
-use mathlib.Core.Bool.{Bool, true, false, not, cond, _&&_, _||_, true≢false}
+use mathlib.Core.Bool.{Bool, true, false, not, cond, _&&_, _||_, true≢false, false≢true}
 use mathlib.Core.List.{List, [], _∷_}
 use Prim.Native.Nat.{ℕ}
+use native.Mathlib.Omega.{arith}
 use lib.ListN.{length}
 use lib.IntN.{ℤ, pos, natAbs, _+ℤ_}
 use lib.Signed.{leZ, ltZ}
 use Rattle.integer.specs.Integer.{eqZ, between, half, odd}
-use Rattle.backoff.specs.Model.{extended, Entry, listed, probability, backoff, continued, live, inProbability, inBackoff, probabilityOf, backoffOf}
+use Rattle.integer.proofs.Ranges.{and-both}
+use Rattle.backoff.specs.Words.{isWord, areWords}
+use Rattle.backoff.specs.Model.{extended, Entry, isSome, listed, probability, backoff, continued, live, inProbability, inBackoff, probabilityOf, backoffOf}
 use Rattle.backoff.specs.Store.{Look, absent, broken, here, Store, entryOf, isBroken, modelIn}
 use Rattle.double_array.specs.DoubleArray.{baseAt, checkAt, markerOf, markerAt, childAt, lookMarker, past, downTo, lookFrom, storeIn, lookRow}
 use Rattle.double_array.specs.declared.Marker.{Marker}
 use Rattle.double_array.specs.declared.Marker.the-variants.{Sound, Broken}
 use Rattle.double_array.specs.declared.Child.{Child}
 use Rattle.double_array.specs.declared.Child.the-variants.{At, Nothing}
+use Rattle.double_array.proofs.DoubleArray.{child-told}
 use Rattle.score.specs.Meaning.{rowsIn}
 
 module _ (S : Store) (l : List ℕ) where
@@ -110,3 +114,24 @@ module _ (base check : List ℤ) where
       go absent r = unfold inBackoff between in refl
       go broken r = unfold inBackoff between in refl
       go (here e) r = r .1
+
+  -- and made of words
+  look-words : (l : List ℕ) (s : ℕ) (e : Entry) → lookFrom base check s l ≡ here e → areWords l ≡ true
+  unfolding lookFrom areWords
+  look-words [] s e h = refl
+  look-words (w ∷ l) s e h = go (look-words l) (markerAt base check s) (childAt base check s w) refl h
+    where
+      go : ((t : ℕ) (x : Entry) → lookFrom base check t l ≡ here x → areWords l ≡ true) → (m : Marker) (c : Child) → childAt base check s w ≡ c → past m (downTo c (λ (t : ℕ). lookFrom base check t l)) ≡ here e → (isWord w && areWords l) ≡ true
+      go ih (Sound p b x f) (At t) q k = and-both (isWord w) (areWords l) (child-told base check s w t q .word) (ih t e k)
+      go ih (Sound p b x f) Nothing q k = let z : _≡_ {A = ℕ} 0 1 = cc in absurd (omega arith)
+      go ih Broken c q k = let z : _≡_ {A = ℕ} 0 1 = cc in absurd (omega arith)
+
+  pub rows-in-words : (l : List ℕ) → listed (rowsIn base check) l ≡ true → areWords l ≡ true
+  unfolding listed modelIn storeIn
+  rows-in-words [] h = unfold areWords in refl
+  rows-in-words (w ∷ l) h = go (lookRow base check (w ∷ l)) refl h
+    where
+      go : (k : Look) → lookRow base check (w ∷ l) ≡ k → isSome (entryOf k) ≡ true → areWords (w ∷ l) ≡ true
+      go absent q r = absurd (false≢true r)
+      go broken q r = absurd (false≢true r)
+      go (here e) q r = look-words (w ∷ l) 0 e q

@@ -28,7 +28,7 @@ use Rattle.backoff.proofs.Sizes.{points-size}
 use Rattle.score.proofs.Written.{drop-more}
 
 -- scored words in front of those that are left
-abbrev beforeAll : List ℤ → List ℕ → Ran → Ran
+abbrev pub beforeAll : List ℤ → List ℕ → Ran → Ran
 beforeAll ps bs (ran qs cs t) = ran (ps ++ qs) (bs ++ cs) t
 beforeAll ps bs (refusedAt k) = refusedAt k
 

@@ -4,7 +4,7 @@ use double_array::Marker;
 ghost use mathlib.Core.Path.{_≡_};
 ghost use mathlib.Core.Bool.{Bool, true, false, cond};
 ghost use mathlib.Core.List.{[], _∷_, _++_, map};
-ghost use Prim.Native.Nat.{ℕ, _%_, _≤_, _<_};
+ghost use Prim.Native.Nat.{ℕ, _+_, _%_, _≤_, _<_};
 ghost use lib.ListN.{length, take, getD, set, replicate};
 ghost use lib.IntN.{pos, natAbs};
 ghost use lib.Signed.{_≤ℤ_};
@@ -18,11 +18,12 @@ ghost use Rattle.backoff.specs.Run.{Run, written, sizeRefusal};
 ghost use Rattle.backoff.specs.NineNumbers.{all, padded, nine, nineZeros, stateIn, stateOk};
 ghost use Rattle.backoff.specs.Store.{wordStep, runOver, ranAnswer, runOutcome, refusedStart, startStep, startOutcome};
 ghost use Rattle.double_array.specs.DoubleArray.{childAt, rootChild, isArray, orderIn, storeIn, opened};
-ghost use Rattle.score.specs.Answers.{numbersOf, kindByte, byteOf, answerOf, startedOf};
+ghost use Rattle.score.specs.Answers.{numbersOf, kindByte, byteOf, answerOf, startedOf, summedOf, summed};
 ghost use Rattle.score.specs.Meaning.{StartMeans, RunMeans};
 ghost use Rattle.score.specs.Inner.{partOk, firstOf, packedAs, heldIn, Carries, longestLive, WalkedOver, ScoredAs, SteppedTo, endingOf, earlyRefusal};
 
 // The paper's carried state as its nine signed numbers. A state of the caller's own making may hold any: check 16 decides.
+#[repr(C)]
 pub struct State {
     pub count: i32,
     pub words: [i32; 4],
@@ -98,8 +99,11 @@ struct Stepped {
     next: Packed,
 }
 
+// So many words are scored at a time where their points are not asked for.
+const PIECE: usize = 64;
+
 // The empty state.
-fn empty() -> State
+pub fn empty() -> State
     ensures { λ r. ⌜ numbersOf r ≡ nineZeros ⌝ }
 {
     State {
@@ -130,7 +134,7 @@ fn part_ok(items: [i32; 4], count: usize, low: i32, high: i32) -> bool
 }
 
 // Check 16.
-fn state_ok(state: State, order: usize) -> bool
+pub fn state_ok(state: State, order: usize) -> bool
     requires { ⌜ 1 ≤ order ⌝ }
     ensures { λ r. ⌜ r ≡ stateOk order (numbersOf state) ⌝ }
 {
@@ -633,6 +637,62 @@ fn score_words(
         number: 0,
         place: 0,
         total,
+        end,
+    }
+}
+
+// Where the piece that begins at `from` ends: PIECE words further on, or with the words.
+fn piece_end(from: usize, words: usize) -> usize
+    requires { ⌜ (from < words) × (words ≤ runLimit) ⌝ }
+    ensures { λ r. ⌜ (from < r) × ((r ≤ words) × (r ≤ from + 64)) ⌝ }
+{
+    if words - from < PIECE {
+        return words;
+    }
+    from + PIECE
+}
+
+// The words of a run without their points and length bytes, which go to a piece's arrays of the function's own.
+pub fn sum_words(base: &[i32], check: &[i32], order: usize, state: State, words: &[u32]) -> Ran
+    requires { ⌜ isArray (now base) (now check) ≡ true ⌝ }
+    requires { ⌜ order ≡ orderIn (now check) ⌝ }
+    requires { ⌜ stateOk order (numbersOf state) ≡ true ⌝ }
+    requires { ⌜ length (now words) ≤ runLimit ⌝ }
+    ensures { λ r. ⌜ summedOf r ≡ summed (numbersOf state) (runOver (storeIn (now (base .entry)) (now (check .entry))) (now (words .entry)) (stateIn (numbersOf state)) 1) ⌝ }
+{
+    let mut points = [0i32; PIECE];
+    let mut lengths = [0u8; PIECE];
+    let mut end = state;
+    let mut sum: i64 = 0;
+    let mut a = 0;
+    while a < words.len() {
+        let e = piece_end(a, words.len());
+        let ran = score_words(
+            base,
+            check,
+            order,
+            end,
+            &words[a..e],
+            &mut points,
+            &mut lengths,
+        );
+        if ran.number != 0 {
+            return Ran {
+                number: ran.number,
+                place: a as u32 + ran.place,
+                total: 0,
+                end: state,
+            };
+        }
+        sum += ran.total;
+        let next = ran.end;
+        end = next;
+        a = e;
+    }
+    Ran {
+        number: 0,
+        place: 0,
+        total: sum,
         end,
     }
 }

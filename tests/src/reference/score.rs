@@ -35,6 +35,11 @@ impl Carried {
     }
 }
 
+/// Whether nine numbers pass check 16 of an order.
+pub fn passes_16(state: &[i32; 9], order: usize) -> bool {
+    Carried::read(state, order).is_some()
+}
+
 /// Start's state: "walking word 2 (replaced like any word) from the empty state" leaves it; nothing where 12 refuses.
 fn begin(array: &Array) -> Option<Carried> {
     let (_, carried) = step(array, &Carried::default(), SENTENCE_START)?;

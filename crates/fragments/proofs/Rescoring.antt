@@ -1,0 +1,116 @@
+-- Words that are scored twice, from nothing and after a state: how large both totals get, and the join that they make. Assumes nothing.
+use mathlib.Core.Path.{_≡_, refl, sym, ap, _∙_}
+use mathlib.Core.Logic.{_⊎_, inl, inr}
+use mathlib.Core.Bool.{Bool, true, false, _&&_}
+use mathlib.Core.List.{List}
+use Prim.Native.Nat.{ℕ, _*_, _-_, _≤_, min}
+use native.Mathlib.Nat.{mul-le-mul-left, mul-le-mul-right}
+use native.Mathlib.Omega.{arith}
+use lib.ListN.{length}
+use lib.IntN.{ℤ, natAbs}
+use lib.Dec.{eqb}
+use borrow.Author.Tests.{leb-true, eqb-true}
+use Rattle.integer.specs.Integer.{sum}
+use Rattle.backoff.specs.Limits.{largestBackoff, orderLimit}
+use Rattle.backoff.specs.Refusal.{brokenNode}
+use Rattle.backoff.specs.Model.{reach}
+use Rattle.backoff.specs.State.{State, empty}
+use Rattle.backoff.specs.Run.{runPoints}
+use Rattle.backoff.specs.NineNumbers.{all, nineZeros, stateIn, stateOk}
+use Rattle.backoff.specs.Store.{Store, Ran, ran, refusedAt, modelIn, runOver}
+use Rattle.backoff.proofs.NineNumbers.{passed, Bounded}
+use Rattle.backoff.proofs.Sizes.{runPoints-size}
+use Rattle.backoff.proofs.Store.{modelRan, runOver-cases}
+use Rattle.double_array.specs.DoubleArray.{orderIn, storeIn}
+use Rattle.score.specs.declared.Ran.{Ran as Summing}
+use Rattle.score.specs.Answers.{numbersOf, Summed, summedOf, summed}
+use Rattle.score.proofs.Carried.{zeros-empty}
+use Rattle.score.proofs.Rows.{rows-in-probability, rows-in-backoff}
+use Rattle.fragments.specs.declared.Rescored.{Rescored}
+use Rattle.fragments.specs.Fragment.{Fragment, fragmentOk}
+use Rattle.fragments.specs.Outcome.{returned, refusedBy, scoredFragment, scoredAs, joinedFragment, joinedAs}
+use Rattle.fragments.specs.Inner.{mostPoints, RescoredAs}
+
+-- ---- what 21 leaves of a fragment
+
+module _ (n : ℕ) (order : n ≤ orderLimit) (f : Fragment (List ℤ)) (ok : fragmentOk n f ≡ true) where
+  pub kept-words : length (f .first) ≡ min (n - 1) (f .count)
+  unfolding fragmentOk
+  kept-words = eqb-true _ _ (passed _ 0 ok)
+
+  pub end-ok : stateOk n (f .end) ≡ true
+  unfolding fragmentOk
+  end-ok = passed _ 1 ok
+
+  pub total-bound : natAbs (f .total) ≤ f .count * mostPoints
+  unfolding fragmentOk
+  total-bound =
+      let most : f .count * (n * largestBackoff) ≤ f .count * mostPoints = mul-le-mul-left (f .count) (mul-le-mul-right largestBackoff order) in
+      omega (arith, leb-true (natAbs (f .total)) (f .count * (n * largestBackoff)) (passed _ 2 ok))
+
+-- ---- the totals
+
+module _ (base check : List ℤ) (order : orderIn check ≤ orderLimit) (ws : List ℕ) (few : length ws ≤ 4) where
+  abbrev S : Store
+  S = storeIn base check
+
+  total-small : (s : State) → Bounded (orderIn check - 1) s → (ps : List ℤ) (bs : List ℕ) (t : State) → runOver S ws s 1 ≡ ran ps bs t → natAbs (sum ps) ≤ 4 * mostPoints
+  total-small s b ps bs t e = go (runOver-cases S ws s 1)
+    where
+      go : ((j : ℕ) × (runOver S ws s 1 ≡ refusedAt j)) ⊎ (runOver S ws s 1 ≡ modelRan (modelIn S) s ws) → natAbs (sum ps) ≤ 4 * mostPoints
+      go (inl (j, o)) = let z : _≡_ {A = ℕ} 0 1 = cc in absurd (omega arith)
+      go (inr o) =
+          let same : runPoints (modelIn S) s ws ≡ ps = cc in
+          let small = runPoints-size (modelIn S) (rows-in-probability base check) (rows-in-backoff base check) orderLimit (unfold storeIn modelIn reach in omega arith) ws s (unfold storeIn modelIn reach in b) in
+          let fewer : natAbs (sum (runPoints (modelIn S) s ws)) ≤ 4 * mostPoints = omega arith in
+          rw same at fewer
+
+  empty-bounded : (k : ℕ) → Bounded k empty
+  empty-bounded k = record { few = omega arith; even = refl; in-backoffs = unfold all in refl }
+
+  pub totals-small : (s : State) → Bounded (orderIn check - 1) s → (r : Rescored) → RescoredAs (runOver S ws empty 1) (runOver S ws s 1) r → r .sound ≡ true → (natAbs (r .less) ≤ 4 * mostPoints) × (natAbs (r .plus) ≤ 4 * mostPoints)
+  totals-small s b r h e = go (runOver S ws empty 1) (runOver S ws s 1) refl refl h
+    where
+      go : (y z : Ran) → runOver S ws empty 1 ≡ y → runOver S ws s 1 ≡ z → RescoredAs y z r → (natAbs (r .less) ≤ 4 * mostPoints) × (natAbs (r .plus) ≤ 4 * mostPoints)
+      go (ran ps bs u) (ran qs cs t) p q k = (rw (k .less-is) (total-small empty (empty-bounded _) ps bs u p), rw (k .plus-is) (total-small s b qs cs t q))
+      go (ran ps bs u) (refusedAt j) p q k = let z : _≡_ {A = Bool} true false = sym e ∙ k in let w : _≡_ {A = ℕ} 0 1 = cc in absurd (omega arith)
+      go (refusedAt j) z p q k = let z : _≡_ {A = Bool} true false = sym e ∙ k in let w : _≡_ {A = ℕ} 0 1 = cc in absurd (omega arith)
+
+-- ---- what the code's scorings say
+
+-- from the empty state, as the code holds it
+pub summed-empty : (S : Store) (ws : List ℕ) (l : List ℤ) (x : Summing) → l ≡ nineZeros → summedOf x ≡ summed l (runOver S ws (stateIn l) 1) → summedOf x ≡ summed nineZeros (runOver S ws empty 1)
+summed-empty S ws l x z e = e ∙ ap (λ (m : List ℤ). summed m (runOver S ws (stateIn m) 1)) z ∙ ap (λ (s : State). summed nineZeros (runOver S ws s 1)) zeros-empty
+
+module _ (n : ℕ) (ws : List ℕ) (l : List ℤ) (x : Summing) where
+  pub summed-refused : (y : Ran) → summedOf x ≡ summed l y → (x .number ≡ 0 → ⊥) → scoredAs n ws y ≡ refusedBy (x .number) (x .place)
+  summed-refused (ran ps bs t) e h = absurd (h (ap (λ (s : Summed). s .number) e))
+  summed-refused (refusedAt k) e h = rw (ap (λ (s : Summed). s .number) e, ap (λ (s : Summed). s .place) e)
+
+  pub summed-scored : (y : Ran) → summedOf x ≡ summed l y → x .number ≡ 0 → scoredAs n ws y ≡ returned (scoredFragment n ws (x .total) (numbersOf (x .end)))
+  summed-scored (ran ps bs t) e h = rw (ap (λ (s : Summed). s .total) e, ap (λ (s : Summed). s .end) e)
+  summed-scored (refusedAt k) e h = absurd (omega (arith, sym h ∙ ap (λ (s : Summed). s .number) e))
+
+module _ (l m : List ℤ) (x w : Summing) where
+  pub rescored-as : (y z : Ran) → summedOf x ≡ summed l y → summedOf w ≡ summed m z → RescoredAs y z (record { sound = eqb (x .number) 0 && eqb (w .number) 0; less = x .total; plus = w .total; end = w .end })
+  rescored-as (ran ps bs u) (ran qs cs t) e f = record {
+    sound = rw (ap (λ (s : Summed). s .number) e, ap (λ (s : Summed). s .number) f);
+    less-is = ap (λ (s : Summed). s .total) e;
+    plus-is = ap (λ (s : Summed). s .total) f;
+    end-is = ap (λ (s : Summed). s .end) f;
+  }
+  rescored-as (ran ps bs u) (refusedAt j) e f = rw (ap (λ (s : Summed). s .number) e, ap (λ (s : Summed). s .number) f)
+  rescored-as (refusedAt j) z e f = rw (ap (λ (s : Summed). s .number) e)
+
+-- ---- the join
+
+module _ (n : ℕ) (a b : Fragment (List ℤ)) (r : Rescored) where
+  pub rescored-joined : (y z : Ran) → RescoredAs y z r → r .sound ≡ true → joinedAs n a b y z ≡ returned (joinedFragment n a b (r .less) (r .plus) (numbersOf (r .end)))
+  rescored-joined (ran ps bs u) (ran qs cs t) k e = rw (k .less-is, k .plus-is, k .end-is)
+  rescored-joined (ran ps bs u) (refusedAt j) k e = let z : _≡_ {A = Bool} true false = sym e ∙ k in let w : _≡_ {A = ℕ} 0 1 = cc in absurd (omega arith)
+  rescored-joined (refusedAt j) y k e = let z : _≡_ {A = Bool} true false = sym e ∙ k in let w : _≡_ {A = ℕ} 0 1 = cc in absurd (omega arith)
+
+  pub rescored-refused : (y z : Ran) → RescoredAs y z r → r .sound ≡ false → joinedAs n a b y z ≡ refusedBy brokenNode 0
+  rescored-refused (ran ps bs u) (ran qs cs t) k e = let z : _≡_ {A = Bool} true false = sym (k .sound) ∙ e in let w : _≡_ {A = ℕ} 0 1 = cc in absurd (omega arith)
+  rescored-refused (ran ps bs u) (refusedAt j) k e = refl
+  rescored-refused (refusedAt j) y k e = refl

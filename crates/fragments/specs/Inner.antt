@@ -1,0 +1,48 @@
+-- What the inner functions of fragments are held to. Assumes nothing.
+use mathlib.Core.Path.{_≡_}
+use mathlib.Core.Bool.{true, false, cond}
+use mathlib.Core.List.{List}
+use mathlib.Core.Option.{Option, none, some}
+use Prim.Native.Nat.{ℕ, _+_, _*_, _≤_}
+use lib.IntN.{ℤ}
+use lib.Dec.{ltb}
+use Rattle.integer.specs.Integer.{sum}
+use Rattle.backoff.specs.Limits.{runLimit, orderLimit, largestBackoff}
+use Rattle.backoff.specs.Refusal.{arrayHead, wordCount, badFragment}
+use Rattle.backoff.specs.NineNumbers.{nine}
+use Rattle.backoff.specs.Store.{Store, Ran, ran, refusedAt}
+use Rattle.backoff.specs.declared.Verdict.{Verdict}
+use Rattle.backoff.specs.declared.Verdict.the-variants.{Accepted, Refused}
+use Rattle.score.specs.Answers as score
+use Rattle.fragments.specs.declared.Rescored.{Rescored}
+use Rattle.fragments.specs.Fragment.{Fragment, fragmentOk}
+
+-- the most points of a word, from 0
+abbrev pub mostPoints : ℕ
+mostPoints = orderLimit * largestBackoff
+
+-- what meets two fragments before any word is scored: 11, 21, 14
+abbrev pub joinFault : Option Store → Fragment (List ℤ) → Fragment (List ℤ) → Verdict
+joinFault none a b = Refused arrayHead 0
+joinFault (some S) a b =
+    cond (fragmentOk (S .order) a)
+    (cond (fragmentOk (S .order) b) (cond (ltb runLimit (a .count + b .count)) (Refused wordCount 0) Accepted) (Refused badFragment 2))
+    (Refused badFragment 1)
+
+-- what holds where nothing does, and the order is n
+pub record Passed (n : ℕ) (a b : Fragment (List ℤ)) : Type 0 where
+  pub first : fragmentOk n a ≡ true
+  pub second : fragmentOk n b ≡ true
+  pub few : a .count + b .count ≤ runLimit
+
+-- the same words scored from nothing, as p says, and after a state, as q says
+pub record BothScored (ps qs : List ℤ) (end : List ℤ) (r : Rescored) : Type 0 where
+  pub sound : r .sound ≡ true
+  pub less-is : r .less ≡ sum ps
+  pub plus-is : r .plus ≡ sum qs
+  pub end-is : score.numbersOf (r .end) ≡ end
+
+abbrev pub RescoredAs : Ran → Ran → Rescored → Type 0
+RescoredAs (ran ps bs s) (ran qs cs t) r = BothScored ps qs (nine t) r
+RescoredAs (ran ps bs s) (refusedAt k) r = r .sound ≡ false
+RescoredAs (refusedAt j) second r = r .sound ≡ false
