@@ -41,15 +41,17 @@ extern "C" {
  * 17 to 19 and, where an ARPA text is read, for 15; otherwise it is 0. */
 enum backoff_number {
     BACKOFF_ACCEPTED = 0,
-    BACKOFF_TABLE_LENGTH = 1,    /* the table has no items, no multiple of 8 items, or more than 65,535 rows */
+    BACKOFF_TABLE_LENGTH = 1,    /* the table has no items, no multiple of 8 items, or more than 65,535 rows; filling:
+                                    the complete list has more than these */
     BACKOFF_ARRAY_LENGTH = 2,    /* base and check differ in length, have fewer than 2 or more than 1,048,576 slots,
                                     or work is shorter than the rows */
     BACKOFF_ROW_LENGTH = 3,      /* m is outside 1..5 */
     BACKOFF_ROW_WORDS = 4,       /* a used word is outside 1..65,535, or an unused one is not 0 */
-    BACKOFF_ROW_PROBABILITY = 5, /* p is outside -990,000..0 */
+    BACKOFF_ROW_PROBABILITY = 5, /* p is outside -990,000..0; filling: that of a row that this row needs */
     BACKOFF_ROW_BACKOFF = 6,     /* b is outside -990,000..990,000, or not 0 where m is the order */
     BACKOFF_ROW_ORDER = 7,       /* the row does not come after the row before it */
-    BACKOFF_SHORTER_ROW = 8,     /* the row without its first or without its last word is missing */
+    BACKOFF_SHORTER_ROW = 8,     /* the row without its first or without its last word is missing; where filling follows:
+                                    the row without its last word, or the row of its last word alone */
     BACKOFF_RESERVED_WORD = 9,   /* word 1, 2 or 3 has no row of one word */
     BACKOFF_NO_ROOM = 10,        /* the array of the list needs more slots than base and check have */
     BACKOFF_ARRAY_HEAD = 11,     /* base and check have lengths as in 2, or slots 0 and 1 are not as a build writes them;
@@ -255,8 +257,8 @@ struct backoff_total backoff_plain(const int32_t *table, size_t table_len, bool 
 struct backoff_status backoff_unload(const int32_t *base, size_t base_len, const int32_t *check, size_t check_len,
                                      int32_t *table, size_t table_len, uint32_t *work, size_t work_len);
 
-/* The answer of reading an ARPA text: rows is the number of rows, and 0 where the call refuses. The place may be a line, so
- * it has 64 bits. */
+/* The answer of reading an ARPA text or of filling a list: rows is the number of rows, and 0 where the call refuses. The
+ * place may be a line, so it has 64 bits. */
 struct backoff_rows {
     uint32_t number;
     uint32_t rows;
@@ -282,13 +284,30 @@ struct backoff_rows {
  * The first i rows need 8 * i items of table, word k needs 64 * (k + 1) bytes of store: for a text of so many lines,
  * 8 * lines items and 64 * (lines + 4) bytes are always enough.
  *
+ * With to_be_filled, 8 is given as by backoff_fill, which is then to follow: a pruned list may lack a row without its first
+ * word. Nothing is filled here.
+ *
  * Refusals: line by line 17, 18, 15, and 19 at the next heading or the end line; then, of the rows in list order, 1; row by
  * row 3, 4, 5, 6, 7, 8; then 9. The place is the line for 15, 17, 18 and 19, the row in list order for 3 to 8, and 0 for 1
  * and 9. Where the text ends too early, 17 has the number of its lines + 1; what follows its last LF is a line not in form.
  * Accepted: table has the rows, store the records of the words; everything else in both is 0.
  * Refused: table and store are 0 throughout. */
-struct backoff_rows backoff_arpa(const uint8_t *text, size_t text_len, int32_t *table, size_t table_len, uint8_t *store,
-                                 size_t store_len);
+struct backoff_rows backoff_arpa(const uint8_t *text, size_t text_len, bool to_be_filled, int32_t *table, size_t table_len,
+                                 uint8_t *store, size_t store_len);
+
+/* Fills a pruned list. Some estimators drop a row and keep one that is longer on the left. filled gets the complete
+ * list, the rows of table among them: each absent row of two or more words that is some row of table without its first
+ * words is added, and no other. An added row has b 0, and as p the points that the lent list gives its last word after
+ * the words before it (a 3 among them ends nothing here). So every word has the same points after every history, over
+ * the lent list and over the filled one; matched lengths may grow. The order stays. A list that lacks nothing comes back
+ * as it is. The complete list has at most three more rows for each row of table; 65,535 rows are enough for any.
+ * Refusals: 1; row by row 3, 4, 5, 6, 7, 8, where 8 is given for an absent row without the last word and for an absent
+ * row of the last word alone; then 9; 5, at the first row of table that needs an added row whose p is out of range; 1,
+ * where the complete list has more than 65,535 rows; 15, where filled is too short for it. The place is the row of table
+ * for 3 to 8, else 0.
+ * Accepted: filled has the complete list, and is untouched past its rows.
+ * Refused: filled is untouched. */
+struct backoff_rows backoff_fill(const int32_t *table, size_t table_len, int32_t *filled, size_t filled_len);
 
 #ifdef __cplusplus
 }

@@ -251,7 +251,7 @@ mod tests {
             let room = if random.chance(80) { (10_000, 64 * 1_000) } else { (random.below(200), random.below(3_000)) };
             let [mut ours, mut second] = [(); 2].map(|()| (vec![1; room.0], vec![1; room.1]));
             let read = super::read_arpa(&text, &mut ours.0, &mut ours.1);
-            let answer = reference::arpa::read_arpa(&text, &mut second.0, &mut second.1);
+            let answer = reference::arpa::read_arpa(&text, false, &mut second.0, &mut second.1);
             assert_eq!((read.number, read.rows, read.place), (answer.number, answer.rows, answer.place));
             assert!(ours == second);
         }

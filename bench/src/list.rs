@@ -9,11 +9,16 @@ pub const LARGEST_B: i32 = 990_000;
 
 /// The verdict on a list: 1, then row by row 3 to 8, then 9.
 pub fn check(table: &[i32]) -> Status {
+    check_by::<false>(table)
+}
+
+/// The same; where filling follows, a row needs the row without its last word and that of its last word alone.
+pub fn check_by<const TO_BE_FILLED: bool>(table: &[i32]) -> Status {
     if !length_fits(table) {
         return Status { number: 1, place: 0 };
     }
     let (rows, _) = table.as_chunks::<8>();
-    match first_fault(rows) {
+    match first_fault::<TO_BE_FILLED>(rows) {
         Some((number, row)) => Status { number, place: row as u32 + 1 },
         None if has_marks(rows) => Status { number: 0, place: 0 },
         None => Status { number: 9, place: 0 },
@@ -26,7 +31,7 @@ pub fn length_fits(table: &[i32]) -> bool {
 
 pub type Row = [i32; 8];
 
-fn first_fault(rows: &[Row]) -> Option<(u32, usize)> {
+fn first_fault<const TO_BE_FILLED: bool>(rows: &[Row]) -> Option<(u32, usize)> {
     let order = rows[rows.len() - 1][0];
     let mut last = Key { high: 0, low: 0 };
     // The rows of m words are those from starts[m] on.
@@ -41,7 +46,7 @@ fn first_fault(rows: &[Row]) -> Option<(u32, usize)> {
         }
         let m = row[0] as usize;
         starts[last.length() + 1..=m].fill(i);
-        if m > 1 && !shorter_listed(&rows[starts[m - 1]..starts[m]], m, key) {
+        if m > 1 && !shorter_listed::<TO_BE_FILLED>(rows, &starts, m, key) {
             return Some((8, i));
         }
         last = key;
@@ -90,11 +95,13 @@ pub fn low(row: &Row) -> u64 {
     row[1] as u64 | (row[2] as u64) << 16 | (row[3] as u64) << 32 | (row[4] as u64) << 48
 }
 
-/// Both shorter rows of a row of m words, among the rows of m - 1 words.
-fn shorter_listed(rows: &[Row], m: usize, key: Key) -> bool {
+/// Both shorter rows of a row of m words, among the rows of m - 1 words; or that without the last word, and the last word among the rows of one.
+fn shorter_listed<const TO_BE_FILLED: bool>(rows: &[Row], starts: &[usize; 6], m: usize, key: Key) -> bool {
+    let shorter = &rows[starts[m - 1]..starts[m]];
     let without_first = key.low >> 16 | (key.high as u64 & 0xFFFF) << 48;
     let without_last = key.low & (u64::MAX >> (64 - 16 * (m - 1)));
-    listed(rows, without_first) && listed(rows, without_last)
+    let newest = if TO_BE_FILLED { listed(&rows[..starts[2]], without_first >> (16 * (m - 2))) } else { listed(shorter, without_first) };
+    newest && listed(shorter, without_last)
 }
 
 fn listed(rows: &[Row], key: u64) -> bool {

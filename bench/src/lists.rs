@@ -2,7 +2,7 @@
 
 use crate::list::{LARGEST_WORD, MOST_ROWS};
 use crate::score::LONGEST_RUN;
-use tests::lists::{natural, natural_sentence, table, uniform};
+use tests::lists::{mild, natural, natural_sentence, pruned, table, uniform};
 use tests::random::Random;
 use tests::reference::array::MOST_SLOTS;
 use tests::reference::build::FREE;
@@ -85,6 +85,13 @@ impl List {
 
     pub fn rows(&self) -> usize {
         self.rows.len()
+    }
+
+    /// The list pruned: of a hundred rows that no kept row goes on after, so many are gone. Its numbers are such that filling accepts it.
+    pub fn pruned_table(&self, percent: usize) -> Vec<i32> {
+        let mut random = Random::new(7);
+        let rows = mild(&mut random, &self.rows);
+        table(&pruned(&mut random, &rows, percent))
     }
 
     /// Every row's words, and as many words with the first one changed, in random order.

@@ -4,6 +4,7 @@
 mod arpa;
 mod array;
 mod batch;
+mod filling;
 mod fragments;
 mod instructions;
 mod list;

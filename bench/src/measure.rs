@@ -1,12 +1,16 @@
 //! The calls and their counterparts on one list; each pair must leave and answer the same.
 
+use crate::list::MOST_ROWS;
 use crate::lists::{Arrays, List};
 use crate::packed::Packed;
 use crate::score::Items;
 use crate::time::{compare, Compared};
-use crate::{array, batch, fragments, list, plain, score, unload};
+use crate::{array, batch, filling, fragments, list, plain, score, unload};
 use backoff::{Found, Fragment, Joined, Sheet, Status, Total};
 use std::hint::black_box;
+
+/// How many of a hundred rows that may go are pruned before a list is filled.
+pub const PRUNED: usize = 70;
 
 /// Nanoseconds that a call takes for a row, a lookup or a word, and the ratio of the two.
 pub struct Measured {
@@ -34,7 +38,7 @@ pub fn measure(list: &List) -> Vec<Measured> {
     measured.extend(batch(list, &text));
     measured.extend(fragment(list, &text));
     measured.push(join(list, &text));
-    measured.extend([plain(list, &text), unload(list)]);
+    measured.extend([plain(list, &text), fill(list), unload(list)]);
     measured
 }
 
@@ -203,6 +207,18 @@ fn plain(list: &List, text: &[u32]) -> Measured {
     let compared = compare(&mut ours, &mut rust);
     assert!(left == right, "the scorers agree");
     Measured::new("plain", "word", text.len(), compared)
+}
+
+/// A pruned list filled, for each row of the complete list.
+fn fill(list: &List) -> Measured {
+    let pruned = list.pruned_table(PRUNED);
+    let [mut left, mut right] = [(); 2].map(|()| vec![0; 8 * MOST_ROWS]);
+    let rows = filling::fill(&pruned, &mut right).rows;
+    let mut ours = || assert_eq!(backoff::fill(&pruned, &mut left).rows, rows);
+    let mut rust = || assert_eq!(filling::fill(&pruned, &mut right).rows, rows);
+    let compared = compare(&mut ours, &mut rust);
+    assert!(rows > 0 && left == right, "the fillers agree");
+    Measured::new("fill", "row", rows as usize, compared)
 }
 
 pub fn unload(list: &List) -> Measured {

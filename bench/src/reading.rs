@@ -77,7 +77,7 @@ fn print_orders() {
 fn measure(text: &Text) -> (f64, f64, f64) {
     let (mut left, mut right) = (text.room(), text.room());
     let accepted = Rows { number: 0, rows: text.rows as u32, place: 0 };
-    let mut ours = || assert_eq!(backoff::read_arpa(&text.bytes, &mut left.0, &mut left.1), accepted);
+    let mut ours = || assert_eq!(backoff::read_arpa(&text.bytes, false, &mut left.0, &mut left.1), accepted);
     let mut rust = || assert_eq!(arpa::read_arpa(&text.bytes, &mut right.0, &mut right.1), accepted);
     let compared = compare(&mut ours, &mut rust);
     assert!(left == right, "the readers agree");
@@ -105,7 +105,7 @@ fn print_worst() {
     ];
     for (name, text) in worst {
         let (mut left, mut right) = (text.room(), text.room());
-        let (ours, answer) = once(|| backoff::read_arpa(&text.bytes, &mut left.0, &mut left.1));
+        let (ours, answer) = once(|| backoff::read_arpa(&text.bytes, false, &mut left.0, &mut left.1));
         let (rust, other) = once(|| arpa::read_arpa(&text.bytes, &mut right.0, &mut right.1));
         assert!(answer == other && left == right, "the readers agree");
         let answer = if answer.number == 0 { "accepted".to_string() } else { format!("refused by {}", answer.number) };

@@ -1,9 +1,9 @@
 //! The tables, as Markdown.
 
-use crate::batch;
+use crate::list::MOST_ROWS;
 use crate::lists::{List, KINDS};
-use crate::measure::{build, measure, unload, Measured};
-use crate::reading;
+use crate::measure::{build, measure, unload, Measured, PRUNED};
+use crate::{batch, filling, reading};
 use tests::reference::array::MOST_SLOTS;
 
 /// The lists of a kind and what was measured on them, 1,000 rows first.
@@ -21,6 +21,7 @@ pub fn print() {
     });
     print_ratios(&results);
     print_times(&results);
+    print_filled(&results);
     print_memory(&results);
     print_largest(&results);
     batch::print_threads(&results[0].lists[1]);
@@ -49,6 +50,19 @@ fn print_times(results: &[Result]) {
             print!("| {} | {kind} | {} ", short.call, short.unit);
             print!("| {:.1} | {:.1} | {:.1} | {:.1} ", short.ours, short.rust, long.ours, long.rust);
             println!("| {:.1} | {:.1} |", long.ours / short.ours, long.rust / short.rust);
+        }
+    }
+}
+
+/// How many rows the pruned lists have, and how many when they are filled.
+fn print_filled(results: &[Result]) {
+    println!("\n## Filled lists\n\nThe rows of the lists that are filled, of the pruned ones and of the complete ones.\n");
+    println!("| list | before pruning | pruned | filled |\n|---|--:|--:|--:|");
+    for result in results {
+        for list in &result.lists {
+            let pruned = list.pruned_table(PRUNED);
+            let filled = filling::fill(&pruned, &mut vec![0; 8 * MOST_ROWS]).rows as usize;
+            println!("| {} | {} | {} | {} |", result.kind, thousands(list.rows()), thousands(pruned.len() / 8), thousands(filled));
         }
     }
 }

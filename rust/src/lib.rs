@@ -82,8 +82,8 @@ pub struct Total {
     pub total: i64,
 }
 
-/// The answer of reading an ARPA text: `rows` is the number of rows, and 0 where the call refuses. The place is the line for 15, 17, 18 and 19, the
-/// row in list order for 3 to 8, and 0 for 1 and 9.
+/// The answer of reading an ARPA text or of filling a list: `rows` is the number of rows, and 0 where the call refuses. Reading, the place is the line for 15, 17, 18
+/// and 19, the row in list order for 3 to 8, and 0 for 1 and 9; filling, it is the row of the lent list for 3 to 8, and 0 for 1, 9 and 15.
 #[repr(C)]
 #[derive(Clone, Copy, Debug, PartialEq, Eq)]
 pub struct Rows {
@@ -260,7 +260,17 @@ mod raw {
             two: Fragment,
         ) -> Joined;
 
-        pub fn backoff_arpa(text: *const u8, text_len: usize, table: *mut i32, table_len: usize, store: *mut u8, store_len: usize) -> Rows;
+        pub fn backoff_arpa(
+            text: *const u8,
+            text_len: usize,
+            to_be_filled: bool,
+            table: *mut i32,
+            table_len: usize,
+            store: *mut u8,
+            store_len: usize,
+        ) -> Rows;
+
+        pub fn backoff_fill(table: *const i32, table_len: usize, filled: *mut i32, filled_len: usize) -> Rows;
     }
 }
 
@@ -464,13 +474,14 @@ pub fn unload(base: &[i32], check: &[i32], table: &mut [i32], work: &mut [u32]) 
 /// text of so many lines, `8 * lines` numbers and `64 * (lines + 4)` bytes are always enough.
 ///
 /// Refusals: line by line 17, 18, 15, and 19 at the next heading or the end line; then, of the rows in list order, 1; row by row 3 to 8; then 9. They leave
-/// `table` and `store` 0 throughout. Where the call accepts, all that holds no row and no text is 0.
+/// `table` and `store` 0 throughout. Where the call accepts, all that holds no row and no text is 0. With `to_be_filled`, 8 is given as by [`fill`], so that a pruned
+/// list may be read and filled; nothing is filled here.
 ///
 /// ```
 /// let text = b"\\data\\\nngram 1=4\nngram 2=1\n\n\\1-grams:\n-2\t<unk>\n-99\t<s>\t-0.3\n-1\t</s>\n-0.6\tgood\t-0.2\n\n\\2-grams:\n-0.4\t<s> good\n\n\\end\\\n";
 /// let lines = text.iter().filter(|&&byte| byte == b'\n').count();
 /// let (mut table, mut store) = (vec![0; 8 * lines], vec![0; 64 * (lines + 4)]);
-/// let read = backoff::read_arpa(text, &mut table, &mut store);
+/// let read = backoff::read_arpa(text, false, &mut table, &mut store);
 /// assert_eq!(read, backoff::Rows { number: 0, rows: 5, place: 0 });
 /// table.truncate(8 * read.rows as usize);
 /// assert_eq!(table[8 * 3..8 * 4], [1, 4, 0, 0, 0, 0, -6_000, -2_000]);
@@ -481,8 +492,39 @@ pub fn unload(base: &[i32], check: &[i32], table: &mut [i32], work: &mut [u32]) 
 /// assert_eq!(backoff::find_text(&store, b"bad"), None);
 /// assert_eq!(backoff::texts(&store).last(), Some((4, &b"good"[..])));
 /// ```
-pub fn read_arpa(text: &[u8], table: &mut [i32], store: &mut [u8]) -> Rows {
-    unsafe { raw::backoff_arpa(text.as_ptr(), text.len(), table.as_mut_ptr(), table.len(), store.as_mut_ptr(), store.len()) }
+pub fn read_arpa(text: &[u8], to_be_filled: bool, table: &mut [i32], store: &mut [u8]) -> Rows {
+    unsafe { raw::backoff_arpa(text.as_ptr(), text.len(), to_be_filled, table.as_mut_ptr(), table.len(), store.as_mut_ptr(), store.len()) }
+}
+
+/// Fills a pruned list: `filled` gets the complete list, with each absent row of two or more words that is some row without its first words. An added row has b 0,
+/// and as p the points that the lent list gives its last word after the words before it. So every word has the same points over both lists. A list that
+/// lacks nothing comes back as it is.
+///
+/// Refusals: 1; row by row 3 to 8, where 8 is given for an absent row without the last word and for an absent one-word row alone; 9; 5 at the first row of the lent list that
+/// needs a row whose p is out of range; 1, where the complete list has more than 65,535 rows; 15, where `filled` is too short for it. They write nothing. `filled` is
+/// always untouched past the rows.
+///
+/// ```
+/// // The row of words 4 5 is absent.
+/// let list = [
+///     [1, 1, 0, 0, 0, 0, -20_000, 0],
+///     [1, 2, 0, 0, 0, 0, -990_000, -3_000],
+///     [1, 3, 0, 0, 0, 0, -10_000, 0],
+///     [1, 4, 0, 0, 0, 0, -6_000, -2_000],
+///     [1, 5, 0, 0, 0, 0, -9_000, -1_000],
+///     [2, 2, 4, 0, 0, 0, -4_000, -500],
+///     [3, 2, 4, 5, 0, 0, -1_000, 0],
+/// ];
+/// let table = list.as_flattened();
+/// assert_eq!(backoff::check(table), backoff::Status { number: 8, place: 7 });
+/// let mut filled = [0; 8 * 8];
+/// assert_eq!(backoff::fill(table, &mut filled).rows, 8);
+/// // b of 4, then p of 5.
+/// assert_eq!(filled[8 * 6..8 * 7], [2, 4, 5, 0, 0, 0, -2_000 - 9_000, 0]);
+/// assert_eq!(backoff::check(&filled).number, 0);
+/// ```
+pub fn fill(table: &[i32], filled: &mut [i32]) -> Rows {
+    unsafe { raw::backoff_fill(table.as_ptr(), table.len(), filled.as_mut_ptr(), filled.len()) }
 }
 
 /// The bytes of a word's record in a store: its text's length, then the text.

@@ -12,10 +12,12 @@ enum { ITEMS = 80, BYTES = 7 * BACKOFF_RECORD_BYTES };
 static int32_t table[ITEMS];
 static uint8_t store[BYTES];
 
+static bool to_be_filled;
+
 static struct backoff_rows read_in(const char *text, size_t items, size_t bytes) {
     memset(table, 0x5A, sizeof table);
     memset(store, 0x5A, sizeof store);
-    return backoff_arpa((const uint8_t *)text, strlen(text), table, items, store, bytes);
+    return backoff_arpa((const uint8_t *)text, strlen(text), to_be_filled, table, items, store, bytes);
 }
 
 static int is_zero(const void *memory, size_t bytes) {
@@ -55,7 +57,12 @@ int main(void) {
                    BACKOFF_ROW_PROBABILITY, 1);
     expect_refused("no word 1", "\\data\\\nngram 1=2\n\\1-grams:\n-1\t<s>\n-1\t</s>\n" END, ITEMS, BYTES,
                    BACKOFF_RESERVED_WORD, 0);
-    read = backoff_arpa(NULL, 0, NULL, 0, NULL, 0);
+    const char *pruned = "\\data\\\nngram 1=5\nngram 2=2\nngram 3=1\n" ONE_WORD
+                         "\\2-grams:\n-0.4\t<s> four\t-0.05\n-0.15\tfive </s>\n" THREE_WORDS END;
+    expect_refused("a pruned list", pruned, ITEMS, BYTES, BACKOFF_SHORTER_ROW, 8);
+    to_be_filled = true;
+    expect("a pruned list, to be filled", read_in(pruned, ITEMS, BYTES).rows == 8);
+    read = backoff_arpa(NULL, 0, true, NULL, 0, NULL, 0);
     expect("an empty text and empty buffers", read.number == BACKOFF_ARPA_LINE && read.place == 1);
     return counted();
 }

@@ -9,11 +9,12 @@ int main() {
     const backoff_status missing = backoff_check(table, BACKOFF_ROW_ITEMS);
     int32_t state[BACKOFF_STATE_LENGTH];
     const backoff_status none = backoff_start(nullptr, 0, nullptr, 0, state, BACKOFF_STATE_LENGTH);
-    const backoff_rows no_text = backoff_arpa(nullptr, 0, nullptr, 0, nullptr, 0);
+    const backoff_rows no_text = backoff_arpa(nullptr, 0, false, nullptr, 0, nullptr, 0);
     const backoff_sheet no_sheet = backoff_batch(nullptr, 0, nullptr, 0, nullptr, 0, nullptr, 0, nullptr, 0, nullptr, 0);
     const backoff_fragment empty{};
     const backoff_joined no_fragment = backoff_join_fragments(nullptr, 0, nullptr, 0, empty, empty);
+    const backoff_rows no_list = backoff_fill(nullptr, 0, nullptr, 0);
     const bool holds = missing.number == BACKOFF_RESERVED_WORD && none.number == BACKOFF_ARRAY_HEAD && state[0] == 0;
     const bool refused = no_sheet.number == BACKOFF_ARRAY_HEAD && no_fragment.number == BACKOFF_ARRAY_HEAD;
-    return holds && refused && no_text.number == BACKOFF_ARPA_LINE ? 0 : 1;
+    return holds && refused && no_text.number == BACKOFF_ARPA_LINE && no_list.number == BACKOFF_TABLE_LENGTH ? 0 : 1;
 }

@@ -252,11 +252,15 @@ static size_t about(size_t needed) {
     }
 }
 
-static struct answer read_text(struct slice text, size_t items, size_t bytes, struct slice *table) {
+static struct answer read_told(bool to_be_filled, struct slice text, size_t items, size_t bytes, struct slice *table) {
     struct slice slices[3] = {text, rubbish(items, 4), rubbish(bytes, 1)};
-    struct answer answer = ask(ARPA, false, slices);
+    struct answer answer = ask(ARPA, to_be_filled, slices);
     *table = slices[1];
     return answer;
+}
+
+static struct answer read_text(struct slice text, size_t items, size_t bytes, struct slice *table) {
+    return read_told(false, text, items, bytes, table);
 }
 
 static size_t words_in(struct slice table) {
@@ -266,9 +270,10 @@ static size_t words_in(struct slice table) {
     return words < 3 ? 3 : words;
 }
 
-/* What is accepted is an accepted list. */
+/* What is accepted is an accepted list, or one that may be filled. */
 void arpa_case(void) {
-    struct slice table = accepted_list(), read;
+    bool to_be_filled = chance(50);
+    struct slice table = chance(70) ? accepted_list() : pruned_list(), read;
     size_t items = table.count, bytes = BACKOFF_RECORD_BYTES * (words_in(table) + 1);
     if (chance(40))
         damage_list(&table);
@@ -279,11 +284,14 @@ void arpa_case(void) {
         text = changed(text);
     if (chance(2))
         text = rubbish(below(300), 1);
-    struct answer answer = read_text(text, about(items), about(bytes), &read);
+    struct answer answer = read_told(to_be_filled, text, about(items), about(bytes), &read);
     if (answer.number != BACKOFF_ACCEPTED)
         return;
     struct slice rows = part_of(read, 0, BACKOFF_ROW_ITEMS * (size_t)answer.total);
-    require(ask(CHECK, false, &rows).number == BACKOFF_ACCEPTED, "an accepted text has an accepted list");
+    struct slice filling[2] = {rows, rubbish(4 * rows.count, 4)};
+    uint32_t checked = ask(CHECK, false, &rows).number, filled = ask(FILL, false, filling).number;
+    require(checked == BACKOFF_ACCEPTED || to_be_filled, "an accepted text has an accepted list");
+    require(filled == BACKOFF_ACCEPTED || filled == BACKOFF_ROW_PROBABILITY, "an accepted text has a list to fill");
 }
 
 /* One-word rows, those of the marks where they are asked for. */
@@ -309,7 +317,7 @@ void arpa_limit_case(void) {
     struct slice table;
     struct answer answer = read_text(long_text(true, most - 3), items, bytes, &table);
     require(answer.number == BACKOFF_ACCEPTED && answer.total == (int64_t)most, "a text of the most rows is accepted");
-    require(verdict_on(part_of(table, 0, BACKOFF_ROW_ITEMS * 100)).number == BACKOFF_ACCEPTED, "its first rows");
+    require(verdict_on(part_of(table, 0, BACKOFF_ROW_ITEMS * 100), false).number == BACKOFF_ACCEPTED, "its first rows");
     require(ints(table)[BACKOFF_ROW_ITEMS * (most - 1) + 1] == BACKOFF_WORD_LIMIT, "its last word");
     answer = read_text(long_text(true, most - 2), items, bytes, &table);
     require(answer.number == BACKOFF_TABLE_LENGTH && answer.place == 0, "a text of one row more gives 1");

@@ -2,7 +2,7 @@
  * another text. */
 #include "faults.h"
 
-struct backoff_rows __real_backoff_arpa(const uint8_t *, size_t, int32_t *, size_t, uint8_t *, size_t);
+struct backoff_rows __real_backoff_arpa(const uint8_t *, size_t, bool, int32_t *, size_t, uint8_t *, size_t);
 
 enum { ROOM_FOR_TEXT = 1 << 21 };
 
@@ -230,11 +230,13 @@ static void spoil_reading(struct backoff_rows *rows, int32_t *table, size_t tabl
         table[2] = 1;
 }
 
-struct backoff_rows __wrap_backoff_arpa(const uint8_t *text, size_t text_len, int32_t *table, size_t table_len,
-                                        uint8_t *store, size_t store_len) {
-    struct backoff_rows rows = __real_backoff_arpa(text, text_len, table, table_len, store, store_len);
+struct backoff_rows __wrap_backoff_arpa(const uint8_t *text, size_t text_len, bool to_be_filled, int32_t *table,
+                                        size_t table_len, uint8_t *store, size_t store_len) {
+    bool told = has("arpa-never-hears-of-filling") ? false : to_be_filled;
+    told = has("arpa-always-expects-filling") ? true : told;
+    struct backoff_rows rows = __real_backoff_arpa(text, text_len, told, table, table_len, store, store_len);
     if (rewrites(text, text_len, rows))
-        rows = __real_backoff_arpa(other, length, table, table_len, store, store_len);
+        rows = __real_backoff_arpa(other, length, told, table, table_len, store, store_len);
     if (rows.number != 0)
         spoil_refusal(&rows, table, table_len, store, store_len);
     else

@@ -246,7 +246,7 @@ static void clear(struct slice slice) {
 }
 
 /* Fills table and store, and gives the answer. */
-struct answer arpa_by_rules(struct slice text, struct slice table, struct slice store) {
+struct answer arpa_by_rules(struct slice text, bool to_be_filled, struct slice table, struct slice store) {
     struct reading reading = {.table = table, .store = store, .last_word = BACKOFF_END_WORD};
     struct answer answer = {.number = BACKOFF_ACCEPTED};
     clear(table);
@@ -255,7 +255,7 @@ struct answer arpa_by_rules(struct slice text, struct slice table, struct slice 
     if (answer.number == BACKOFF_ACCEPTED) {
         struct slice rows = {table.items, BACKOFF_ROW_ITEMS * reading.rows, sizeof(int32_t)};
         put_in_order(rows, reading.rows);
-        answer = verdict_on(rows);
+        answer = verdict_on(rows, to_be_filled);
     }
     if (answer.number == BACKOFF_ACCEPTED) {
         answer.total = (int64_t)reading.rows;

@@ -30,6 +30,7 @@ static const struct form FORMS[CALLS] = {
      1u << 11 | 1u << 12 | 1u << 14 | 1u << 15 | 1u << 20},
     {"backoff_score_fragment", 3, {false}, 1u << 11 | 1u << 12 | 1u << 14},
     {"backoff_join_fragments", 4, {false}, 1u << 11 | 1u << 12 | 1u << 14 | 1u << 21},
+    {"backoff_fill", 2, {false, true}, LIST_NUMBERS | 1u << 15},
 };
 
 /* How often each call gave each number. */
@@ -77,7 +78,7 @@ static struct answer of_joined(struct backoff_joined joined) {
     return answer;
 }
 
-static struct answer perform(enum call call, bool after_start, void *const *p, const struct slice *s) {
+static struct answer perform(enum call call, bool flag, void *const *p, const struct slice *s) {
     switch (call) {
     case CHECK:
         return of_status(backoff_check(p[0], s[0].count));
@@ -91,12 +92,14 @@ static struct answer perform(enum call call, bool after_start, void *const *p, c
         return of_total(backoff_run(p[0], s[0].count, p[1], s[1].count, p[2], s[2].count, p[3], s[3].count, p[4], s[4].count,
                                     p[5], s[5].count));
     case PLAIN:
-        return of_total(backoff_plain(p[0], s[0].count, after_start, p[1], s[1].count, p[2], s[2].count, p[3], s[3].count));
+        return of_total(backoff_plain(p[0], s[0].count, flag, p[1], s[1].count, p[2], s[2].count, p[3], s[3].count));
     case ARPA:
-        return of_rows(backoff_arpa(p[0], s[0].count, p[1], s[1].count, p[2], s[2].count));
+        return of_rows(backoff_arpa(p[0], s[0].count, flag, p[1], s[1].count, p[2], s[2].count));
     case BATCH:
         return of_sheet(backoff_batch(p[0], s[0].count, p[1], s[1].count, p[2], s[2].count, p[3], s[3].count, p[4],
                                       s[4].count, p[5], s[5].count));
+    case FILL:
+        return of_rows(backoff_fill(p[0], s[0].count, p[1], s[1].count));
     case FRAGMENT:
         return of_joined(backoff_score_fragment(p[0], s[0].count, p[1], s[1].count, p[2], s[2].count));
     case JOIN:
@@ -107,7 +110,7 @@ static struct answer perform(enum call call, bool after_start, void *const *p, c
 }
 
 /* The call with its slices in one placement; the slices get what it left. */
-static struct answer ask_at(enum placement placement, enum call call, bool after_start, const struct slice *slices) {
+static struct answer ask_at(enum placement placement, enum call call, bool flag, const struct slice *slices) {
     const struct form *form = &FORMS[call];
     void *lent[MOST_SLICES];
     bool locked = placement == AT_END && below(LOCKED) == 0;
@@ -116,7 +119,7 @@ static struct answer ask_at(enum placement placement, enum call call, bool after
     for (size_t i = 0; locked && i < form->slices; i++)
         if (!form->written[i])
             allow_writing(i, lent[i], false);
-    struct answer answer = perform(call, after_start, lent, slices);
+    struct answer answer = perform(call, flag, lent, slices);
     for (size_t i = 0; locked && i < form->slices; i++)
         allow_writing(i, lent[i], true);
     for (size_t i = 0; i < form->slices; i++)
@@ -150,24 +153,37 @@ static bool is_kept_from(struct slice before, struct slice after, size_t start) 
 static void see_verdict(struct slice table, struct answer answer) {
     if (table.count > SMALL_LIST && table.count <= BACKOFF_ROW_LIMIT * 8)
         return;
-    struct answer verdict = verdict_on(table);
+    struct answer verdict = verdict_on(table, false);
     require(answer.number == verdict.number && answer.place == verdict.place, "number and place of the list");
 }
 
 /* All that the rules say; of a large text, what they say of a refused one. */
-static void see_arpa(const struct slice *before, const struct slice *after, struct answer answer) {
+static void see_arpa(bool to_be_filled, const struct slice *before, const struct slice *after, struct answer answer) {
     if (answer.number != BACKOFF_ACCEPTED)
         require(answer.total == 0 && is_all(after[1], after[1].count, 0) && is_all(after[2], after[2].count, 0),
                 "no rows, and table and store 0, where refused");
     if (before[0].count > SMALL_TEXT)
         return;
     struct slice table = copy_of(before[1]), store = copy_of(before[2]);
-    struct answer ruled = arpa_by_rules(before[0], table, store);
+    struct answer ruled = arpa_by_rules(before[0], to_be_filled, table, store);
     require(answer.number == ruled.number, "the number of an ARPA text");
     require(answer.place == ruled.place, "the place of an ARPA text");
     require(answer.total == ruled.total, "the rows of an ARPA text");
     require(same(after[1], table), "the table of an ARPA text");
     require(same(after[2], store), "the store of an ARPA text");
+}
+
+/* All that the rules say; of a long list, what they say of a refused one. */
+static void see_filling(const struct slice *before, const struct slice *after, struct answer answer) {
+    if (answer.number != BACKOFF_ACCEPTED)
+        require(answer.total == 0 && same(before[1], after[1]), "nothing written where filling is refused");
+    if (before[0].count > SMALL_LIST)
+        return;
+    struct slice filled = copy_of(before[1]);
+    struct answer ruled = filling_by_rules(before[0], filled);
+    require(answer.number == ruled.number && answer.place == ruled.place, "number and place of a filling");
+    require(answer.total == ruled.total, "the rows of a filled list");
+    require(same(after[1], filled), "the filled list");
 }
 
 static bool sizes_fit(struct slice base, struct slice check) {
@@ -448,7 +464,7 @@ static void see_unload(const struct slice *before, const struct slice *after, st
         require(is_all(after[2], 8 * rows, 0) && is_all(after[3], rows, 0), "rows and slots 0 after 12");
 }
 
-static void see(enum call call, bool after_start, const struct slice *before, const struct slice *after,
+static void see(enum call call, bool flag, const struct slice *before, const struct slice *after,
                 struct answer answer) {
     require(answer.number == 0 || (answer.number < NUMBERS && (FORMS[call].numbers >> answer.number & 1)),
             "one of the call's numbers");
@@ -470,10 +486,10 @@ static void see(enum call call, bool after_start, const struct slice *before, co
         see_run(before, after, answer);
         break;
     case PLAIN:
-        see_plain(after_start, before, after, answer);
+        see_plain(flag, before, after, answer);
         break;
     case ARPA:
-        see_arpa(before, after, answer);
+        see_arpa(flag, before, after, answer);
         break;
     case BATCH:
         see_batch(before, after, answer);
@@ -483,6 +499,9 @@ static void see(enum call call, bool after_start, const struct slice *before, co
         break;
     case JOIN:
         see_join(before, answer);
+        break;
+    case FILL:
+        see_filling(before, after, answer);
         break;
     default:
         see_unload(before, after, answer);
@@ -499,7 +518,7 @@ static bool same_answer(struct answer a, struct answer b) {
 /* The call that is made, or was made last. */
 const char *call_name = "";
 
-struct answer ask(enum call call, bool after_start, struct slice *slices) {
+struct answer ask(enum call call, bool flag, struct slice *slices) {
     const struct form *form = &FORMS[call];
     struct slice before[MOST_SLICES];
     struct answer answer = {.number = 0};
@@ -509,14 +528,14 @@ struct answer ask(enum call call, bool after_start, struct slice *slices) {
         struct slice left[MOST_SLICES];
         for (size_t i = 0; i < form->slices; i++)
             left[i] = form->written[i] ? copy_of(before[i]) : before[i];
-        struct answer given = ask_at((enum placement)placement, call, after_start, left);
+        struct answer given = ask_at((enum placement)placement, call, flag, left);
         require(placement == AT_END || same_answer(given, answer), "the same answer in every placement");
         for (size_t i = 0; i < form->slices; i++)
             require(placement == AT_END || same(left[i], slices[i]), "the same slices in every placement");
         answer = given;
         memcpy(slices, left, form->slices * sizeof *slices);
     }
-    see(call, after_start, before, slices, answer);
+    see(call, flag, before, slices, answer);
     met[call][answer.number]++;
     return answer;
 }

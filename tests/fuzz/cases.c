@@ -1,5 +1,5 @@
-/* The cases: lists, built arrays, arrays that no build wrote, lengths, ARPA texts (arpa.c), batches (batch.c) and fragments
- * (fragments.c), with what must hold between calls. */
+/* The cases: lists, built arrays, arrays that no build wrote, lengths, ARPA texts (arpa.c), batches (batch.c), fragments
+ * (fragments.c) and fillings (filling.c), with what must hold between calls. */
 #include "fuzz.h"
 
 /* ---- the calls, with fresh slices to be written */
@@ -354,6 +354,9 @@ static void limit_case(size_t kind) {
     case 5:
         fragment_limit_case();
         break;
+    case 6:
+        filling_limit_case();
+        break;
     default:
         built = build_fitting(table);
         see_split(built, empty_state(), text(table, words));
@@ -363,11 +366,11 @@ static void limit_case(size_t kind) {
 }
 
 /* The limits, each once from this case on; they take long, so a wrong library is mostly caught before. */
-enum { FIRST_LIMIT = 400, LIMITS = 7 };
+enum { FIRST_LIMIT = 400, LIMITS = 8 };
 
 /* The other cases are drawn, those of the limits rarely. */
 void run_case(uint64_t number) {
-    size_t kind = below(1700);
+    size_t kind = below(1900);
     if (number >= FIRST_LIMIT && number < FIRST_LIMIT + LIMITS)
         limit_case((size_t)number - FIRST_LIMIT);
     else if (kind < 1)
@@ -384,6 +387,8 @@ void run_case(uint64_t number) {
         arpa_case();
     else if (kind < 1500)
         batch_case();
-    else
+    else if (kind < 1700)
         fragment_case();
+    else
+        filling_case();
 }

@@ -146,6 +146,16 @@ struct slice accepted_list(void) {
     return table;
 }
 
+/* Numbers of which five in a row add up to a p in range. */
+void soften(struct slice table) {
+    int32_t order = row_of(table, rows_in(table) - 1)[0];
+    for (size_t i = 0; i < rows_in(table); i++) {
+        int32_t *row = ints(table) + BACKOFF_ROW_ITEMS * i;
+        row[6] = between(-200000, -80000);
+        row[7] = row[0] == order || chance(20) ? 0 : between(-190000, 20000);
+    }
+}
+
 /* Words 1, 2, 3 and so on; above the limit the last ones are no words. */
 struct slice longest_list(size_t rows) {
     struct slice table = block(8 * rows, 4);

@@ -21,7 +21,7 @@ static inline uint8_t *bytes_of(struct slice slice) { return (uint8_t *)slice.it
 static inline struct backoff_fragment fragment_in(struct slice slice) { return *(struct backoff_fragment *)slice.items; }
 
 /* The calls, the most slices that one of them takes, and their answers put into one form. */
-enum call { CHECK, BUILD, LOOKUP, START, RUN, PLAIN, UNLOAD, ARPA, BATCH, FRAGMENT, JOIN, CALLS };
+enum call { CHECK, BUILD, LOOKUP, START, RUN, PLAIN, UNLOAD, ARPA, BATCH, FRAGMENT, JOIN, FILL, CALLS };
 
 enum { MOST_SLICES = 6 };
 
@@ -64,6 +64,7 @@ bool chance(size_t percent);
 int32_t extreme(void);
 struct slice rubbish(size_t count, size_t width);
 struct slice accepted_list(void);
+void soften(struct slice table);
 struct slice longest_list(size_t rows);
 void damage_list(struct slice *table);
 struct slice text(struct slice table, size_t count);
@@ -94,7 +95,8 @@ struct found find_row(struct slice table, const uint32_t *words, size_t count);
 struct ruled score_by_rule(struct slice table, bool after_start, struct slice words, size_t word);
 struct slice state_after(struct slice table, bool after_start, struct slice words);
 int compare_rows(const void *a, const void *b);
-struct answer verdict_on(struct slice table);
+bool is_listed(struct slice table, const int32_t *words, int32_t count);
+struct answer verdict_on(struct slice table, bool to_be_filled);
 bool is_head(struct slice base, struct slice check);
 int32_t order_in(struct slice check);
 bool is_state(struct slice state, int32_t order);
@@ -102,12 +104,15 @@ bool is_fragment(struct backoff_fragment fragment, int32_t order);
 bool same_fragment(struct backoff_fragment a, struct backoff_fragment b);
 
 /* What document 02 says of an ARPA text (arpa_rules.c): fills table and store as the call must leave them. */
-struct answer arpa_by_rules(struct slice text, struct slice table, struct slice store);
+struct answer arpa_by_rules(struct slice text, bool to_be_filled, struct slice table, struct slice store);
+
+/* What document 02 says of filling (filling_rules.c): fills the second table as the call must leave it. */
+struct answer filling_by_rules(struct slice table, struct slice filled);
 
 /* A call in every placement, with all that must hold of any call (calls.c). Slices that it writes hold afterwards what it
- * left. */
+ * left. The flag is plain scoring's after_start and the reader's to_be_filled. */
 extern const char *call_name;
-struct answer ask(enum call call, bool after_start, struct slice *slices);
+struct answer ask(enum call call, bool flag, struct slice *slices);
 bool report_calls(enum call call);
 
 /* The calls with fresh slices to be written, of the lengths given (cases.c). */
@@ -137,6 +142,11 @@ void batch_limit_case(void);
 /* Fragments (fragments.c). */
 void fragment_case(void);
 void fragment_limit_case(void);
+
+/* Pruned lists, drawn and filled (filling.c). */
+struct slice pruned_list(void);
+void filling_case(void);
+void filling_limit_case(void);
 
 /* ARPA texts, drawn and read (arpa.c). */
 void arpa_case(void);

@@ -125,8 +125,20 @@ static bool words_fit(const int32_t *row) {
     return true;
 }
 
+bool is_listed(struct slice table, const int32_t *words, int32_t count) {
+    return is_before(table, rows_in(table), words, count);
+}
+
+/* Whether the rows that a row needs are before it. Where filling follows, "8 is kept for an absent row without the last word
+ * and for an absent one-word row". */
+static bool has_shorter(struct slice table, size_t i, bool to_be_filled) {
+    const int32_t *row = row_of(table, i);
+    bool newest = to_be_filled ? is_before(table, i, row + row[0], 1) : is_before(table, i, row + 2, row[0] - 1);
+    return newest && is_before(table, i, row + 1, row[0] - 1);
+}
+
 /* 3 to 8 on one row. */
-static uint32_t row_fault(struct slice table, size_t i) {
+static uint32_t row_fault(struct slice table, size_t i, bool to_be_filled) {
     const int32_t *row = row_of(table, i);
     int32_t order = row_of(table, rows_in(table) - 1)[0];
     if (!in_range(row[0], 1, BACKOFF_ORDER_LIMIT))
@@ -139,26 +151,25 @@ static uint32_t row_fault(struct slice table, size_t i) {
         return BACKOFF_ROW_BACKOFF;
     if (i > 0 && compare_rows(row - BACKOFF_ROW_ITEMS, row) >= 0)
         return BACKOFF_ROW_ORDER;
-    if (row[0] > 1 && !(is_before(table, i, row + 2, row[0] - 1) && is_before(table, i, row + 1, row[0] - 1)))
+    if (row[0] > 1 && !has_shorter(table, i, to_be_filled))
         return BACKOFF_SHORTER_ROW;
     return BACKOFF_ACCEPTED;
 }
 
 /* "1, then row by row 3 to 8, then 9." */
-struct answer verdict_on(struct slice table) {
+struct answer verdict_on(struct slice table, bool to_be_filled) {
     struct answer verdict = {.number = BACKOFF_TABLE_LENGTH};
     size_t rows = rows_in(table);
     if (rows == 0 || table.count % BACKOFF_ROW_ITEMS != 0 || rows > BACKOFF_ROW_LIMIT)
         return verdict;
     for (size_t i = 0; i < rows; i++) {
-        verdict.number = row_fault(table, i);
+        verdict.number = row_fault(table, i, to_be_filled);
         verdict.place = (uint32_t)i + 1;
         if (verdict.number != BACKOFF_ACCEPTED)
             return verdict;
     }
     static const int32_t marks[] = {BACKOFF_UNKNOWN_WORD, BACKOFF_START_WORD, BACKOFF_END_WORD};
-    bool has_marks =
-        is_before(table, rows, &marks[0], 1) && is_before(table, rows, &marks[1], 1) && is_before(table, rows, &marks[2], 1);
+    bool has_marks = is_listed(table, &marks[0], 1) && is_listed(table, &marks[1], 1) && is_listed(table, &marks[2], 1);
     verdict.number = has_marks ? BACKOFF_ACCEPTED : BACKOFF_RESERVED_WORD;
     verdict.place = 0;
     return verdict;

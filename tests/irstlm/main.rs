@@ -1,11 +1,12 @@
 //! Our points and matched lengths against those of irstlm; `tests/irstlm/run` calls this.
 //!
-//! `train` and `unseen` print the two texts, one sentence a line. `compare FOLDER NAME..` reads FOLDER/unseen.txt and, of each list, NAME.arpa and what
+//! `train` and `unseen` print the two texts, one sentence a line. `drop` reads an ARPA file and prints it without some rows of two words. `compare FOLDER NAME..` reads FOLDER/unseen.txt and, of each list, NAME.arpa and what
 //! `compile-lm` printed of the text: NAME.eval by `--eval --debug=2`, with two decimals, and NAME.score by `--score`, with all digits. NAME.form is
 //! NAME.arpa as `tests/irstlm/in-form` prints it, for `backoff_arpa`.
 
 mod arpa;
 mod direct;
+mod dropped;
 mod printed;
 mod texts;
 
@@ -28,6 +29,9 @@ const COUNTS_LINE: u64 = 3;
 /// The refusal of a list in which a shorter row is missing.
 const SHORTER_ROW: u32 = 8;
 
+/// How many rows of a hundred are dropped.
+const DROPPED: usize = 50;
+
 /// Half of the second decimal.
 const TWO_DECIMALS: f64 = 50.0;
 
@@ -36,6 +40,7 @@ fn main() -> ExitCode {
     match &arguments.iter().map(String::as_str).collect::<Vec<_>>()[..] {
         ["train"] => print!("{}", texts::train()),
         ["unseen"] => print!("{}", texts::unseen()),
+        ["drop"] => print!("{}", dropped::drop(&read_to_string("/dev/stdin").expect("an ARPA file"), DROPPED)),
         ["compare", folder, names @ ..] => return compare_all(folder, names),
         _ => return ExitCode::from(2),
     }
@@ -71,6 +76,7 @@ fn compare_all(folder: &str, names: &[&str]) -> ExitCode {
                 refused.0 == SHORTER_ROW && !list.added.is_empty(),
             ),
         }
+        count.compare_filled(name, direct::read_filled(file(&format!("{name}.form")).as_bytes()), &list, &answers);
     }
     println!("{} passed, {} failed", count.passed, count.failed);
     ExitCode::from((count.failed > 0) as u8)
@@ -129,6 +135,22 @@ struct Count {
 }
 
 impl Count {
+    /// The list that was read directly and filled: the same rows are added as by the reader of the tests, and irstlm's points are ours.
+    fn compare_filled(&mut self, name: &str, filled: Result<Arpa, (u32, u64)>, list: &Arpa, answers: &Answers) {
+        match filled {
+            Ok(filled) => {
+                let words = |list: &Arpa| list.rows.iter().map(|row| row.words.clone()).collect::<Vec<_>>();
+                let same = words(&filled) == words(list) && filled.added == list.added && filled.numbers == list.numbers;
+                self.test(
+                    &format!("{name}, filled: {} rows are added to {}", filled.added.len(), list.rows.len() - list.added.len()),
+                    same,
+                );
+                self.compare_list(&format!("{name}, filled"), &filled, answers);
+            }
+            Err(refused) => self.test(&format!("{name}, filled: refused by {refused:?}"), false),
+        }
+    }
+
     /// The list is built and scores the text, beside both of irstlm's answers.
     fn compare_list(&mut self, name: &str, list: &Arpa, answers: &Answers) {
         let words = score(list, &answers.text);

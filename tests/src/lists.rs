@@ -81,6 +81,33 @@ pub fn natural_sentence(random: &mut Random, words: i32) -> Vec<i32> {
     sentence
 }
 
+/// A pruned list: from the longest rows down to those of two words, each that no kept row continues goes in so many cases of a hundred. Rows without the last
+/// word and rows of one word stay, and so does the last row, by which the order is told.
+pub fn pruned(random: &mut Random, rows: &[Row], percent: usize) -> Vec<Row> {
+    let mut kept: Vec<Row> = Vec::new();
+    let mut continued: BTreeSet<Vec<i32>> = BTreeSet::new();
+    for row in rows.iter().rev() {
+        let needed = row.words.len() == 1 || kept.is_empty() || continued.contains(&row.words);
+        if needed || !random.chance(percent) {
+            continued.insert(row.words[..row.words.len() - 1].to_vec());
+            kept.push(row.clone());
+        }
+    }
+    kept.reverse();
+    kept
+}
+
+/// The rows with numbers of which five in a row add up to a p in range.
+pub fn mild(random: &mut Random, rows: &[Row]) -> Vec<Row> {
+    let order = rows.last().map_or(0, |row| row.words.len());
+    let points = |row: &Row| Row {
+        words: row.words.clone(),
+        p: random.between(-200_000, -80_000),
+        b: if row.words.len() == order || random.chance(20) { 0 } else { random.between(-190_000, 20_000) },
+    };
+    rows.iter().map(points).collect()
+}
+
 /// A text over a list: words of its rows, in their order or alone, and words that it may not have.
 pub fn text(random: &mut Random, rows: &[Row], length: usize) -> Vec<u32> {
     let mut words = Vec::new();

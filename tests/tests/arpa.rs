@@ -2,7 +2,7 @@
 
 mod reader;
 
-use reader::{read, verdict, ENOUGH, SAMPLE};
+use reader::{read, read_told, verdict, ENOUGH, SAMPLE};
 use tests::arpa::{bytes, damage_bytes, damage_lines, dense, print, print_varied, replace, shuffle, texts, with_blanks, Arpa};
 use tests::lists::{self, table};
 use tests::random::Random;
@@ -43,6 +43,41 @@ fn sample_is_read() {
         assert_eq!(found.table[..72], table(&lists::sample()));
         assert!(found.table[72..].iter().all(|&number| number == 0) && found.store == store_of(&texts, length));
     }
+}
+
+/// Told that filling follows, a pruned list is read as it is; else the same text is refused by 8. It is not filled, and no p of an added row is tried.
+#[test]
+fn pruned_texts() {
+    let mut random = Random::new(30);
+    let mut met = [0; 2];
+    for i in 0..300 {
+        let small = lists::small(&mut random, 1 + i % 5);
+        let rows = dense(&lists::pruned(&mut random, &small, 40));
+        let words = rows.iter().filter(|row| row.words.len() == 1).count();
+        let texts = texts(&mut random, words);
+        let mut shuffled = rows.clone();
+        shuffle(&mut random, &mut shuffled);
+        shuffled.sort_by_key(|row| (row.words.len(), if row.words.len() == 1 { row.words[0] } else { 0 }));
+        let text = print(&shuffled, &texts).bytes();
+        let found = read_told(&text, true, ENOUGH);
+        assert_eq!(found.answer, Answer { number: 0, rows: rows.len() as u32, place: 0 });
+        assert_eq!(found.table[..8 * rows.len()], table(&rows));
+        let number = read_told(&text, false, ENOUGH).answer.number;
+        assert!(number == 0 || number == 8, "{number}");
+        met[(number == 8) as usize] += 1;
+    }
+    assert!(met[0] > 0 && met[1] > 0, "{met:?}");
+    // A row without its last word stays needed, and so does a one-word row.
+    let without = |words: &str, m: usize| {
+        let lines = SAMPLE.lines().filter(|line| line.split('\t').nth(1) != Some(words));
+        let text: String = lines.map(|line| format!("{line}\n")).collect();
+        let count = table(&lists::sample()).chunks(8).filter(|row| row[0] == m as i32).count();
+        text.replace(&format!("ngram {m}={count}"), &format!("ngram {m}={}", count - 1))
+    };
+    let told = |text: &str, to_be_filled| read_told(text.as_bytes(), to_be_filled, ENOUGH).answer.number;
+    assert_eq!((told(&without("four five", 2), true), told(&without("four five", 2), false)), (0, 8));
+    assert_eq!((told(&without("<s> four", 2), true), told(&without("<s> four", 2), false)), (8, 8));
+    assert_eq!((told(&without("</s>", 1), true), told(&without("</s>", 1), false)), (18, 18));
 }
 
 /// The README's text becomes the rows and texts that it shows, and its line for irstlm's files is the one that the tests use.

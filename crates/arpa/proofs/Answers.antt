@@ -1,5 +1,6 @@
 -- Laws of the answer: from the lines and the list's verdict to the outcome. Assumes nothing.
 use mathlib.Core.Path.{_≡_, refl, sym, ap, ap₂, subst, _∙_}
+use mathlib.Core.Bool.{Bool}
 use mathlib.Core.List.{List, [], _∷_}
 use Prim.Native.Nat.{ℕ}
 use native.Mathlib.Omega.{arith}
@@ -7,7 +8,7 @@ use lib.IntN.{ℤ, pos}
 use lib.ListN.{length, replicate}
 use Rattle.backoff.specs.declared.Verdict.{Verdict}
 use Rattle.backoff.specs.declared.Verdict.the-variants.{Accepted, Refused}
-use Rattle.list.specs.Check.{verdict}
+use Rattle.list.specs.Check.{verdictFor}
 use Rattle.arpa_text.specs.Parts.{parts}
 use Rattle.arpa.specs.Words.{recordsOf, storeWith}
 use Rattle.arpa.specs.Reading.{Reading, begun, Lines, done, stopped, readLines}
@@ -21,8 +22,8 @@ use Rattle.arpa.proofs.Stores.{zeroed-length}
 not-read : (rows number place : ℕ) → NotRead number place ≡ Read rows → ⊥
 not-read rows number place e = let z : _≡_ {A = ℕ} 0 1 = cc in omega arith
 
-module _ (room size : ℕ) (t : List ℤ) (s : List ℕ) (e : Ending) where
-  pub concluded-refused : (l : Lines) → LinesHeld room size t s l e → (e .fault ≡ 0 → ⊥) → Concluded room size t s l (NotRead (e .fault) (e .place))
+module _ (filling : Bool) (room size : ℕ) (t : List ℤ) (s : List ℕ) (e : Ending) where
+  pub concluded-refused : (l : Lines) → LinesHeld room size t s l e → (e .fault ≡ 0 → ⊥) → Concluded filling room size t s l (NotRead (e .fault) (e .place))
   unfolding refusedOutcome
   concluded-refused (done a) h n = absurd (n (h .0))
   concluded-refused (stopped number place) h n = record {
@@ -36,11 +37,11 @@ module _ (room size : ℕ) (t : List ℤ) (s : List ℕ) (e : Ending) where
   lines-done (done a) h z = (a, refl, h .2, h .3)
   lines-done (stopped number place) h z = let f = h .0 in let l = h .1 in absurd (omega arith)
 
-  module _ (t′ : List ℤ) (v : Verdict) (j : (a : Reading) → EndHeld t (e .rows) (e .ones) (e .words) a → Judged t′ a v room) where
-    pub concluded-read : (l : Lines) → LinesHeld room size t s l e → e .fault ≡ 0 → v ≡ Accepted → Concluded room size t′ s l (Read (e .rows))
+  module _ (t′ : List ℤ) (v : Verdict) (j : (a : Reading) → EndHeld t (e .rows) (e .ones) (e .words) a → Judged filling t′ a v room) where
+    pub concluded-read : (l : Lines) → LinesHeld room size t s l e → e .fault ≡ 0 → v ≡ Accepted → Concluded filling room size t′ s l (Read (e .rows))
     concluded-read (done a) h z f =
         let d = j a (h .3) in
-        let x : verdict (ordered a) ≡ Accepted = sym (d .verdict-is) ∙ f in
+        let x : verdictFor filling (ordered a) ≡ Accepted = sym (d .verdict-is) ∙ f in
         record {
           answer = rw x (ap Read (h .3 .count));
           long = d .long;
@@ -49,11 +50,11 @@ module _ (room size : ℕ) (t : List ℤ) (s : List ℕ) (e : Ending) where
         }
     concluded-read (stopped number place) h z f = let g = h .0 in let l = h .1 in absurd (omega arith)
 
-    pub concluded-judged : (l : Lines) → LinesHeld room size t s l e → e .fault ≡ 0 → (number place : ℕ) → v ≡ Refused number place → Concluded room size t′ s l (NotRead number place)
+    pub concluded-judged : (l : Lines) → LinesHeld room size t s l e → e .fault ≡ 0 → (number place : ℕ) → v ≡ Refused number place → Concluded filling room size t′ s l (NotRead number place)
     unfolding refusedOutcome
     concluded-judged (done a) h z number place f =
         let d = j a (h .3) in
-        let x : verdict (ordered a) ≡ Refused number place = sym (d .verdict-is) ∙ f in
+        let x : verdictFor filling (ordered a) ≡ Refused number place = sym (d .verdict-is) ∙ f in
         record {
           answer = rw x refl;
           long = d .long;
@@ -82,22 +83,22 @@ lines-sized m n room size t s e pieces f g h =
     subst (λ (k : ℕ). LinesHeld room k t s (readLines room k begun 1 pieces) e) g (subst (λ (k : ℕ). LinesHeld k n t s (readLines k n begun 1 pieces) e) f h)
 
 -- ---- what a call leaves
-outcome-refused : (room size : ℕ) (l : Lines) (number place : ℕ) → linesOutcome room size l .answer ≡ NotRead number place → (linesOutcome room size l .table ≡ replicate room (pos 0)) × (linesOutcome room size l .store ≡ replicate size 0)
+outcome-refused : (filling : Bool) (room size : ℕ) (l : Lines) (number place : ℕ) → linesOutcome filling room size l .answer ≡ NotRead number place → (linesOutcome filling room size l .table ≡ replicate room (pos 0)) × (linesOutcome filling room size l .store ≡ replicate size 0)
 unfolding refusedOutcome
-outcome-refused room size (stopped n k) number place e = (refl, refl)
-outcome-refused room size (done a) number place e = go (verdict (ordered a)) e
+outcome-refused filling room size (stopped n k) number place e = (refl, refl)
+outcome-refused filling room size (done a) number place e = go (verdictFor filling (ordered a)) e
   where
     go : (v : Verdict) → judged room size a v .answer ≡ NotRead number place → (judged room size a v .table ≡ replicate room (pos 0)) × (judged room size a v .store ≡ replicate size 0)
     go Accepted e = absurd (not-read (length (a .rows)) number place (sym e))
     go (Refused n k) e = (refl, refl)
 
-module _ (room size : ℕ) (text : List ℕ) (t : List ℤ) (s : List ℕ) (r : Rows) (c : Concluded room size t s (readLines room size begun 1 (parts 10 text)) r) where
-  pub leaves-refused : (number place : ℕ) → r ≡ NotRead number place → (u : List ℤ) (v : List ℕ) → u ≡ replicate room (pos 0) → v ≡ replicate size 0 → Leaves (readArpa room size text) r u v
+module _ (filling : Bool) (room size : ℕ) (text : List ℕ) (t : List ℤ) (s : List ℕ) (r : Rows) (c : Concluded filling room size t s (readLines room size begun 1 (parts 10 text)) r) where
+  pub leaves-refused : (number place : ℕ) → r ≡ NotRead number place → (u : List ℤ) (v : List ℕ) → u ≡ replicate room (pos 0) → v ≡ replicate size 0 → Leaves (readArpa filling room size text) r u v
   unfolding readArpa
   leaves-refused number place e u v f g =
-      let o = outcome-refused room size (readLines room size begun 1 (parts 10 text)) number place (sym (c .answer) ∙ e) in
+      let o = outcome-refused filling room size (readLines room size begun 1 (parts 10 text)) number place (sym (c .answer) ∙ e) in
       record { answer-is = c .answer; table-is = f ∙ sym (o .0); store-is = g ∙ sym (o .1) }
 
-  pub leaves-read : (rows : ℕ) → r ≡ Read rows → Leaves (readArpa room size text) r t s
+  pub leaves-read : (rows : ℕ) → r ≡ Read rows → Leaves (readArpa filling room size text) r t s
   unfolding readArpa
   leaves-read rows e = record { answer-is = c .answer; table-is = c .table rows e; store-is = c .store rows e }

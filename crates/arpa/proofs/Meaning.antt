@@ -1,7 +1,7 @@
 -- What an accepted reading means: `reads-the-lines`, and for every answer `read-means`. Assumes nothing.
 use mathlib.Core.Path.{_≡_, refl, sym, ap, ap₂, _∙_, subst}
 use mathlib.Core.Logic.{_↔_, ⊎-elim}
-use mathlib.Core.Bool.{true, _&&_}
+use mathlib.Core.Bool.{Bool, true, false, _&&_}
 use mathlib.Core.List.{List, [], _∷_, _++_, map, List·Memᴰ, List·Memᴰ·head, Memᴰ·of-map}
 use Prim.Native.Nat.{ℕ, zero, suc, _+_, _*_, _-_, _/_, _<_, _≤_}
 use native.Mathlib.Omega.{arith}
@@ -20,11 +20,11 @@ use Rattle.backoff.specs.declared.Verdict.{Verdict}
 use Rattle.backoff.specs.declared.Verdict.the-variants.{Accepted, Refused}
 use Rattle.list.specs.Table.{rowsOf, words}
 use Rattle.list.specs.Search.{findIn, isAt}
-use Rattle.list.specs.Check.{reservedListed, verdict, orElse}
+use Rattle.list.specs.Check.{reservedListed, verdictFor, orElse}
 use Rattle.list.specs.ListModel.{modelOf}
 use Rattle.list.specs.declared.Found.{Found}
 use Rattle.list.proofs.Search.{found-words, is-at}
-use Rattle.list.proofs.Check.{accepted-reserved, accepted-refused, number-accepted}
+use Rattle.list.proofs.Check.{checked-reserved, accepted-refused, checked-number}
 use Rattle.list.proofs.ListModel.{accepted-model}
 use Rattle.row_order.specs.RowOrder.{rowAt, joined, sortBy, rowBefore}
 use Rattle.row_order.proofs.Tags.{alone-words}
@@ -88,7 +88,7 @@ texts-split s k (suc a) b =
     rw (e, f) (ap (λ (us : List (List ℕ)). textOf s k ∷ us) (texts-split s (suc k) a b))
 
 -- ---- an accepted reading
-module _ (room size : ℕ) (r : Reading) (sound : Sound room size r) (lines : List (List ℕ)) (brings : Brings begun r lines) (accepted : verdict (ordered r) ≡ Accepted) where
+module _ (room size : ℕ) (r : Reading) (sound : Sound room size r) (lines : List (List ℕ)) (brings : Brings begun r lines) (filling : Bool) (accepted : verdictFor filling (ordered r) ≡ Accepted) where
   abbrev news : List (List ℕ)
   news = newTexts [] (wordTexts lines)
 
@@ -172,12 +172,12 @@ module _ (room size : ℕ) (r : Reading) (sound : Sound room size r) (lines : Li
   both-listed : (isAt (findIn (ordered r) (unknownWord ∷ [])) && isAt (findIn (ordered r) (startWord ∷ []))) ≡ true
   unfolding reservedListed
   both-listed =
-      and-left (isAt (findIn (ordered r) (unknownWord ∷ [])) && isAt (findIn (ordered r) (startWord ∷ []))) (isAt (findIn (ordered r) (endWord ∷ []))) (accepted-reserved (ordered r) accepted)
+      and-left (isAt (findIn (ordered r) (unknownWord ∷ [])) && isAt (findIn (ordered r) (startWord ∷ []))) (isAt (findIn (ordered r) (endWord ∷ []))) (checked-reserved filling (ordered r) accepted)
 
   end-listed : isAt (findIn (ordered r) (endWord ∷ [])) ≡ true
   unfolding reservedListed
   end-listed =
-      and-right (isAt (findIn (ordered r) (unknownWord ∷ [])) && isAt (findIn (ordered r) (startWord ∷ []))) (isAt (findIn (ordered r) (endWord ∷ []))) (accepted-reserved (ordered r) accepted)
+      and-right (isAt (findIn (ordered r) (unknownWord ∷ [])) && isAt (findIn (ordered r) (startWord ∷ []))) (isAt (findIn (ordered r) (endWord ∷ []))) (checked-reserved filling (ordered r) accepted)
 
   unknown-met : getD (r .texts) 0 [] ≡ unknownText
   unfolding reservedNumber sameWords
@@ -331,53 +331,53 @@ module _ (room size : ℕ) (r : Reading) (sound : Sound room size r) (lines : Li
       omega arith
 
 -- ---- what every answer means
-module _ (room size : ℕ) (text : List ℕ) where
-  accepted-means : (r : Reading) → Sound room size r → Brings begun r (rowLines (parts 10 text)) → verdict (ordered r) ≡ Accepted
-      → ReadsTheLines text (length (r .rows)) (padded room (ordered r)) (storeWith size (r .texts)) × AcceptedModel (modelOf (take (8 * length (r .rows)) (padded room (ordered r))))
+module _ (filling : Bool) (room size : ℕ) (text : List ℕ) where
+  accepted-means : (r : Reading) → Sound room size r → Brings begun r (rowLines (parts 10 text)) → verdictFor filling (ordered r) ≡ Accepted
+      → ReadsTheLines filling text (length (r .rows)) (padded room (ordered r)) (storeWith size (r .texts)) × (filling ≡ false → AcceptedModel (modelOf (take (8 * length (r .rows)) (padded room (ordered r)))))
   unfolding reservedNumber sameWords isText allAbove
   accepted-means r sound brings accepted =
       let lines = rowLines (parts 10 text) in
-      let front = table-front room size r sound lines brings accepted in
-      let listed : verdict (take (8 * length (r .rows)) (padded room (ordered r))) ≡ Accepted = ap verdict front ∙ accepted in (
+      let front = table-front room size r sound lines brings filling accepted in
+      let listed : verdictFor filling (take (8 * length (r .rows)) (padded room (ordered r))) ≡ Accepted = ap (verdictFor filling) front ∙ accepted in (
         record {
           in-form = brings .said;
-          count = row-count room size r sound lines brings accepted;
-          listed = listed-table room size r sound lines brings accepted;
-          stored = ap₂ storeWith (sym (store-long room size r sound lines brings accepted)) (texts-met room size r sound lines brings accepted);
-          unknown = reserved-stored room size r sound lines brings accepted 0 unknownText (lit< tt) refl refl (unknown-met room size r sound lines brings accepted);
-          start = reserved-stored room size r sound lines brings accepted 1 startText (lit< tt) refl refl (start-met room size r sound lines brings accepted);
-          end = reserved-stored room size r sound lines brings accepted 2 endText (lit< tt) refl refl (end-met room size r sound lines brings accepted);
-          others = new-stored room size r sound lines brings accepted;
-          same = same-text room size r sound lines brings accepted;
-          known = known-stored room size r sound lines brings accepted;
+          count = row-count room size r sound lines brings filling accepted;
+          listed = listed-table room size r sound lines brings filling accepted;
+          stored = ap₂ storeWith (sym (store-long room size r sound lines brings filling accepted)) (texts-met room size r sound lines brings filling accepted);
+          unknown = reserved-stored room size r sound lines brings filling accepted 0 unknownText (lit< tt) refl refl (unknown-met room size r sound lines brings filling accepted);
+          start = reserved-stored room size r sound lines brings filling accepted 1 startText (lit< tt) refl refl (start-met room size r sound lines brings filling accepted);
+          end = reserved-stored room size r sound lines brings filling accepted 2 endText (lit< tt) refl refl (end-met room size r sound lines brings filling accepted);
+          others = new-stored room size r sound lines brings filling accepted;
+          same = same-text room size r sound lines brings filling accepted;
+          known = known-stored room size r sound lines brings filling accepted;
           accepted = listed;
         },
-        accepted-model (take (8 * length (r .rows)) (padded room (ordered r))) listed,
+        λ z. accepted-model (take (8 * length (r .rows)) (padded room (ordered r))) (rw z at listed),
       )
 
-  judged-means : (r : Reading) → Sound room size r → Brings begun r (rowLines (parts 10 text)) → (v : Verdict) → verdict (ordered r) ≡ v
-      → ReadMeans text (numberOf (judged room size r v .answer)) (rowCount (judged room size r v .answer)) (judged room size r v .table) (judged room size r v .store)
+  judged-means : (r : Reading) → Sound room size r → Brings begun r (rowLines (parts 10 text)) → (v : Verdict) → verdictFor filling (ordered r) ≡ v
+      → ReadMeans filling text (numberOf (judged room size r v .answer)) (rowCount (judged room size r v .answer)) (judged room size r v .table) (judged room size r v .store)
   unfolding refusedOutcome
   judged-means r sound brings Accepted e =
       let m = accepted-means r sound brings e in
       record { lines = λ z. m .0; model = λ z. m .1 }
   judged-means r sound brings (Refused number place) e =
-      let never : number ≡ 0 → ⊥ = λ z. accepted-refused _ _ (sym e ∙ number-accepted (ordered r) (ap verdictNumber e ∙ z)) in
+      let never : number ≡ 0 → ⊥ = λ z. accepted-refused _ _ (sym e ∙ checked-number filling (ordered r) (ap verdictNumber e ∙ z)) in
       record { lines = λ z. absurd (never z); model = λ z. absurd (never z) }
 
   lines-mean : (l : Lines) → LinesBring room size begun (parts 10 text) l → LinesNumbered l
-      → ReadMeans text (numberOf (linesOutcome room size l .answer)) (rowCount (linesOutcome room size l .answer)) (linesOutcome room size l .table) (linesOutcome room size l .store)
+      → ReadMeans filling text (numberOf (linesOutcome filling room size l .answer)) (rowCount (linesOutcome filling room size l .answer)) (linesOutcome filling room size l .table) (linesOutcome filling room size l .store)
   unfolding refusedOutcome
-  lines-mean (done r) w n = judged-means r (w .0) (w .1) (verdict (ordered r)) refl
+  lines-mean (done r) w n = judged-means r (w .0) (w .1) (verdictFor filling (ordered r)) refl
   lines-mean (stopped number place) w n = record { lines = λ z. absurd (omega arith); model = λ z. absurd (omega arith) }
 
-  outcome-means : ReadMeans text (numberOf (readArpa room size text .answer)) (rowCount (readArpa room size text .answer)) (readArpa room size text .table) (readArpa room size text .store)
+  outcome-means : ReadMeans filling text (numberOf (readArpa filling room size text .answer)) (rowCount (readArpa filling room size text .answer)) (readArpa filling room size text .table) (readArpa filling room size text .store)
   unfolding readArpa
   outcome-means = lines-mean (readLines room size begun 1 (parts 10 text)) (lines-read room size begun 1 (parts 10 text) (begun-sound room size)) (lines-numbered room size begun 1 (parts 10 text))
 
   -- whatever a call leaves
-  pub read-means : (answer : Rows) (table : List ℤ) (store : List ℕ) → Leaves (readArpa room size text) answer table store → ReadMeans text (numberOf answer) (rowCount answer) table store
+  pub read-means : (answer : Rows) (table : List ℤ) (store : List ℕ) → Leaves (readArpa filling room size text) answer table store → ReadMeans filling text (numberOf answer) (rowCount answer) table store
   read-means answer table store x = rw (x .answer-is, x .table-is, x .store-is) outcome-means
 
-  pub reads-the-lines : (rows : ℕ) (table : List ℤ) (store : List ℕ) → Leaves (readArpa room size text) (Read rows) table store → ReadsTheLines text rows table store
+  pub reads-the-lines : (rows : ℕ) (table : List ℤ) (store : List ℕ) → Leaves (readArpa filling room size text) (Read rows) table store → ReadsTheLines filling text rows table store
   reads-the-lines rows table store x = read-means (Read rows) table store x .lines refl

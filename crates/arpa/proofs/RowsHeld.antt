@@ -18,7 +18,7 @@ use Rattle.backoff.proofs.NineNumbers.{length-padded}
 use Rattle.backoff.specs.Refusal.{tableLength}
 use Rattle.backoff.specs.declared.Verdict.the-variants.{Refused}
 use Rattle.list.specs.Table.{rowsOf, field, lengthOf}
-use Rattle.list.specs.Check.{tableFits, placeFits, placesFit, verdict}
+use Rattle.list.specs.Check.{tableFits, placeFits, placesFit, verdictFor}
 use Rattle.list.specs.Good.{GoodRow}
 use Rattle.list.proofs.Check.{fitting-table, verdict-refused}
 use Rattle.row_order.specs.RowOrder.{rowAt, rowsAt, joined, insertBy, sortBy, rowBefore, listOrder}
@@ -252,9 +252,9 @@ module _ (t : List ℤ) (rows words : ℕ) (a : Reading) (count : rows ≡ lengt
       let l = ordered-length in
       ap (take (8 * rows)) (padded-zeros (length t) (ordered a) (omega arith)) ∙ take-at (ordered a) (replicate (length t - length (ordered a)) (pos 0)) (8 * rows) l
 
-  pub too-many : rowLimit < rows → verdict (ordered a) ≡ Refused tableLength 0
-  too-many l = go (tableFits (length (ordered a))) refl
+  pub too-many : (filling : Bool) → rowLimit < rows → verdictFor filling (ordered a) ≡ Refused tableLength 0
+  too-many filling l = go (tableFits (length (ordered a))) refl
     where
-      go : (b : Bool) → tableFits (length (ordered a)) ≡ b → verdict (ordered a) ≡ Refused tableLength 0
+      go : (b : Bool) → tableFits (length (ordered a)) ≡ b → verdictFor filling (ordered a) ≡ Refused tableLength 0
       go true e = let f = fitting-table (length (ordered a)) e in let m = ordered-length in let h = f .1 in absurd (omega arith)
-      go false e = verdict-refused (ordered a) e
+      go false e = verdict-refused filling (ordered a) e

@@ -1,7 +1,7 @@
 -- How the code holds a reading in the lent table and store. Only contracts of inner functions cite what is here. Assumes nothing.
 use mathlib.Core.Path.{_≡_}
 use mathlib.Core.Logic.{_⊎_}
-use mathlib.Core.Bool.{true, cond}
+use mathlib.Core.Bool.{Bool, true, cond}
 use mathlib.Core.List.{List, [], _∷_, _++_, map, List·Memᴰ}
 use Prim.Native.Nat.{ℕ, suc, _+_, _*_, _-_, _<_, _≤_, min, max}
 use lib.Dec.{leb}
@@ -13,7 +13,7 @@ use Rattle.backoff.specs.NineNumbers.{padded}
 use Rattle.backoff.specs.declared.Verdict.{Verdict}
 use Rattle.backoff.specs.declared.Verdict.the-variants.{Accepted}
 use Rattle.list.specs.Table.{field}
-use Rattle.list.specs.Check.{orElse, verdict}
+use Rattle.list.specs.Check.{orElse, verdictFor}
 use Rattle.row_order.specs.RowOrder.{joined, SortableFront}
 use Rattle.row_order.specs.Sorting.{AllNumbered}
 use Rattle.word_index.specs.Texts.{textsFrom, recorded}
@@ -198,15 +198,15 @@ pub record Ordering (t : List ℤ) (rows words : ℕ) : Type 0 where
   pub words-fit : words ≤ 65536 → SortableFront t rows
   pub numbered : AllNumbered t rows
 
-pub record Judged (t : List ℤ) (a : Reading) (v : Verdict) (room : ℕ) : Type 0 where
-  pub verdict-is : v ≡ verdict (ordered a)
+pub record Judged (filling : Bool) (t : List ℤ) (a : Reading) (v : Verdict) (room : ℕ) : Type 0 where
+  pub verdict-is : v ≡ verdictFor filling (ordered a)
   pub long : length t ≡ room
   pub table : v ≡ Accepted → t ≡ padded room (ordered a)
   pub few : v ≡ Accepted → length (a .rows) ≤ rowLimit
 
 -- the answer is that of the outcome, and where it is accepted table and store are too
-pub record Concluded (room size : ℕ) (t : List ℤ) (s : List ℕ) (l : Lines) (r : Rows) : Type 0 where
-  pub answer : r ≡ linesOutcome room size l .answer
+pub record Concluded (filling : Bool) (room size : ℕ) (t : List ℤ) (s : List ℕ) (l : Lines) (r : Rows) : Type 0 where
+  pub answer : r ≡ linesOutcome filling room size l .answer
   pub long : length t ≡ room
-  pub table : (rows : ℕ) → r ≡ Read rows → t ≡ linesOutcome room size l .table
-  pub store : (rows : ℕ) → r ≡ Read rows → s ≡ linesOutcome room size l .store
+  pub table : (rows : ℕ) → r ≡ Read rows → t ≡ linesOutcome filling room size l .table
+  pub store : (rows : ℕ) → r ≡ Read rows → s ≡ linesOutcome filling room size l .store

@@ -1,7 +1,7 @@
 -- What an accepted reading means, told without the reading's steps: as `reads-the-lines` states it. Assumes nothing.
 use mathlib.Core.Path.{_≡_}
 use mathlib.Core.Logic.{_↔_}
-use mathlib.Core.Bool.{cond, _&&_}
+use mathlib.Core.Bool.{Bool, false, cond, _&&_}
 use mathlib.Core.List.{List, [], _∷_, _++_, map, List·Memᴰ}
 use mathlib.Core.Option.{Option, none, some}
 use Prim.Native.Nat.{ℕ, _+_, _*_, _-_, _/_, _<_}
@@ -12,7 +12,7 @@ use Rattle.backoff.specs.Limits.{unknownWord, startWord, endWord}
 use Rattle.backoff.specs.Model.{AcceptedModel}
 use Rattle.backoff.specs.NineNumbers.{padded}
 use Rattle.backoff.specs.declared.Verdict.the-variants.{Accepted}
-use Rattle.list.specs.Check.{verdict}
+use Rattle.list.specs.Check.{verdictFor}
 use Rattle.list.specs.ListModel.{modelOf}
 use Rattle.row_order.specs.RowOrder.{sortBy, rowBefore, joined}
 use Rattle.word_index.specs.Texts.{textsFrom}
@@ -65,7 +65,7 @@ unfoldable pub numberStored : List ℕ → List ℕ → ℕ
 numberStored store text = numberMet (textsFrom store 1 (length store / 64 - 1)) text
 
 -- an accepted call over a text: its row count, and the table and store that it left
-pub record ReadsTheLines (text : List ℕ) (rows : ℕ) (table : List ℤ) (store : List ℕ) : Type 0 where
+pub record ReadsTheLines (filling : Bool) (text : List ℕ) (rows : ℕ) (table : List ℤ) (store : List ℕ) : Type 0 where
   -- the rows are exactly the lines' rows, no more and no fewer, each with its words' numbers, its p and its b, in list order
   pub in-form : (line : List ℕ) → List·Memᴰ line (rowLines (parts 10 text)) → (l : Listed) × (readRow (wordCount line) line ≡ some l)
   pub count : rows ≡ length (rowLines (parts 10 text))
@@ -80,10 +80,10 @@ pub record ReadsTheLines (text : List ℕ) (rows : ℕ) (table : List ℤ) (stor
   pub same : (u v : List ℕ) → 0 < numberStored store u → 0 < numberStored store v → (numberStored store u ≡ numberStored store v) ↔ (u ≡ v)
   -- each text of a row has a number
   pub known : (line : List ℕ) → List·Memᴰ line (rowLines (parts 10 text)) → (u : List ℕ) → List·Memᴰ u (lineTexts line) → 0 < numberStored store u
-  -- the rows are an accepted list: build accepts it, or says 10
-  pub accepted : verdict (take (8 * rows) table) ≡ Accepted
+  -- the rows are an accepted list, as it is or to be filled: build accepts it or says 10, or filling accepts it or says 5, 1 or 15
+  pub accepted : verdictFor filling (take (8 * rows) table) ≡ Accepted
 
--- what an answer means: its number 0 says that the lines are read, and that the rows are a back-off model
-pub record ReadMeans (text : List ℕ) (number rows : ℕ) (table : List ℤ) (store : List ℕ) : Type 0 where
-  pub lines : number ≡ 0 → ReadsTheLines text rows table store
-  pub model : number ≡ 0 → AcceptedModel (modelOf (take (8 * rows) table))
+-- what an answer means: its number 0 says that the lines are read, and that the rows are a back-off model if they are not to be filled
+pub record ReadMeans (filling : Bool) (text : List ℕ) (number rows : ℕ) (table : List ℤ) (store : List ℕ) : Type 0 where
+  pub lines : number ≡ 0 → ReadsTheLines filling text rows table store
+  pub model : number ≡ 0 → filling ≡ false → AcceptedModel (modelOf (take (8 * rows) table))

@@ -1,5 +1,6 @@
 -- What the reading of an ARPA text answers, and the lent table and store at exit. Assumes nothing.
 use mathlib.Core.Path.{_≡_}
+use mathlib.Core.Bool.{Bool}
 use mathlib.Core.List.{List}
 use Prim.Native.Nat.{ℕ}
 use lib.IntN.{ℤ, pos}
@@ -7,7 +8,7 @@ use lib.ListN.{length, replicate}
 use Rattle.backoff.specs.NineNumbers.{padded}
 use Rattle.backoff.specs.declared.Verdict.{Verdict}
 use Rattle.backoff.specs.declared.Verdict.the-variants.{Accepted, Refused}
-use Rattle.list.specs.Check.{verdict}
+use Rattle.list.specs.Check.{verdictFor}
 use Rattle.row_order.specs.RowOrder.{joined, listOrder}
 use Rattle.arpa_text.specs.Parts.{parts}
 use Rattle.arpa.specs.Words.{storeWith}
@@ -46,13 +47,14 @@ abbrev pub judged : ℕ → ℕ → Reading → Verdict → Outcome
 judged room size r Accepted = record { answer = Read (length (r .rows)); table = padded room (ordered r); store = storeWith size (r .texts) }
 judged room size r (Refused number place) = refusedOutcome room size number place
 
-abbrev pub linesOutcome : ℕ → ℕ → Lines → Outcome
-linesOutcome room size (done r) = judged room size r (verdict (ordered r))
-linesOutcome room size (stopped number place) = refusedOutcome room size number place
+-- where `filling` says whether the list is to be filled: "The ARPA reader, told that filling follows, does so too", it keeps 8 for the two cases of request T-07
+abbrev pub linesOutcome : Bool → ℕ → ℕ → Lines → Outcome
+linesOutcome filling room size (done r) = judged room size r (verdictFor filling (ordered r))
+linesOutcome filling room size (stopped number place) = refusedOutcome room size number place
 
 -- the whole text, a lent table of `room` numbers and a lent store of `size` bytes
-unfoldable pub readArpa : ℕ → ℕ → List ℕ → Outcome
-readArpa room size text = linesOutcome room size (readLines room size begun 1 (parts 10 text))
+unfoldable pub readArpa : Bool → ℕ → ℕ → List ℕ → Outcome
+readArpa filling room size text = linesOutcome filling room size (readLines room size begun 1 (parts 10 text))
 
 -- what a call leaves
 pub record Leaves (o : Outcome) (answer : Rows) (table : List ℤ) (store : List ℕ) : Type 0 where

@@ -586,9 +586,9 @@ fn order_rows(table: &mut [i32], rows: usize, words: usize)
 }
 
 // The list checks over the rows in list order.
-fn judge(table: &mut [i32], rows: usize, ones: usize, words: usize) -> Verdict
+fn judge(table: &mut [i32], rows: usize, ones: usize, words: usize, filling: bool) -> Verdict
     requires { ⌜ ((a : Reading) × EndHeld (now table) rows ones words a) ⌝ }
-    ensures { λ r. ⌜ ((a : Reading) → EndHeld (now (table .entry)) rows ones words a → Judged (now (table .exit)) a r (length (now (table .entry)))) ⌝ }
+    ensures { λ r. ⌜ ((a : Reading) → EndHeld (now (table .entry)) rows ones words a → Judged filling (now (table .exit)) a r (length (now (table .entry)))) ⌝ }
 {
     if ROW_LIMIT < rows {
         return Verdict::Refused {
@@ -599,13 +599,13 @@ fn judge(table: &mut [i32], rows: usize, ones: usize, words: usize) -> Verdict
     word_index::clear_index(table, ones);
     order_rows(table, rows, words);
     let end = 8 * rows;
-    list::check_list(&table[..end])
+    list::check_for(&table[..end], filling)
 }
 
 // The answer once the lines have ended.
-fn conclude(table: &mut [i32], e: Ending) -> Rows
+fn conclude(table: &mut [i32], e: Ending, filling: bool) -> Rows
     requires { ⌜ ((l : Lines) × ((size : ℕ) × ((s : List ℕ) × LinesHeld (length (now table)) size (now table) s l e))) ⌝ }
-    ensures { λ r. ⌜ ((l : Lines) (size : ℕ) (s : List ℕ) → LinesHeld (length (now (table .entry))) size (now (table .entry)) s l e → Concluded (length (now (table .entry))) size (now (table .exit)) s l r) ⌝ }
+    ensures { λ r. ⌜ ((l : Lines) (size : ℕ) (s : List ℕ) → LinesHeld (length (now (table .entry))) size (now (table .entry)) s l e → Concluded filling (length (now (table .entry))) size (now (table .exit)) s l r) ⌝ }
 {
     if e.fault != 0 {
         return Rows::Refused {
@@ -613,7 +613,7 @@ fn conclude(table: &mut [i32], e: Ending) -> Rows
             place: e.place,
         };
     }
-    match judge(table, e.rows, e.ones, e.words) {
+    match judge(table, e.rows, e.ones, e.words, filling) {
         Verdict::Accepted => Rows::Read {
             rows: e.rows as u32,
         },
@@ -624,15 +624,15 @@ fn conclude(table: &mut [i32], e: Ending) -> Rows
     }
 }
 
-// Reads an ARPA text. Accepted, the table has the rows in list order and the store the words' texts, both with 0 behind them; refused, both are 0.
-pub fn read_arpa(text: &[u8], table: &mut [i32], store: &mut [u8]) -> Rows
-    ensures outcome { λ r. ⌜ Leaves (readArpa (length (now (table .entry))) (length (now (store .entry))) (now (text .entry))) r (now (table .exit)) (now (store .exit)) ⌝ }
-    ensures meaning { λ r. ⌜ ReadMeans (now (text .entry)) (refusalOf r) (rowCount r) (now (table .exit)) (now (store .exit)) ⌝ }
+// Reads an ARPA text, whose list is taken as it is or to be filled. Accepted, the table has the rows in list order and the store the words' texts, both with 0 behind them; refused, both are 0.
+pub fn read_arpa(text: &[u8], filling: bool, table: &mut [i32], store: &mut [u8]) -> Rows
+    ensures outcome { λ r. ⌜ Leaves (readArpa filling (length (now (table .entry))) (length (now (store .entry))) (now (text .entry))) r (now (table .exit)) (now (store .exit)) ⌝ }
+    ensures meaning { λ r. ⌜ ReadMeans filling (now (text .entry)) (refusalOf r) (rowCount r) (now (table .exit)) (now (store .exit)) ⌝ }
 {
     double_array::fill(table, 0);
     zero_bytes(store);
     let ending = read_lines(text, table, store);
-    let answer = conclude(table, ending);
+    let answer = conclude(table, ending, filling);
     if let Rows::Refused { .. } = answer {
         double_array::fill(table, 0);
         zero_bytes(store);

@@ -21,7 +21,7 @@ use Rattle.backoff.proofs.Words.{same-refl}
 use Rattle.list.specs.Table.{rowsOf, lengthOf, orderOf, words, probabilityAt, backoffAt}
 use Rattle.list.specs.Check.{verdict}
 use Rattle.list.proofs.Table.{row-in, length-limit, words-length}
-use Rattle.list.proofs.Order.{precedes-length}
+use Rattle.list.proofs.Good.{lengths-ascend}
 use Rattle.list.proofs.Check.{accepted-row, accepted-good, accepted-size, backoff-in}
 use Rattle.row_order.specs.RowOrder.{rowAt, rowsAt, listOrder}
 use Rattle.row_order.proofs.Rows.{joined-all}
@@ -349,27 +349,16 @@ module _ (texts : List (List ℕ)) (t : List ℤ) (room size : ℕ) (is : Printa
 
   -- ---- the whole text
 
-  lengths-ascend : (j l : ℕ) → j ≤ l → l < rowsOf t → lengthOf t j ≤ lengthOf t l
-  lengths-ascend j l a b =
-      ⊎-elim
-      (λ c.
-      let d = precedes-length (words t j) (words t l) (accepted-good t (is .accepted) .ascend j l c b) in
-      let e = words-length t j (row-in t j (omega arith)) in
-      let f = words-length t l (row-in t l b) in
-      omega arith)
-      (λ (c : l ≤ j). let e : j ≡ l = omega arith in rw e (omega arith))
-      (lt-or-ge j l)
-
   some-rows : 0 < rowsOf t
   some-rows = accepted-size t (is .accepted) .0
 
   length-range : (j : ℕ) → j < rowsOf t → (1 ≤ lengthOf t j) × (lengthOf t j ≤ orderOf t)
   unfolding orderOf
-  length-range j l = let s = some-rows in (accepted-good t (is .accepted) .row j l .some, lengths-ascend j (rowsOf t - 1) (omega arith) (omega arith))
+  length-range j l = let s = some-rows in (accepted-good t (is .accepted) .row j l .some, lengths-ascend t (accepted-good t (is .accepted)) j (rowsOf t - 1) (omega arith) (omega arith))
 
   all-rows : sectionRows t 0 (rowsOf t) 1 (orderOf t) ≡ countUp 0 (rowsOf t)
   all-rows =
-      section-rows t 1 (orderOf t) 0 (rowsOf t) (λ j l a b c. lengths-ascend j l b (omega arith))
+      section-rows t 1 (orderOf t) 0 (rowsOf t) (λ j l a b c. lengths-ascend t (accepted-good t (is .accepted)) j l b (omega arith))
       (λ j a b. let r = length-range j (omega arith) in let x = r .0 in let y = r .1 in (x, omega arith))
 
   one-word : rowsWith 1 t 0 (rowsOf t) ≡ countUp 0 (length texts)
@@ -449,8 +438,8 @@ module _ (texts : List (List ℕ)) (t : List ℤ) (room size : ℕ) (is : Printa
       subst (λ (n : ℕ). Reads room size begun (textLines n) (final n)) (sym e) (text-reads (orderOf t - 1) (length texts - 3) e (omega arith)) in
       record {
         reads =
-            ap (λ (pieces : List (List ℕ)). linesOutcome room size (readLines room size begun 1 pieces)) (parts-of-lines (textLines (orderOf t)) text-lacks)
-            ∙ ap (linesOutcome room size) (lines-read room size (textLines (orderOf t)) begun (final (orderOf t)) 1 reads refl)
+            ap (λ (pieces : List (List ℕ)). linesOutcome false room size (readLines room size begun 1 pieces)) (parts-of-lines (textLines (orderOf t)) text-lacks)
+            ∙ ap (linesOutcome false room size) (lines-read room size (textLines (orderOf t)) begun (final (orderOf t)) 1 reads refl)
             ∙ ap (judged room size (final (orderOf t))) (ap verdict rows-ordered ∙ is .accepted)
             ∙ ap₂ (λ (n : ℕ) (l : List ℤ). record { answer = Read n; table = padded room l; store = storeWith size texts }) (rows-length t 0 (rowsOf t)) rows-ordered;
       }

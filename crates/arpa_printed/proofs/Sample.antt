@@ -14,7 +14,7 @@ use Rattle.list.specs.Table.{rowsOf, field, lengthOf, orderOf, wordsOf, words, 
 use Rattle.list.specs.Order.{lastLess, precedes}
 use Rattle.list.specs.Search.{findBelow, findIn}
 use Rattle.list.specs.Sample.{sample}
-use Rattle.list.specs.Check.{tableFits, placeFits, placesFit, backoffFits, fieldFault, isAfter, shorterListed, orderFault, rowFault, reservedListed, scan, verdict}
+use Rattle.list.specs.Check.{tableFits, placeFits, placesFit, backoffFits, fieldFault, isAfter, withoutFirsts, shorterListed, orderFault, rowFault, reservedListed, scan, verdictFor, verdict}
 use Rattle.row_order.specs.RowOrder.{insertBy, sortBy, rowAt, rowsAt, joined, numbersOf, rowBefore, listOrder}
 use Rattle.word_index.specs.Texts.{searchFrom}
 use Rattle.totals_text.specs.Columns.{allDigits, valueFrom}
@@ -28,7 +28,7 @@ use Rattle.arpa_printed.specs.Printed.{withEnds, Printable}
 use Rattle.arpa_printed.specs.Sample.{the, cat, SampleRead}
 
 pub sample-read : SampleRead
-unfolding between upTo sameWords inProbability inBackoff padded rowsOf field lengthOf orderOf wordsOf words withoutFirst withoutLast lastLess precedes findBelow findIn tableFits placeFits placesFit backoffFits fieldFault isAfter shorterListed orderFault rowFault reservedListed scan verdict insertBy sortBy rowAt rowsAt joined numbersOf rowBefore listOrder searchFrom allDigits valueFrom parts digitsUpTo fraction unsigned readLog nearest roundLog readPoints isCountHead withoutSpace countIn readCount allAbove isText areTexts listedIn readRow reservedNumber numberMet numberGiven withText zeroed recordOf recordsOf storeWith announce enter firstSection dataStep closes closeSection rowOf addRow rowFits recordFits wordStep someMissing longerStep rowStep sectionStep lineStep readLines refusedOutcome ordered readArpa withEnds
+unfolding between upTo sameWords inProbability inBackoff padded rowsOf field lengthOf orderOf wordsOf words withoutFirst withoutLast lastLess precedes findBelow findIn tableFits placeFits placesFit backoffFits fieldFault isAfter withoutFirsts shorterListed orderFault rowFault reservedListed scan verdictFor insertBy sortBy rowAt rowsAt joined numbersOf rowBefore listOrder searchFrom allDigits valueFrom parts digitsUpTo fraction unsigned readLog nearest roundLog readPoints isCountHead withoutSpace countIn readCount allAbove isText areTexts listedIn readRow reservedNumber numberMet numberGiven withText zeroed recordOf recordsOf storeWith announce enter firstSection dataStep closes closeSection rowOf addRow rowFits recordFits wordStep someMissing longerStep rowStep sectionStep lineStep readLines refusedOutcome ordered readArpa withEnds
 sample-read = record { reads = refl; not-in-form = refl; unlisted-text = refl; miscounted = refl; table-short = refl; store-short = refl; end-missing = refl; end-open = refl; nothing = refl }
 
 -- ---- `printed-reads-back` applies to it
@@ -49,7 +49,7 @@ unfolding numberMet searchFrom sameWords
 sample-numbers = below-five (λ (i : ℕ). numberMet sampleTexts (getD sampleTexts i []) ≡ suc i) refl refl refl refl refl
 
 pub sample-printable : Printable sampleTexts sample 80 448
-unfolding between upTo sameWords inProbability inBackoff rowsOf field lengthOf orderOf wordsOf words withoutFirst withoutLast lastLess precedes findBelow findIn tableFits placeFits placesFit backoffFits fieldFault isAfter shorterListed orderFault rowFault reservedListed scan verdict allAbove isText
+unfolding between upTo sameWords inProbability inBackoff rowsOf field lengthOf orderOf wordsOf words withoutFirst withoutLast lastLess precedes findBelow findIn tableFits placeFits placesFit backoffFits fieldFault isAfter withoutFirsts shorterListed orderFault rowFault reservedListed scan verdictFor allAbove isText
 sample-printable = record {
   accepted = refl;
   fewer = lit≤ tt;

@@ -1,6 +1,6 @@
 -- An ARPA text printed from an accepted list and its words' texts, as `printed-reads-back` reads it again. Assumes nothing.
 use mathlib.Core.Path.{_≡_}
-use mathlib.Core.Bool.{true, cond}
+use mathlib.Core.Bool.{true, cond, false}
 use mathlib.Core.List.{List, [], _∷_, _++_, map}
 use Prim.Native.Nat.{ℕ, zero, suc, _+_, _*_, _-_, _/_, _%_, _<_, _≤_}
 use lib.Dec.{eqb}
@@ -89,4 +89,4 @@ module _ (texts : List (List ℕ)) (t : List ℤ) where
 
   -- the printed text reads as that list and those texts
   pub record ReadsBack (room size : ℕ) : Type 0 where
-    pub reads : readArpa room size printed ≡ record { answer = Read (rowsOf t); table = padded room t; store = storeWith size texts }
+    pub reads : readArpa false room size printed ≡ record { answer = Read (rowsOf t); table = padded room t; store = storeWith size texts }

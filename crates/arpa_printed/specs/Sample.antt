@@ -1,5 +1,6 @@
 -- The sample of document 01 as an ARPA text, and texts and buffers that are refused. A tab is shown as →. Assumes nothing.
 use mathlib.Core.Path.{_≡_}
+use mathlib.Core.Bool.{false}
 use mathlib.Core.List.{List, [], _∷_, _++_}
 use Prim.Native.Nat.{ℕ}
 use lib.ListN.{set, take}
@@ -79,7 +80,7 @@ twoTwos = 110 ∷ 103 ∷ 114 ∷ 97 ∷ 109 ∷ 32 ∷ 50 ∷ 32 ∷ 61 ∷ 32 
 
 -- the outcome over a text of these lines, a table of `room` numbers and a store of `size` bytes
 abbrev reading : ℕ → ℕ → List (List ℕ) → Outcome
-reading room size lines = readArpa room size (withEnds lines)
+reading room size lines = readArpa false room size (withEnds lines)
 
 pub record SampleRead : Type 0 where
   pub reads : reading 80 448 sampleLines ≡ record { answer = Read 9; table = padded 80 sample; store = storeWith 448 (unknownText ∷ startText ∷ endText ∷ the ∷ cat ∷ []) }
@@ -94,5 +95,5 @@ pub record SampleRead : Type 0 where
   pub store-short : reading 80 383 sampleLines ≡ refusedOutcome 80 383 shortSlice 11
   -- the end line is missing, or has no LF; nothing at all
   pub end-missing : reading 80 448 (take 20 sampleLines) ≡ refusedOutcome 80 448 lineForm 21
-  pub end-open : readArpa 80 448 (withEnds (take 20 sampleLines) ++ (92 ∷ 101 ∷ 110 ∷ 100 ∷ 92 ∷ [])) ≡ refusedOutcome 80 448 lineForm 21
+  pub end-open : readArpa false 80 448 (withEnds (take 20 sampleLines) ++ (92 ∷ 101 ∷ 110 ∷ 100 ∷ 92 ∷ [])) ≡ refusedOutcome 80 448 lineForm 21
   pub nothing : reading 80 448 [] ≡ refusedOutcome 80 448 lineForm 1

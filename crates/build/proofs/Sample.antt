@@ -13,7 +13,7 @@ use Rattle.backoff.specs.declared.Verdict.the-variants.{Accepted, Refused}
 use Rattle.list.specs.Table.{rowsOf, field, lengthOf, orderOf, wordsOf, words, withoutFirst, withoutLast}
 use Rattle.list.specs.Order.{lastLess, precedes}
 use Rattle.list.specs.Search.{findBelow, findIn}
-use Rattle.list.specs.Check.{tableFits, placeFits, placesFit, backoffFits, fieldFault, isAfter, shorterListed, orderFault, rowFault, reservedListed, scan, verdict}
+use Rattle.list.specs.Check.{tableFits, placeFits, placesFit, backoffFits, fieldFault, isAfter, withoutFirsts, shorterListed, orderFault, rowFault, reservedListed, scan, verdictFor, verdict}
 use Rattle.list.specs.ListModel.{anyBelow, extendedIn, continuedIn}
 use Rattle.list.specs.Sample.{sample}
 use Rattle.double_array.specs.DoubleArray.{freeCheck, sizesOk}
@@ -37,5 +37,5 @@ pub record SampleCases : Type 0 where
   pub too-few : sampleBuilt 19 ≡ record { answer = Refused noRoom 0; base = replicate 19 (pos 0); check = replicate 19 freeCheck; work = 0 ∷ 0 ∷ 0 ∷ 0 ∷ 0 ∷ 0 ∷ 0 ∷ 0 ∷ 0 ∷ 7 ∷ [] }
 
 pub sample-cases : SampleCases
-unfolding between upTo sameWords inProbability inBackoff written rowsOf field lengthOf orderOf wordsOf words withoutFirst withoutLast lastLess precedes findBelow findIn tableFits placeFits placesFit backoffFits fieldFault isAfter shorterListed orderFault rowFault reservedListed scan verdict anyBelow extendedIn continuedIn sizesOk children isFree update allFree fits search firstFit own reach give settle place placeAll unplaced placing slots nodeOf rootOf nodesFrom nodesOf placedList slotsFrom rowSlots untouched emptied filled buildOutcome
+unfolding between upTo sameWords inProbability inBackoff written rowsOf field lengthOf orderOf wordsOf words withoutFirst withoutLast lastLess precedes findBelow findIn tableFits placeFits placesFit backoffFits fieldFault isAfter withoutFirsts shorterListed orderFault rowFault reservedListed scan verdictFor anyBelow extendedIn continuedIn sizesOk children isFree update allFree fits search firstFit own reach give settle place placeAll unplaced placing slots nodeOf rootOf nodesFrom nodesOf placedList slotsFrom rowSlots untouched emptied filled buildOutcome
 sample-cases = record { enough = refl; too-few = refl }

@@ -9,3 +9,4 @@ pub mod Lookups
 pub mod Items
 pub mod Crossing
 pub mod Fragments
+pub mod PrunedRuns

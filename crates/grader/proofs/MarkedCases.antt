@@ -11,7 +11,7 @@ use Rattle.backoff.specs.Store.{modelIn, walkedWord, endsBroken, stepFrom, word
 use Rattle.list.specs.Table.{rowsOf, field, lengthOf, orderOf, wordsOf, words, withoutFirst, withoutLast}
 use Rattle.list.specs.Order.{lastLess, precedes}
 use Rattle.list.specs.Search.{findBelow, findIn}
-use Rattle.list.specs.Check.{tableFits, placeFits, placesFit, backoffFits, fieldFault, isAfter, shorterListed, orderFault, rowFault, reservedListed, scan, verdict}
+use Rattle.list.specs.Check.{tableFits, placeFits, placesFit, backoffFits, fieldFault, isAfter, withoutFirsts, shorterListed, orderFault, rowFault, reservedListed, scan, verdictFor, verdict}
 use Rattle.list.specs.ListModel.{anyBelow, extendedIn, continuedIn, modelOf}
 use Rattle.double_array.specs.DoubleArray.{markerOf, markerAt, childAt, lookFrom, sizesOk, orderOk, headOk, orderIn, storeIn, opened}
 use Rattle.double_array.specs.Lookup.{lookupOutcome}
@@ -24,7 +24,7 @@ use Rattle.grader.specs.RunsInARow.{arrayOf}
 use Rattle.grader.specs.MarkedCases.{MarkedCases}
 
 pub marked-cases : MarkedCases
-unfolding between upTo sameWords isWord inProbability inBackoff listed probability backoff extended continued live reach addPoints lengthByte replaced scoreAfter historyLength rule ruleByte grow rulePoints ruleBytes largest climb backoffsOf newest liveLength walk matchedFrom pointsFrom extendedFrom nextFrom refusal accepted written refusedRun acceptedRun front plain all padded nine countOf stateIn stateOk modelIn walkedWord endsBroken stepFrom wordStep step runOver runOutcome startOutcome rowsOf field lengthOf orderOf wordsOf words withoutFirst withoutLast lastLess precedes findBelow findIn tableFits placeFits placesFit backoffFits fieldFault isAfter shorterListed orderFault rowFault reservedListed scan verdict anyBelow extendedIn continuedIn modelOf markerOf markerAt childAt lookFrom sizesOk orderOk headOk orderIn storeIn opened lookupOutcome children isFree update allFree fits search firstFit own reachSlots give settle place placeAll unplaced placing slots nodeOf rootOf nodesFrom nodesOf placedList slotsFrom rowSlots untouched emptied filled buildOutcome plainOutcome arrayOf
+unfolding between upTo sameWords isWord inProbability inBackoff listed probability backoff extended continued live reach addPoints lengthByte replaced scoreAfter historyLength rule ruleByte grow rulePoints ruleBytes largest climb backoffsOf newest liveLength walk matchedFrom pointsFrom extendedFrom nextFrom refusal accepted written refusedRun acceptedRun front plain all padded nine countOf stateIn stateOk modelIn walkedWord endsBroken stepFrom wordStep step runOver runOutcome startOutcome rowsOf field lengthOf orderOf wordsOf words withoutFirst withoutLast lastLess precedes findBelow findIn tableFits placeFits placesFit backoffFits fieldFault isAfter withoutFirsts shorterListed orderFault rowFault reservedListed scan verdictFor anyBelow extendedIn continuedIn modelOf markerOf markerAt childAt lookFrom sizesOk orderOk headOk orderIn storeIn opened lookupOutcome children isFree update allFree fits search firstFit own reachSlots give settle place placeAll unplaced placing slots nodeOf rootOf nodesFrom nodesOf placedList slotsFrom rowSlots untouched emptied filled buildOutcome plainOutcome arrayOf
 marked-cases = record {
   k1 = record { run = refl; plain = refl };
   k2 = record { run = refl; plain = refl };

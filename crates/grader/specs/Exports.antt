@@ -13,6 +13,7 @@ use Rattle.build.specs.Build.{Built}
 use Rattle.unload.specs.Unload.{Unloaded}
 use Rattle.arpa.specs.Outcome as arpa
 use Rattle.arpa.specs.declared.Rows.{Rows}
+use Rattle.filling.specs.Fill.{Filled}
 use Rattle.grader.specs.declared.Status.{Status}
 use Rattle.grader.specs.declared.Found.{Found}
 use Rattle.grader.specs.declared.Total.{Total}
@@ -75,3 +76,10 @@ pub record ReadIs (o : arpa.Outcome) (r : RowCount) (table : List ℤ) (store : 
   pub count : RowCountIs (o .answer) r
   pub table-is : table ≡ o .table
   pub store-is : store ≡ o .store
+
+-- a filling's answer, and the second table at exit
+pub record FilledIs (o : Filled) (r : RowCount) (table : List ℤ) : Type 0 where
+  pub number : r .number ≡ numberOf (o .answer)
+  pub rows : r .rows ≡ o .rows
+  pub place : r .place ≡ placeOf (o .answer)
+  pub table-is : table ≡ o .table

@@ -5,3 +5,4 @@ pub mod SentencesApart
 pub mod BatchSheet
 pub mod MarkedCases
 pub mod Returns
+pub mod PrunedRuns

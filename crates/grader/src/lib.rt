@@ -27,7 +27,9 @@ ghost use Rattle.unload.specs.Unload.{unloadOutcome};
 ghost use Rattle.unload.specs.Meaning.{UnloadMeans};
 ghost use Rattle.arpa.specs.Outcome.{readArpa};
 ghost use Rattle.arpa.specs.Meaning.{ReadMeans};
-ghost use Rattle.grader.specs.Exports.{StatusIs, FoundIs, BuiltIs, StartedIs, TotalIs, RanIs, UnloadedIs, RowCountIs, ReadIs};
+ghost use Rattle.filling.specs.Fill.{fillOutcome};
+ghost use Rattle.filling.specs.Meaning.{FillMeans};
+ghost use Rattle.grader.specs.Exports.{StatusIs, FoundIs, BuiltIs, StartedIs, TotalIs, RanIs, UnloadedIs, RowCountIs, ReadIs, FilledIs};
 
 // The refusal's number and place, 0 and 0 where nothing is refused.
 #[repr(C)]
@@ -320,11 +322,31 @@ pub extern "C" fn backoff_unload(
     status_of(unload::unload(base, check, table, work))
 }
 
-// Reads an ARPA text: 17, 18, 15, 19 with the line, then the list checks with the row. Refused, table and store are 0.
+// Reads an ARPA text: 17, 18, 15, 19 with the line, then the list checks with the row, where the list is to be filled 8 for the two cases that filling
+// keeps. Refused, table and store are 0.
 #[no_mangle]
-pub extern "C" fn backoff_arpa(text: &[u8], table: &mut [i32], store: &mut [u8]) -> RowCount
-    ensures outcome { λ r. ⌜ ReadIs (readArpa (length (now (table .entry))) (length (now (store .entry))) (now (text .entry))) r (now (table .exit)) (now (store .exit)) ⌝ }
-    ensures meaning { λ r. ⌜ ReadMeans (now (text .entry)) (r .number) (r .rows) (now (table .exit)) (now (store .exit)) ⌝ }
+pub extern "C" fn backoff_arpa(
+    text: &[u8],
+    to_be_filled: bool,
+    table: &mut [i32],
+    store: &mut [u8],
+) -> RowCount
+    ensures outcome { λ r. ⌜ ReadIs (readArpa «to_be_filled» (length (now (table .entry))) (length (now (store .entry))) (now (text .entry))) r (now (table .exit)) (now (store .exit)) ⌝ }
+    ensures meaning { λ r. ⌜ ReadMeans «to_be_filled» (now (text .entry)) (r .number) (r .rows) (now (table .exit)) (now (store .exit)) ⌝ }
 {
-    row_count_of(arpa::read_arpa(text, table, store))
+    row_count_of(arpa::read_arpa(text, to_be_filled, table, store))
+}
+
+// Fills a pruned list: 1, rows 3 to 8, 9, then 5 with the row that needs it, 1, 15. Refused, nothing is written.
+#[no_mangle]
+pub extern "C" fn backoff_fill(table: &[i32], filled: &mut [i32]) -> RowCount
+    ensures outcome { λ r. ⌜ FilledIs (fillOutcome (now (table .entry)) (now (filled .entry))) r (now (filled .exit)) ⌝ }
+    ensures meaning { λ r. ⌜ FillMeans (now (table .entry)) (now (filled .entry)) (r .number) (r .rows) (now (filled .exit)) ⌝ }
+{
+    let answer = filling::fill(table, filled);
+    RowCount {
+        number: answer.number,
+        rows: answer.rows,
+        place: answer.place as u64,
+    }
 }

@@ -45,7 +45,7 @@ use Rattle.unload.specs.Unload.{Reached, isRight, walkTo, reached, rowOf
 use Rattle.unload.specs.Meaning.{Holds, Says}
 use Rattle.unload.specs.Steps.{EachTwo, none as no-two, more, IsReached}
 use Rattle.unload.proofs.Reached.{ByKey, walk-child, walk-slot, reached-unique}
-use Rattle.unload.proofs.Rows.{good-row-is-row}
+use Rattle.list.proofs.Rows.{good-row-is-row}
 use Rattle.unload.proofs.Agree.{runOutcome-agrees, startOutcome-agrees}
 
 -- ---- what a store has and its entries

@@ -11,7 +11,7 @@ use Rattle.backoff.specs.Refusal.{numberOf, arrayHead, brokenNode, shortSlice}
 use Rattle.backoff.specs.Run.{written}
 use Rattle.backoff.specs.declared.Verdict.{Verdict}
 use Rattle.backoff.specs.declared.Verdict.the-variants.{Accepted, Refused}
-use Rattle.list.specs.Table.{rowsOf, orderOf}
+use Rattle.list.specs.Table.{rowsOf, orderOf, row}
 use Rattle.list.specs.Check.{verdict}
 use Rattle.list.specs.ListModel.{extendedIn, continuedIn}
 use Rattle.double_array.specs.DoubleArray.{markerAt, childAt, isArray, orderIn}
@@ -83,11 +83,6 @@ markerB Broken = pos 0
 abbrev pub isRight : Marker → Bool → Bool → Bool
 isRight (Sound p b x y) e f = Bool·beq x e && Bool·beq y f
 isRight Broken e f = false
-
--- "m, five words oldest first (unused ones 0), log-probability p, back-off b"
-abbrev pub row : List ℕ → ℤ → ℤ → List ℤ
-row ws p b =
-    pos (length ws) ∷ pos (getD ws 0 0) ∷ pos (getD ws 1 0) ∷ pos (getD ws 2 0) ∷ pos (getD ws 3 0) ∷ pos (getD ws 4 0) ∷ p ∷ b ∷ []
 
 module _ (base check : List ℤ) where
   unfoldable pub rowOf : Reached → List ℤ

@@ -1,6 +1,6 @@
 //! Request T-02 of document 02: an ARPA text read into rows and texts, with the refusals 17, 18, 15 and 19, and then those of the list.
 
-use super::list::{verdict, Row, ACCEPTED};
+use super::list::{verdict_by, Needs, Row, ACCEPTED};
 use std::collections::HashMap;
 use std::str::from_utf8;
 
@@ -21,10 +21,12 @@ pub struct Answer {
 type Refused = (u32, u64);
 
 /// "A reader fills the eight-number rows and a lent store of word texts .. all that no row or met text fills is 0 .. Any refusal leaves table and store 0."
-pub fn read_arpa(text: &[u8], table: &mut [i32], store: &mut [u8]) -> Answer {
+/// "Told that filling follows", it keeps 8 for fewer rows (T-07).
+pub fn read_arpa(text: &[u8], to_be_filled: bool, table: &mut [i32], store: &mut [u8]) -> Answer {
     table.fill(0);
     store.fill(0);
-    match read(text, table.len(), store.len()) {
+    let needs = if to_be_filled { Needs::ToBeFilled } else { Needs::Both };
+    match read(text, needs, table.len(), store.len()) {
         Ok((rows, texts)) => {
             table[..8 * rows.len()].copy_from_slice(rows.as_flattened());
             for (text, word) in texts {
@@ -39,7 +41,7 @@ pub fn read_arpa(text: &[u8], table: &mut [i32], store: &mut [u8]) -> Answer {
 }
 
 /// The rows in list order and the words' numbers.
-fn read(text: &[u8], items: usize, bytes: usize) -> Result<(Vec<[i32; 8]>, HashMap<Vec<u8>, i32>), Refused> {
+fn read(text: &[u8], needs: Needs, items: usize, bytes: usize) -> Result<(Vec<[i32; 8]>, HashMap<Vec<u8>, i32>), Refused> {
     let mut reader = Reader::new(items, bytes);
     let mut next = 1;
     for line in text.split_inclusive(|&byte| byte == b'\n') {
@@ -53,7 +55,7 @@ fn read(text: &[u8], items: usize, bytes: usize) -> Result<(Vec<[i32; 8]>, HashM
     // Rust's sort is stable: "those of equal words as they came".
     rows.sort_by_key(|row| (row.words.len(), row.words.iter().rev().copied().collect::<Vec<i32>>()));
     let rows: Vec<[i32; 8]> = rows.iter().map(Row::cells).collect();
-    match verdict(rows.as_flattened()) {
+    match verdict_by(rows.as_flattened(), needs) {
         ACCEPTED => Ok((rows, reader.words)),
         (number, place) => Err((number, place as u64)),
     }

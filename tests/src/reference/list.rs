@@ -1,4 +1,4 @@
-//! "The list" of document 01 and the refusals 1 and 3 to 9.
+//! "The list" of document 01 and the refusals 1 and 3 to 9, of a list that is to be filled too (T-07).
 
 use std::collections::HashSet;
 
@@ -51,8 +51,20 @@ pub fn extended<'a>(rows: impl IntoIterator<Item = &'a Row>) -> HashSet<&'a [i32
     rows.into_iter().map(|row| &row.words[1..]).collect()
 }
 
+/// Which shorter rows a row needs: both, or, where filling follows, "8 is kept for an absent row without the last word and for an absent one-word row" (T-07).
+#[derive(Clone, Copy, Debug, PartialEq, Eq)]
+pub enum Needs {
+    Both,
+    ToBeFilled,
+}
+
 /// The verdict on a lent list: 1, then row by row 3 to 8, then 9.
 pub fn verdict(table: &[i32]) -> Refusal {
+    verdict_by(table, Needs::Both)
+}
+
+/// The same by the shorter rows that a row needs.
+pub fn verdict_by(table: &[i32], needs: Needs) -> Refusal {
     if table.is_empty() || !table.len().is_multiple_of(8) || table.len() / 8 > MOST_ROWS {
         return (1, 0);
     }
@@ -63,7 +75,7 @@ pub fn verdict(table: &[i32]) -> Refusal {
             return (number, i as u32 + 1);
         }
         let row = Row::read(cells);
-        if let Some(number) = before.fault(&row.words) {
+        if let Some(number) = before.fault(&row.words, needs) {
             return (number, i as u32 + 1);
         }
         before.push(row.words);
@@ -102,12 +114,15 @@ struct Before {
 
 impl Before {
     /// The faults 7 and 8, which a row has by the rows before it.
-    fn fault(&self, words: &[i32]) -> Option<u32> {
+    fn fault(&self, words: &[i32], needs: Needs) -> Option<u32> {
         if self.last.as_ref().is_some_and(|last| !ascends(last, words)) {
             return Some(7);
         }
-        let (without_first, without_last) = (&words[1..], &words[..words.len() - 1]);
-        if words.len() >= 2 && !(self.holds(without_first) && self.holds(without_last)) {
+        let newest = match needs {
+            Needs::Both => &words[1..],
+            Needs::ToBeFilled => &words[words.len() - 1..],
+        };
+        if words.len() >= 2 && !(self.holds(newest) && self.holds(&words[..words.len() - 1])) {
             return Some(8);
         }
         None

@@ -4,6 +4,7 @@ pub mod arpa;
 pub mod array;
 pub mod batch;
 pub mod build;
+pub mod filling;
 pub mod fragments;
 pub mod list;
 pub mod rule;

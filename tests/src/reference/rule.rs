@@ -55,6 +55,12 @@ impl Rule {
         Scored { points, matched, unknown: word == UNKNOWN, extended }
     }
 
+    /// The points of the last of these words after the words before it, none of which is replaced; a 3 among them ends nothing (T-07).
+    pub fn points_within(&self, words: &[i32]) -> i32 {
+        let (word, history) = words.split_last().expect("a row has words");
+        self.back_off(history, *word).0
+    }
+
     /// "If history and word together are listed, the points are that row's p. Otherwise they are b of the history (0 if it is
     /// unlisted) plus the points of the word after the history without its oldest word." And the matched length, and whether the row is extended.
     fn back_off(&self, history: &[i32], word: i32) -> (i32, usize, bool) {

@@ -17,22 +17,28 @@ pub struct Read {
 }
 
 /// The call between guard zones, with junk in both buffers; the text must be as it was.
-fn call(text: &[u8], (items, bytes): (usize, usize)) -> Read {
+fn call(text: &[u8], to_be_filled: bool, (items, bytes): (usize, usize)) -> Read {
     let mut random = Random::new((text.len() + items + bytes) as u64);
     let mut lent = Guarded::new(text);
     let mut table = Guarded::new(&(0..items).map(|_| random.bits() as i32).collect::<Vec<i32>>());
     let mut store = Guarded::new(&(0..bytes).map(|_| random.bits() as u8).collect::<Vec<u8>>());
-    let read = backoff::read_arpa(lent.lend(), table.lend(), store.lend());
+    let read = backoff::read_arpa(lent.lend(), to_be_filled, table.lend(), store.lend());
     assert!(lent.back() == text, "the lent text was written");
     let answer = Answer { number: read.number, rows: read.rows, place: read.place };
     Read { answer, table: table.back().to_vec(), store: store.back().to_vec() }
 }
 
-/// What the call and the second reader agree on.
+/// What the call and the second reader agree on, where nothing is to be filled; told that filling follows they agree too.
 pub fn read(text: &[u8], room: (usize, usize)) -> Read {
-    let ours = call(text, room);
+    read_told(text, true, room);
+    read_told(text, false, room)
+}
+
+/// What they agree on.
+pub fn read_told(text: &[u8], to_be_filled: bool, room: (usize, usize)) -> Read {
+    let ours = call(text, to_be_filled, room);
     let (mut table, mut store) = (vec![-1; room.0], vec![0xFF; room.1]);
-    let answer = read_arpa(text, &mut table, &mut store);
+    let answer = read_arpa(text, to_be_filled, &mut table, &mut store);
     let shown = || String::from_utf8_lossy(&text[..text.len().min(2_000)]).into_owned();
     assert_eq!(ours.answer, answer, "room {room:?}\n{}", shown());
     assert!(ours.table == table, "the table after {answer:?}, room {room:?}\n{}", shown());

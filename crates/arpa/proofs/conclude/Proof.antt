@@ -10,26 +10,26 @@ returns : tie.Need-returns
 returns c =
     λ l size s h.
     let p = c .before .before in
-    concluded-refused (length (p .args .table .now)) size (p .args .table .now) s (p .args .e) l h (c .if1 .taken)
+    concluded-refused (p .args .filling) (length (p .args .table .now)) size (p .args .table .now) s (p .args .e) l h (c .if1 .taken)
 
 judge-requires : tie.Need-judge-requires
 judge-requires c κs =
     let f = c .before in
     let p = f .before .before in
     let t = p .args .table .now in
-    let d = lines-done (length t) (p .pre .1 .0) t (p .pre .1 .1 .0) (p .args .e) (p .pre .0) (p .pre .1 .1 .1) (f .if1 .left) in
+    let d = lines-done (p .args .filling) (length t) (p .pre .1 .0) t (p .pre .1 .1 .0) (p .args .e) (p .pre .0) (p .pre .1 .1 .1) (f .if1 .left) in
     (d .0, d .3)
 
 enum-told : tie.Need-enum-told
 enum-told c = search needs
 
-cast-t10 : tie.Need-cast-t10
-cast-t10 c =
+cast-t11 : tie.Need-cast-t11
+cast-t11 c =
     let j = c .before .before .before .before in
     let f = j .before .before in
     let p = f .before .before in
     let t = p .args .table .now in
-    let d = lines-done (length t) (p .pre .1 .0) t (p .pre .1 .1 .0) (p .args .e) (p .pre .0) (p .pre .1 .1 .1) (f .if1 .left) in
+    let d = lines-done (p .args .filling) (length t) (p .pre .1 .0) t (p .pre .1 .1 .0) (p .args .e) (p .pre .0) (p .pre .1 .1 .1) (f .if1 .left) in
     let few = j .judge .ensures (d .0) (d .3) .few (c .before .enum-told .given .1) in
     let n = d .3 .count in
     omega arith
@@ -37,8 +37,8 @@ cast-t10 c =
 enum-known-number : tie.Need-enum-known-number
 enum-known-number c = search needs
 
-cast-t11 : tie.Need-cast-t11
-cast-t11 c = search needs
+cast-t12 : tie.Need-cast-t12
+cast-t12 c = search needs
 
 same-length : tie.Need-same-length
 same-length c = search needs
@@ -50,7 +50,7 @@ returns-2 c =
     let f = j .before .before in
     let p = f .before .before in
     let t = p .args .table .now in
-    concluded-read (length t) size t s (p .args .e) (j .judge .last .0) (j .judge .result) (j .judge .ensures) l h (f .if1 .left) (c .before .enum-told .given .1)
+    concluded-read (p .args .filling) (length t) size t s (p .args .e) (j .judge .last .0) (j .judge .result) (j .judge .ensures) l h (f .if1 .left) (c .before .enum-told .given .1)
 
 same-length-2 : tie.Need-same-length-2
 same-length-2 c = search needs
@@ -63,7 +63,7 @@ returns-3 c =
     let f = j .before .before in
     let p = f .before .before in
     let t = p .args .table .now in
-    concluded-judged (length t) size t s (p .args .e) (j .judge .last .0) (j .judge .result) (j .judge .ensures) l h (f .if1 .left) (n .number .given .0 .0) (n .number .given .0 .1 .0) (n .number .given .1)
+    concluded-judged (p .args .filling) (length t) size t s (p .args .e) (j .judge .last .0) (j .judge .result) (j .judge .ensures) l h (f .if1 .left) (n .number .given .0 .0) (n .number .given .0 .1 .0) (n .number .given .1)
 
 pub conclude-spec : {M : Type 1} → statement M
 conclude-spec =
@@ -72,9 +72,9 @@ conclude-spec =
     returns
     judge-requires
     enum-told
-    cast-t10
-    enum-known-number
     cast-t11
+    enum-known-number
+    cast-t12
     same-length
     returns-2
     same-length-2

@@ -7,7 +7,7 @@ use lib.Seq.{length-take-le}
 use borrow.Author.Needs.{needs}
 use Rattle.backoff.specs.NineNumbers.{padded}
 use Rattle.backoff.proofs.NineNumbers.{length-padded}
-use Rattle.list.specs.Check.{verdict}
+use Rattle.list.specs.Check.{verdictFor}
 use Rattle.row_order.specs.RowOrder.{joined}
 use Rattle.arpa.specs.Reading.{Reading}
 use Rattle.arpa.specs.Outcome.{ordered}
@@ -21,7 +21,7 @@ returns c =
     λ a h.
     let p = c .before in
     record {
-      verdict-is = sym (too-many (p .args .table .now) (p .args .rows) (p .args .words) a (h .count) (h .sound) (h .row-room) (c .if1 .taken));
+      verdict-is = sym (too-many (p .args .table .now) (p .args .rows) (p .args .words) a (h .count) (h .sound) (h .row-room) (p .args .filling) (c .if1 .taken));
       long = refl;
       table = λ e. let z : _≡_ {A = ℕ} 0 1 = cc in absurd (omega arith);
       few = λ e. let z : _≡_ {A = ℕ} 0 1 = cc in absurd (omega arith);
@@ -57,11 +57,11 @@ order-rows-requires c κs =
 mul-end : tie.Need-mul-end
 mul-end c = search needs
 
-slice-reshare-prefix-check-list : tie.Need-slice-reshare-prefix-check-list
-slice-reshare-prefix-check-list c = search needs
+slice-reshare-prefix-check-for : tie.Need-slice-reshare-prefix-check-for
+slice-reshare-prefix-check-for c = search needs
 
-slice-aggregate-check-list : tie.Need-slice-aggregate-check-list
-slice-aggregate-check-list c =
+slice-aggregate-check-for : tie.Need-slice-aggregate-check-for
+slice-aggregate-check-for c =
     let o = c .before .before in
     let p = o .before .before .before .before .before .before in
     let h = p .pre .1 in
@@ -69,8 +69,8 @@ slice-aggregate-check-list c =
     let e = length-padded (length (p .args .table .now)) (ordered (p .pre .0)) in
     rw (ordered-is o (p .pre .0) h) (sym (length-take-le (8 * p .args .rows) (padded (length (p .args .table .now)) (ordered (p .pre .0))) (omega arith)))
 
-check-list-requires : tie.Need-check-list-requires
-check-list-requires c κs = search needs
+check-for-requires : tie.Need-check-for-requires
+check-for-requires c κs = search needs
 
 same-length : tie.Need-same-length
 same-length c = search needs
@@ -83,9 +83,9 @@ returns-2 c =
     let p = k .before .before .before in
     let t = p .args .table .now in
     let e = ordered-is o a h in
-    let v = c .check-list .ensures .0 in
+    let v = c .check-for .ensures in
     record {
-      verdict-is = v ∙ ap verdict (ap (take (8 * p .args .rows)) e ∙ ordered-front t (p .args .rows) (p .args .words) a (h .count) (h .sound) (h .row-room));
+      verdict-is = v ∙ ap (verdictFor (p .args .filling)) (ap (take (8 * p .args .rows)) e ∙ ordered-front t (p .args .rows) (p .args .words) a (h .count) (h .sound) (h .row-room));
       long = ap length e ∙ length-padded (length t) (ordered a);
       table = λ z. e;
       few = λ z. let l = k .before .before .if1 .left in let n = h .count in omega arith;
@@ -99,8 +99,8 @@ judge-spec =
     clear-index-requires
     order-rows-requires
     mul-end
-    slice-reshare-prefix-check-list
-    slice-aggregate-check-list
-    check-list-requires
+    slice-reshare-prefix-check-for
+    slice-aggregate-check-for
+    check-for-requires
     same-length
     returns-2)

@@ -66,7 +66,7 @@ same-length c = search needs
 same-length-2 : tie.Need-same-length-2
 same-length-2 c = search needs
 
-concluded : (k : tie.After-conclude) → Concluded (length (k .before .before .before .before .before .before .before .before .before .before .before .before .before .before .before .before .before .args .table .now)) (length (k .before .before .before .before .before .before .before .before .before .before .before .before .before .before .before .before .before .args .store .now)) (k .conclude .last .0) (k .before .before .before .before .before .read-lines .last .1 .1 .0)
+concluded : (k : tie.After-conclude) → Concluded (k .before .before .before .before .before .before .before .before .before .before .before .before .before .before .before .before .before .args .filling) (length (k .before .before .before .before .before .before .before .before .before .before .before .before .before .before .before .before .before .args .table .now)) (length (k .before .before .before .before .before .before .before .before .before .before .before .before .before .before .before .before .before .args .store .now)) (k .conclude .last .0) (k .before .before .before .before .before .read-lines .last .1 .1 .0)
     (readLines (length (k .before .before .before .before .before .before .before .before .before .before .before .before .before .before .before .before .before .args .table .now)) (length (k .before .before .before .before .before .before .before .before .before .before .before .before .before .before .before .before .before .args .store .now)) begun 1 (parts 10 (k .before .before .before .before .before .before .before .before .before .before .before .before .before .before .before .before .before .args .text .now))) (k .conclude .result)
 concluded k =
     let r = k .before .before .before .before .before in
@@ -76,7 +76,7 @@ concluded k =
     let l = readLines room size begun 1 (parts 10 (p .args .text .now)) in
     let t = r .read-lines .last .1 .0 in
     let s = r .read-lines .last .1 .1 .0 in
-    subst (λ (n : ℕ). Concluded n size (k .conclude .last .0) s l (k .conclude .result)) (lines-length room size t s (r .read-lines .result) l (lines r))
+    subst (λ (n : ℕ). Concluded (p .args .filling) n size (k .conclude .last .0) s l (k .conclude .result)) (lines-length room size t s (r .read-lines .result) l (lines r))
     (k .conclude .ensures l size s (lines-here room size t s (r .read-lines .result) l (lines r)))
 
 returns : tie.Need-returns
@@ -93,10 +93,10 @@ returns c =
     let e = m .enum-told .given .1 in
     let l = readLines room size begun 1 (parts 10 (p .args .text .now)) in
     let left =
-    leaves-refused room size (p .args .text .now) (k .conclude .last .0) (r .read-lines .last .1 .1 .0) (k .conclude .result) d _ _ e (f .fill2 .last .0) (z .zero-bytes2 .last .0)
+    leaves-refused (p .args .filling) room size (p .args .text .now) (k .conclude .last .0) (r .read-lines .last .1 .1 .0) (k .conclude .result) d _ _ e (f .fill2 .last .0) (z .zero-bytes2 .last .0)
     (f .fill2 .ensures ∙ ap (λ (n : ℕ). replicate n (pos 0)) (d .long))
     (z .zero-bytes2 .ensures ∙ ap (λ (n : ℕ). replicate n 0) (lines-store-length room size (r .read-lines .last .1 .0) (r .read-lines .last .1 .1 .0) (r .read-lines .result) l (lines r))) in
-    (left, read-means room size (p .args .text .now) (k .conclude .result) (f .fill2 .last .0) (z .zero-bytes2 .last .0) left)
+    (left, read-means (p .args .filling) room size (p .args .text .now) (k .conclude .result) (f .fill2 .last .0) (z .zero-bytes2 .last .0) left)
 
 same-length-3 : tie.Need-same-length-3
 same-length-3 c = search needs
@@ -114,8 +114,8 @@ returns-2 c =
     let t = k .conclude .last .0 in
     let s = r .read-lines .last .1 .1 .0 in
     let e = c .enum-told2 .given .1 in
-    let left = leaves-read room size (p .args .text .now) t s (k .conclude .result) (concluded k) _ e in
-    (left, read-means room size (p .args .text .now) (k .conclude .result) t s left)
+    let left = leaves-read (p .args .filling) room size (p .args .text .now) t s (k .conclude .result) (concluded k) _ e in
+    (left, read-means (p .args .filling) room size (p .args .text .now) (k .conclude .result) t s left)
 
 pub read-arpa-spec : {M : Type 1} → statement M
 read-arpa-spec =

@@ -16,7 +16,7 @@ table-fits-requires : tie.Need-table-fits-requires
 table-fits-requires c κs = search needs
 
 returns : tie.Need-returns
-returns c = (sym (verdict-refused _ (sym (c .before .table-fits .ensures) ∙ not-true _ (c .if1 .taken))), λ z. absurd (accepted-refused _ _ z))
+returns c = (sym (verdict-refused _ _ (sym (c .before .table-fits .ensures) ∙ not-true _ (c .if1 .taken))), λ z. absurd (accepted-refused _ _ z))
 
 fits : (c : tie.Else1) → tableFits (length (now (c .before .before .before .args .table))) ≡ true
 fits c = sym (c .before .table-fits .ensures) ∙ not-false _ (c .if1 .left)

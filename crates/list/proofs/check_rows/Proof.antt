@@ -14,29 +14,29 @@ use Rattle.backoff.specs.declared.Verdict.{Verdict}
 use Rattle.backoff.specs.declared.Verdict.the-variants.{Accepted, Refused}
 use Rattle.list.specs.Table.{rowsOf, withoutLast}
 use Rattle.list.specs.Search.{findIn}
-use Rattle.list.specs.Check.{scan, verdict}
+use Rattle.list.specs.Check.{scan, verdictFor}
 use Rattle.list.specs.Good.{Good}
 use Rattle.list.specs.Marks.{markFound, Marked}
 use Rattle.list.specs.declared.Found.{Found}
 use Rattle.list.proofs.Table.{row-in}
 use Rattle.list.proofs.Good.{good-none, good-more}
-use Rattle.list.proofs.Check.{fitting-table, verdict-scan, scan-fault, scan-pass, scan-end, passed-row, accepted-refused, last-before}
+use Rattle.list.proofs.Check.{fitting-table, verdict-scan, scan-fault, scan-pass, scan-end, passed-row, accepted-refused, checked-good, checked-before}
 use Rattle.list.proofs.Marks.{marked-start, marked-more}
 use Rattle.list.proofs.check_rows.Statement.{statement}
 use Rattle.list.proofs.check_rows.Tie as tie
 
-record Scanned (t : List ℤ) (n : ℕ) (old new : List ℕ) (i : ℕ) : Type 0 where
+record Scanned (filling : Bool) (t : List ℤ) (n : ℕ) (old new : List ℕ) (i : ℕ) : Type 0 where
   within : i ≤ rowsOf t
   long : length new ≡ length old
   good : Good t i
-  rest : verdict t ≡ scan t n i (rowsOf t - i)
-  marks : verdict t ≡ Accepted → Marked t i old new
+  rest : verdictFor filling t ≡ scan filling t n i (rowsOf t - i)
+  marks : verdictFor filling t ≡ Accepted → Marked t i old new
 
 abbrev Inv-loop : tie.InvT-loop
-Inv-loop table n work₀ rows near₀ shorter₀ i₀ work near shorter i = Scanned table n work₀ work i
+Inv-loop table n filling work₀ rows near₀ shorter₀ i₀ work near shorter i = Scanned filling table n work₀ work i
 
 abbrev μ-loop : tie.MeasureT-loop
-μ-loop table n work₀ rows near₀ shorter₀ i₀ work near shorter i = rowsOf table - i
+μ-loop table n filling work₀ rows near₀ shorter₀ i₀ work near shorter i = rowsOf table - i
 
 loop-holds : tie.Need-loop-holds Inv-loop μ-loop
 loop-holds c =
@@ -45,7 +45,7 @@ loop-holds c =
       within = omega arith;
       long = refl;
       good = good-none _;
-      rest = rw (s .pre .1) (verdict-scan _ (s .pre .0));
+      rest = rw (s .pre .1) (verdict-scan _ _ (s .pre .0));
       marks = λ a. marked-start _ _;
     }
 
@@ -63,11 +63,11 @@ shorter-rows-requires c κs = row-in _ _ (inside c)
 row-fault-requires : tie.Need-row-fault-requires Inv-loop μ-loop
 row-fault-requires c κs = (row-in _ _ (inside (c .before)), c .before .before .loop .inv .good)
 
-add-t11 : tie.Need-add-t11 Inv-loop μ-loop
-add-t11 c = omega (arith, few (c .before .before .before .before))
+add-t12 : tie.Need-add-t12 Inv-loop μ-loop
+add-t12 c = omega (arith, few (c .before .before .before .before))
 
-cast-t12 : tie.Need-cast-t12 Inv-loop μ-loop
-cast-t12 c = omega (arith, few (c .before .before .before .before))
+cast-t13 : tie.Need-cast-t13 Inv-loop μ-loop
+cast-t13 c = omega (arith, few (c .before .before .before .before))
 
 same-length : tie.Need-same-length Inv-loop μ-loop
 same-length c = c .before .before .before .before .before .loop .inv .long
@@ -77,7 +77,7 @@ returns c =
     let r = c .before .before in
     let l = r .before .before .before .loop in
     let e = r .row-fault .ensures .0 in
-    let v = l .inv .rest ∙ scan-fault _ _ _ _ (inside (r .before .before)) (λ z. c .if1 .taken (e ∙ z)) ∙ ap (λ (f : ℕ). Refused f (l .i + 1)) (sym e) in
+    let v = l .inv .rest ∙ scan-fault _ _ _ _ _ (inside (r .before .before)) (λ z. c .if1 .taken (e ∙ z)) ∙ ap (λ (f : ℕ). Refused f (l .i + 1)) (sym e) in
     (sym v, λ z. absurd (accepted-refused _ _ z))
 
 mark-continued-requires : tie.Need-mark-continued-requires Inv-loop μ-loop
@@ -100,15 +100,15 @@ loop-again c =
     let i = l .loop .i in
     let h = inside (r .before .before) in
     let e = sym (r .row-fault .ensures .0) ∙ d .if1 .left in
-    let p = passed-row _ _ _ e in
+    let p = passed-row _ _ _ _ e in
     record {
       within = omega (arith, h);
       long = omega (arith, m .mark-continued .kept .1 .1 .0, l .loop .inv .long);
       good = good-more _ _ (l .loop .inv .good) (p .fields .good) (p .after);
-      rest = l .loop .inv .rest ∙ scan-pass _ _ _ _ h e;
+      rest = l .loop .inv .rest ∙ scan-pass _ _ _ _ _ h e;
       marks = λ a.
-          let f : m .mark-continued .last .1 .1 .0 ≡ markFound (findIn t (withoutLast t i)) (l .loop .work) = m .mark-continued .ensures ∙ ap (λ (f : Found). markFound f (l .loop .work)) (r .row-fault .ensures .1 (d .if1 .left) ∙ last-before t a i h) in
-          rw f (marked-more t a i (s .args .work .now) (l .loop .work) (s .pre .2) (l .loop .inv .marks a));
+          let f : m .mark-continued .last .1 .1 .0 ≡ markFound (findIn t (withoutLast t i)) (l .loop .work) = m .mark-continued .ensures ∙ ap (λ (f : Found). markFound f (l .loop .work)) (r .row-fault .ensures .1 (d .if1 .left) ∙ checked-before (s .args .filling) t a i h) in
+          rw f (marked-more t (checked-good (s .args .filling) t a) i (s .args .work .now) (l .loop .work) (s .pre .2) (l .loop .inv .marks a));
     }
 
 passed-all : (c : tie.After-loop Inv-loop μ-loop) → c .before .loop .i ≡ rowsOf (now (c .before .before .before .args .table))
@@ -121,8 +121,8 @@ reserved-listed-requires c κs = rw (passed-all c) at (c .before .loop .inv .goo
 abbrev last : Bool → Verdict
 last b = cond b Accepted (Refused reservedWord 0)
 
-ended : (c : tie.After-reserved-listed Inv-loop μ-loop) → verdict (now (c .before .before .before .before .args .table)) ≡ last (c .reserved-listed .result)
-ended c = c .before .before .loop .inv .rest ∙ scan-end _ _ _ _ (omega (arith, passed-all (c .before))) ∙ ap (λ (b : Bool). last b) (sym (c .reserved-listed .ensures))
+ended : (c : tie.After-reserved-listed Inv-loop μ-loop) → verdictFor (c .before .before .before .before .args .filling) (now (c .before .before .before .before .args .table)) ≡ last (c .reserved-listed .result)
+ended c = c .before .before .loop .inv .rest ∙ scan-end _ _ _ _ _ (omega (arith, passed-all (c .before))) ∙ ap (λ (b : Bool). last b) (sym (c .reserved-listed .ensures))
 
 same-length-2 : tie.Need-same-length-2 Inv-loop μ-loop
 same-length-2 c = c .before .before .before .loop .inv .long
@@ -148,8 +148,8 @@ check-rows-spec =
     loop-holds
     shorter-rows-requires
     row-fault-requires
-    add-t11
-    cast-t12
+    add-t12
+    cast-t13
     same-length
     returns
     mark-continued-requires

@@ -1,0 +1,537 @@
+-- Which sequence comes next in the filled list: of the rows of one length, the first whose key is not below a bound has the least last words. Assumes nothing.
+use mathlib.Core.Path.{_≡_, refl, sym, ap, _∙_}
+use mathlib.Core.Logic.{_⊎_, inl, inr, ⊎-elim}
+use mathlib.Core.Bool.{true, false}
+use mathlib.Core.List.{List, [], _∷_, _++_}
+use Prim.Native.Nat.{ℕ, zero, suc, _+_, _*_, _-_, _≤_, _<_}
+use native.Mathlib.Omega.{arith}
+use lib.ListN.{length, take, drop, length-append, length-drop, take-append-drop}
+use lib.Dec.{ltb}
+use borrow.Author.Tests.{ltb-true, ltb-false}
+use lib.Seq.{drop-at, drop-drop, take-nil}
+use lib.IntN.{ℤ}
+use Rattle.integer.proofs.Ranges.{lt-or-ge}
+use Rattle.backoff.specs.Limits.{orderLimit}
+use Rattle.backoff.specs.Words.{areWords, radix, key}
+use Rattle.backoff.specs.declared.Verdict.the-variants.{Accepted}
+use Rattle.backoff.proofs.Words.{first-some, first-limit, words-rest}
+use Rattle.list.specs.Table.{rowsOf, lengthOf, orderOf, wordsOf, words}
+use Rattle.list.specs.Search.{findIn}
+use Rattle.list.specs.Check.{verdictFor}
+use Rattle.list.specs.Good.{GoodRow, Good}
+use Rattle.list.specs.Keys.{keyOf, rowKey, Bracket}
+use Rattle.list.specs.declared.Found.{Found}
+use Rattle.list.specs.declared.Found.the-variants.{At, Nothing}
+use Rattle.list.proofs.Table.{row-in, words-length, length-limit}
+use Rattle.list.proofs.Good.{lengths-ascend, are-words, ascend-key}
+use Rattle.list.proofs.Keys.{key-unique}
+use Rattle.list.proofs.Search.{keys-ascend, found-words}
+use Rattle.list.proofs.ListModel.{length-order}
+use Rattle.list.proofs.Check.{checked-good, checked-size}
+use Rattle.filling.specs.Filled.{filledTable}
+use Rattle.filling.specs.Next.{zeros, power, lastWords, endKey, Candidate, Least, Best}
+use Rattle.filling.proofs.WithoutFirstWords.{areWords-behind}
+use Rattle.filling.proofs.FilledRows.{EndOf, last-alone, end-words, end-some}
+use Rattle.filling.proofs.FilledTable.{filled-end, filled-good}
+use Rattle.filling.proofs.FilledModel.{filled-finds, filled-order}
+
+-- ---- keys and their last digits
+
+zeros-le : (j a b : ℕ) → a ≤ b → zeros j a ≤ zeros j b
+unfolding zeros
+zeros-le zero a b l = l
+zeros-le (suc j) a b l = let h = zeros-le j a b l in omega arith
+
+zeros-zeros : (j i k : ℕ) → zeros j (zeros i k) ≡ zeros (j + i) k
+unfolding zeros
+zeros-zeros zero i k = let e : 0 + i ≡ i = omega arith in rw e
+zeros-zeros (suc j) i k = let e : suc j + i ≡ suc (j + i) = omega arith in rw (e, zeros-zeros j i k)
+
+zeros-some : (n x : ℕ) → x ≤ zeros n x
+unfolding zeros
+zeros-some zero x = omega arith
+zeros-some (suc n) x = let h = zeros-some n x in omega arith
+
+zeros-last : (n x : ℕ) → zeros (suc n) x ≡ zeros n (radix * x)
+zeros-last n x = let e : n + 1 ≡ suc n = omega arith in sym (zeros-zeros n 1 x ∙ ap (λ (j : ℕ). zeros j x) e) ∙ ap (zeros n) (unfold zeros in refl)
+
+pub zeros-none : (j x : ℕ) → zeros (j - 0) x ≡ zeros j x
+zeros-none j x = let e : j - 0 ≡ j = omega arith in rw e
+
+pub zeros-end : (j i x : ℕ) → j ≤ i → x ≡ zeros (j - i) x
+unfolding zeros
+zeros-end j i x l = let e : j - i ≡ 0 = omega arith in rw e
+
+-- one zero more in front of a key, as long as there is room for five words
+module _ (j i high low : ℕ) (l : i < j) (room : zeros (j - i) (keyOf high low) ≤ power orderLimit) where
+  pub room-left : high < radix
+  unfolding power zeros
+  room-left =
+      let e : j - i ≡ suc (j - i - 1) = omega arith in
+      let r : zeros (suc (j - i - 1)) (keyOf high low) ≤ power orderLimit = rw e at room in
+      let s = zeros-some (j - i - 1) (keyOf high low) in
+      omega arith
+
+  pub zero-more : (high′ low′ : ℕ) → keyOf high′ low′ ≡ radix * keyOf high low → zeros (j - (i + 1)) (keyOf high′ low′) ≡ zeros (j - i) (keyOf high low)
+  zero-more high′ low′ q =
+      let e : j - i ≡ suc (j - (i + 1)) = omega arith in
+      ap (zeros (j - (i + 1))) q ∙ sym (zeros-last (j - (i + 1)) (keyOf high low)) ∙ ap (λ (n : ℕ). zeros n (keyOf high low)) (sym e)
+
+-- a key is not below j zeros and `floor` exactly if its digits past the first j are not below `floor`
+above-end : (j floor : ℕ) (ws : List ℕ) → areWords ws ≡ true → j ≤ length ws → zeros j floor ≤ key ws → floor ≤ key (drop j ws)
+unfolding zeros key
+above-end zero floor ws e l h = h
+above-end (suc j) floor [] e l h = absurd (omega arith)
+above-end (suc j) floor (w ∷ ws) e l h = above-end j floor ws (words-rest w ws e) (omega arith) (let u = first-limit w ws e in omega arith)
+
+end-above : (j floor : ℕ) (ws : List ℕ) → j ≤ length ws → floor ≤ key (drop j ws) → zeros j floor ≤ key ws
+unfolding zeros key
+end-above zero floor ws l h = h
+end-above (suc j) floor [] l h = absurd (omega arith)
+end-above (suc j) floor (w ∷ ws) l h = let i = end-above j floor ws (omega arith) h in omega arith
+
+power-some : (k : ℕ) → 1 ≤ zeros k 1
+unfolding zeros
+power-some zero = omega arith
+power-some (suc k) = let h = power-some k in omega arith
+
+power-le : (i j : ℕ) → i ≤ j → power i ≤ power j
+unfolding power
+power-le i j l = let e : j ≡ i + (j - i) = omega arith in rw (e, ← zeros-zeros i (j - i) 1) (zeros-le i 1 (zeros (j - i) 1) (power-some (j - i)))
+
+-- the bound of rows of k words has room
+pub bound-room : (m k floor : ℕ) → m ≤ k → k ≤ orderLimit → floor ≤ power m → zeros (k - m) floor ≤ power orderLimit
+unfolding power
+bound-room m k floor l n h =
+    let a = zeros-le (k - m) floor (zeros m 1) h in
+    let e : k - m + m ≡ k = omega arith in
+    let b : zeros (k - m) (zeros m 1) ≡ zeros k 1 = zeros-zeros (k - m) m 1 ∙ ap (λ (j : ℕ). zeros j 1) e in
+    let c = power-le k orderLimit n in
+    omega arith
+
+-- a key has as many digits as there are words
+pub key-below : (ws : List ℕ) → areWords ws ≡ true → key ws < power (length ws)
+unfolding power zeros key
+key-below [] e = omega arith
+key-below (w ∷ ws) e = let h = key-below ws (words-rest w ws e) in let u = first-limit w ws e in omega arith
+
+pub key-above : (w : ℕ) (ws : List ℕ) → areWords (w ∷ ws) ≡ true → power (length ws) ≤ key (w ∷ ws)
+unfolding power zeros key
+key-above w [] e = let s = first-some w [] e in omega arith
+key-above w (v ∷ vs) e = let h = key-above v vs (words-rest w (v ∷ vs) e) in omega arith
+
+-- so a key from `power (m − 1)` on and below `power m` has m words
+pub long-enough : (m : ℕ) (ws : List ℕ) → areWords ws ≡ true → power m ≤ key ws → m < length ws
+long-enough m ws e l = ⊎-elim (λ p. p) (λ p. absurd (let a = key-below ws e in let b = power-le (length ws) m p in omega arith)) (lt-or-ge m (length ws))
+
+pub short-enough : (m : ℕ) (ws : List ℕ) → areWords ws ≡ true → key ws < power m → length ws ≤ m
+short-enough m [] e l = omega arith
+short-enough m (w ∷ ws) e l = ⊎-elim (λ p. p) (λ (p : m ≤ length ws). absurd (let a = key-above w ws e in let b = power-le m (length ws) p in omega arith)) (lt-or-ge (length ws) m)
+
+-- ---- the last words of a row in the table
+
+pub drop-take : {A : Type 0} (j n : ℕ) (l : List A) → drop j (take n l) ≡ take (n - j) (drop j l)
+drop-take zero n l = let e : n - 0 ≡ n = omega arith in rw e refl
+drop-take (suc j) zero l = let e : 0 - suc j ≡ 0 = omega arith in rw e refl
+drop-take (suc j) (suc n) [] = rw (take-nil (suc n - suc j))
+drop-take (suc j) (suc n) (x ∷ l) = let e : suc n - suc j ≡ n - j = omega arith in rw e (drop-take j n l)
+
+pub drop-wordsOf : (j : ℕ) (zs : List ℤ) → drop j (wordsOf zs) ≡ wordsOf (drop j zs)
+unfolding wordsOf
+drop-wordsOf zero zs = refl
+drop-wordsOf (suc j) [] = refl
+drop-wordsOf (suc j) (z ∷ zs) = drop-wordsOf j zs
+
+-- places a to e − 1 hold the last m words of row i, which has k words
+pub places-last : (t : List ℤ) (i k m : ℕ) → k ≡ lengthOf t i → m ≤ k → wordsOf (take (8 * i + (k + 1) - (8 * i + (k + 1) - m)) (drop (8 * i + (k + 1) - m) t)) ≡ lastWords t i m
+unfolding lastWords words
+places-last t i k m e l =
+    let x : lengthOf t i - (lengthOf t i - m) ≡ 8 * i + (k + 1) - (8 * i + (k + 1) - m) = omega arith in
+    let y : 8 * i + 1 + (lengthOf t i - m) ≡ 8 * i + (k + 1) - m = omega arith in
+    sym
+    (drop-wordsOf (lengthOf t i - m) (take (lengthOf t i) (drop (8 * i + 1) t))
+    ∙ ap wordsOf (drop-take (lengthOf t i - m) (lengthOf t i) (drop (8 * i + 1) t) ∙ ap (take (lengthOf t i - (lengthOf t i - m))) (drop-drop (lengthOf t i - m) (8 * i + 1) t))
+    ∙ rw (x, y))
+
+pub last-are-words : (t : List ℤ) (i m : ℕ) → GoodRow t i → areWords (lastWords t i m) ≡ true
+unfolding lastWords
+last-are-words t i m g =
+    areWords-behind (take (lengthOf t i - m) (words t i)) (drop (lengthOf t i - m) (words t i)) (ap areWords (take-append-drop (lengthOf t i - m) (words t i)) ∙ are-words t i g)
+
+pub last-size : (t : List ℤ) (i m : ℕ) → i < rowsOf t → m ≤ lengthOf t i → length (lastWords t i m) ≡ m
+unfolding lastWords
+last-size t i m l h = omega (arith, length-drop (lengthOf t i - m) (words t i), words-length t i (row-in t i l))
+
+pub last-all : (t : List ℤ) (i : ℕ) → lastWords t i (lengthOf t i) ≡ words t i
+unfolding lastWords
+last-all t i = let e : lengthOf t i - lengthOf t i ≡ 0 = omega arith in rw e
+
+-- ---- the rows of one length
+
+module _ (t : List ℤ) (g : Good t (rowsOf t)) where
+  row-words : (i : ℕ) → i < rowsOf t → areWords (words t i) ≡ true
+  row-words i l = are-words t i (g .row i l)
+
+  row-size : (i : ℕ) → i < rowsOf t → length (words t i) ≡ lengthOf t i
+  row-size i l = words-length t i (row-in t i l)
+
+  module _ (m floor k : ℕ) (low : power (m - 1) ≤ floor) (some : 0 < m) (mk : m ≤ k) where
+    -- a candidate of k words
+    pub bound-key : (i : ℕ) → Candidate t m floor (suc k) i → lengthOf t i ≡ k → zeros (k - m) floor ≤ rowKey t i
+    unfolding rowKey lastWords
+    bound-key i c e =
+        let z : lengthOf t i - m ≡ k - m = omega arith in
+        end-above (k - m) floor (words t i) (omega (arith, row-size i (c .within))) (rw z at (c .above))
+
+    key-bound : (i : ℕ) → i < rowsOf t → lengthOf t i ≡ k → zeros (k - m) floor ≤ rowKey t i → Candidate t m floor (suc k) i
+    unfolding rowKey lastWords
+    key-bound i l e h =
+        let z : lengthOf t i - m ≡ k - m = omega arith in
+        record {
+          within = l;
+          long = omega arith;
+          short = omega arith;
+          above = rw z (above-end (k - m) floor (words t i) (row-words i l) (omega (arith, row-size i l)) h);
+        }
+
+    -- rows from the bound on have k words or more
+    bound-long : (i : ℕ) → i < rowsOf t → zeros (k - m) floor ≤ rowKey t i → k ≤ lengthOf t i
+    unfolding rowKey power
+    bound-long i l h =
+        let a = zeros-le (k - m) (zeros (m - 1) 1) floor low in
+        let e : k - m + (m - 1) ≡ k - 1 = omega arith in
+        let b : zeros (k - m) (zeros (m - 1) 1) ≡ zeros (k - 1) 1 = zeros-zeros (k - m) (m - 1) 1 ∙ ap (λ (j : ℕ). zeros j 1) e in
+        let c = long-enough (k - 1) (words t i) (row-words i l) (omega arith) in
+        omega (arith, row-size i l)
+
+    -- last words of rows of one length ascend with the rows
+    ends-ascend : (i j : ℕ) → i ≤ j → j < rowsOf t → lengthOf t i ≡ k → lengthOf t j ≡ k → endKey t i m ≤ endKey t j m
+    unfolding rowKey lastWords
+    ends-ascend i j l n e f =
+        let y : lengthOf t i - m ≡ k - m = omega arith in
+        let z : lengthOf t j - m ≡ k - m = omega arith in
+        let a = end-above (k - m) (key (drop (k - m) (words t i))) (words t i) (omega (arith, row-size i (omega arith))) (omega arith) in
+        let b = keys-ascend t g i j l n in
+        rw (y, z) (above-end (k - m) (key (drop (k - m) (words t i))) (words t j) (row-words j n) (omega (arith, row-size j n)) (omega arith))
+
+    module _ (r s : ℕ) (h : Least t m floor k r) (b : Bracket t (zeros (k - m) floor) s s) where
+      -- a candidate of fewer words was one before
+      fewer : (i : ℕ) → Candidate t m floor (suc k) i → (Candidate t m floor k i) ⊎ (lengthOf t i ≡ k)
+      fewer i c =
+          ⊎-elim (λ p. inl (record { within = c .within; long = c .long; short = p; above = c .above })) (λ (p : k ≤ lengthOf t i). inr (let q = c .short in omega arith)) (lt-or-ge (lengthOf t i) k)
+
+      -- the bound is not behind a candidate of k words, and has k words itself then
+      not-behind : (i : ℕ) → Candidate t m floor (suc k) i → lengthOf t i ≡ k → s ≤ i
+      not-behind i c e = ⊎-elim (λ p. absurd (let u = b .below i p in let v = bound-key i c e in omega arith)) (λ p. p) (lt-or-ge i s)
+
+      bound-length : (i : ℕ) → Candidate t m floor (suc k) i → lengthOf t i ≡ k → (s < rowsOf t) × (lengthOf t s ≡ k)
+      bound-length i c e =
+          let n = not-behind i c e in
+          let l = c .within in
+          let w : s < rowsOf t = omega arith in
+          (w, let a = bound-long s w (b .above s (omega arith) w) in let d = lengths-ascend t g s i n l in omega arith)
+
+      longer : (i : ℕ) → Candidate t m floor k i → Candidate t m floor (suc k) i
+      longer i c = record { within = c .within; long = c .long; short = let p = c .short in omega arith; above = c .above }
+
+      -- the row at the bound is no candidate of k words: nothing changes
+      pub least-same : (s < rowsOf t → lengthOf t s ≡ k → ⊥) → Least t m floor (suc k) r
+      least-same n = record {
+        within = h .within;
+        one = λ l. longer r (h .one l);
+        least = λ i c. ⊎-elim (λ d. h .least i d) (λ e. absurd (let q = bound-length i c e in n (q .0) (q .1))) (fewer i c);
+      }
+
+      module _ (l : s < rowsOf t) (e : lengthOf t s ≡ k) where
+        -- it is one, and its last words are less, or there was none
+        pub least-new : (r < rowsOf t → endKey t s m < endKey t r m) → Least t m floor (suc k) s
+        least-new n = record {
+          within = omega arith;
+          one = λ _. key-bound s l e (b .above s (omega arith) l);
+          least = λ i c. (
+            l,
+            ⊎-elim
+                (λ d. let q = h .least i d in let u = n (q .0) in let v = q .1 in omega arith)
+                (λ f. ends-ascend s i (not-behind i c f) (c .within) e f)
+                (fewer i c),
+          );
+        }
+
+        -- it is one, and its last words are not less
+        pub least-old : r < rowsOf t → endKey t r m ≤ endKey t s m → Least t m floor (suc k) r
+        least-old w n = record {
+          within = h .within;
+          one = λ p. longer r (h .one p);
+          least = λ i c. (
+            w,
+            ⊎-elim
+                (λ d. h .least i d .1)
+                (λ f. let u = ends-ascend s i (not-behind i c f) (c .within) e f in omega arith)
+                (fewer i c),
+          );
+        }
+
+  -- the row at the bound, of k words, against the best so far, by their keys
+  module _ (m floor k : ℕ) (low : power (m - 1) ≤ floor) (some : 0 < m) (mk : m ≤ k) (r s high₁ low₁ high₂ low₂ : ℕ) (h : Best t m floor k r high₁ low₁) (b : Bracket t (zeros (k - m) floor) s s) (l : s < rowsOf t) (e : lengthOf t s ≡ k) (q : keyOf high₂ low₂ ≡ endKey t s m) where
+    pub best-new : (r < rowsOf t → ltb (keyOf high₂ low₂) (keyOf high₁ low₁) ≡ true) → Best t m floor (suc k) s high₂ low₂
+    best-new n = record {
+      least = least-new m floor k low some mk r s (h .least) b l e less;
+      key-is = λ _. q;
+      absent = λ w o i j f z.
+          let c = key-bound m floor k low some mk s l e (b .above s (omega arith) l) in
+          let d = h .least .least i (record { within = j; long = omega arith; short = omega arith; above = let v = c .above in omega arith }) in
+          let u = less (d .0) in
+          let v = d .1 in
+          omega arith;
+    }
+      where
+        less : r < rowsOf t → endKey t s m < endKey t r m
+        less w = let u = ltb-true (keyOf high₂ low₂) (keyOf high₁ low₁) (n w) in rw (← h .key-is w, ← q) u
+
+    pub best-old : r < rowsOf t → ltb (keyOf high₂ low₂) (keyOf high₁ low₁) ≡ false → Best t m floor (suc k) r high₁ low₁
+    best-old w n = record {
+      least = least-old m floor k low some mk r s (h .least) b l e w (let u = ltb-false (keyOf high₂ low₂) (keyOf high₁ low₁) n in rw (← h .key-is w, ← q) u);
+      key-is = h .key-is;
+      absent = h .absent;
+    }
+
+  pub least-start : (m floor : ℕ) → Least t m floor m (rowsOf t)
+  least-start m floor = record {
+    within = omega arith;
+    one = λ l. absurd (omega arith);
+    least = λ i c. absurd (let a = c .long in let b = c .short in omega arith);
+  }
+
+  pub best-start : (m floor high low : ℕ) → Best t m floor m (rowsOf t) high low
+  best-start m floor high low = record { least = least-start m floor; key-is = λ l. absurd (omega arith); absent = λ l. absurd (omega arith) }
+
+  -- the last words of a longer row are no row if they come next
+  pub best-absent : (m floor to r high low : ℕ) → Best t m floor to r high low → r < rowsOf t → m < lengthOf t r → findIn t (lastWords t r m) ≡ Nothing
+  best-absent m floor to r high low b l h = go (findIn t (lastWords t r m)) refl
+    where
+      go : (f : Found) → findIn t (lastWords t r m) ≡ f → f ≡ Nothing
+      go Nothing e = refl
+      go (At j) e =
+          let w = found-words t (lastWords t r m) j e in
+          let size : lengthOf t j ≡ m = sym (row-size j (w .0)) ∙ ap length (w .1) ∙ last-size t r m l (omega arith) in
+          absurd (b .absent l h j (w .0) size (ap key (ap (lastWords t j) (sym size) ∙ last-all t j ∙ w .1)))
+
+pub best-as : (t : List ℤ) (m floor j k r high low : ℕ) → j ≡ k → Best t m floor j r high low → Best t m floor k r high low
+best-as t m floor j k r high low e b = rw (← e) b
+
+-- ---- the place in the filled list
+
+module _ (t : List ℤ) (a : verdictFor true t ≡ Accepted) where
+  abbrev T : List ℤ
+  T = filledTable t
+
+  good : Good t (rowsOf t)
+  good = checked-good true t a
+
+  goodT : Good T (rowsOf T)
+  goodT = filled-good t good
+
+  -- the last words of a row are a row of the filled list
+  pub last-words-end : (i m : ℕ) → i < rowsOf t → 0 < m → m ≤ lengthOf t i → EndOf t (lastWords t i m)
+  last-words-end i m l s h = go (lastWords t i m) refl
+    where
+      split : words t i ≡ take (lengthOf t i - m) (words t i) ++ lastWords t i m
+      split = unfold lastWords in sym (take-append-drop (lengthOf t i - m) (words t i))
+
+      go : (ws : List ℕ) → lastWords t i m ≡ ws → EndOf t ws
+      go [] e = absurd (omega (arith, last-size t i m l h, ap length e))
+      go (y ∷ []) e = last-alone t a i l (take (lengthOf t i - m) (words t i)) y (split ∙ ap (λ (ws : List ℕ). take (lengthOf t i - m) (words t i) ++ ws) e)
+      go (x ∷ y ∷ ws) e = record {
+        at = i;
+        within = l;
+        front = take (lengthOf t i - m) (words t i);
+        same = split ∙ ap (λ (ws : List ℕ). take (lengthOf t i - m) (words t i) ++ ws) e;
+        long = inr (omega arith);
+      }
+
+  -- and a row of the filled list is the last words of a row
+  row-is-last-words : (j : ℕ) → j < rowsOf T → (i : ℕ) × (i < rowsOf t) × (lengthOf T j ≤ lengthOf t i) × (words T j ≡ lastWords t i (lengthOf T j))
+  unfolding lastWords
+  row-is-last-words j l =
+      let e = filled-end t good j l in
+      let n = row-size T goodT j l in
+      let p : length (e .front) ≡ lengthOf t (e .at) - lengthOf T j = omega (arith, sym (row-size t good (e .at) (e .within)) ∙ ap length (e .same), length-append (e .front) (words T j)) in
+      let q = end-some t good (words T j) e .1 in
+      (e .at, e .within, omega arith, sym (ap (drop (lengthOf t (e .at) - lengthOf T j)) (e .same) ∙ drop-at (e .front) (words T j) (lengthOf t (e .at) - lengthOf T j) p))
+
+  module _ (m floor place r : ℕ) (some : 0 < m) (low : power (m - 1) ≤ floor) (high : floor ≤ power m) (h : Least t m floor (suc (orderOf t)) r) (b : Bracket T floor place place) where
+    -- a row of m words from there on is a candidate
+    candidate : (j : ℕ) → j < rowsOf T → lengthOf T j ≡ m → floor ≤ rowKey T j → (i : ℕ) × Candidate t m floor (suc (orderOf t)) i × (words T j ≡ lastWords t i m)
+    unfolding rowKey
+    candidate j l e f =
+        let c = row-is-last-words j l in
+        let s : words T j ≡ lastWords t (c .0) m = c .3 ∙ ap (lastWords t (c .0)) e in
+        let o = length-order t good (checked-size true t a .0) (c .0) (c .1) in
+        (c .0, record { within = c .1; long = let q = c .2 in omega arith; short = omega arith; above = rw (ap key s) at f }, s)
+
+    from-floor : (j : ℕ) → j < rowsOf T → floor ≤ rowKey T j → m ≤ lengthOf T j
+    unfolding rowKey
+    from-floor j l f =
+        let c = long-enough (m - 1) (words T j) (row-words T goodT j l) (omega arith) in
+        omega (arith, row-size T goodT j l)
+
+    -- the least candidate's last words are the next row
+    module _ (l : r < rowsOf t) where
+      pub next-place : (place < rowsOf T) × (words T place ≡ lastWords t r m)
+      unfolding rowKey
+      next-place =
+          let c = h .one l in
+          let d = last-words-end r m l some (c .long) in
+          let p = filled-finds t good (lastWords t r m) d in
+          let j = p .0 in
+          let k : rowKey T j ≡ endKey t r m = ap key (p .2) in
+          let up : place ≤ j = ⊎-elim (λ q. absurd (let u = b .below j q in let v = c .above in omega arith)) (λ q. q) (lt-or-ge j place) in
+          let w : place < rowsOf T = let q = p .1 in omega arith in
+          let f = b .above place (omega arith) w in
+          let n = from-floor place w f in
+          let size : lengthOf T place ≡ m = let q = lengths-ascend T goodT place j up (p .1) in omega (arith, row-size T goodT j (p .1), ap length (p .2), last-size t r m l (c .long)) in
+          let x = candidate place w size f in
+          let y = h .least (x .0) (x .1) .1 in
+          let z = keys-ascend T goodT place j up (p .1) in
+          let same : key (words T place) ≡ key (lastWords t r m) = omega (arith, ap key (x .2)) in
+          (w, key-unique (words T place) (lastWords t r m) (row-words T goodT place w) (end-words t good (lastWords t r m) d) same)
+
+      pub next-row : words T place ≡ lastWords t r m
+      next-row = next-place .1
+
+      pub next-bracket : Bracket T (endKey t r m + 1) (place + 1) (place + 1)
+      unfolding rowKey
+      next-bracket =
+          let w = next-place .0 in
+          let e : rowKey T place ≡ endKey t r m = ap key next-row in
+          record {
+            order = omega arith;
+            within = omega arith;
+            below = λ j q. let u = keys-ascend T goodT j place (omega arith) w in omega arith;
+            above = λ j q n. let u = ascend-key T (rowsOf T) place j goodT (omega arith) n in omega arith;
+          }
+
+      pub next-low : power (m - 1) ≤ endKey t r m + 1
+      next-low = let c = h .one l .above in omega arith
+
+      pub next-high : endKey t r m + 1 ≤ power m
+      next-high =
+          let c = h .one l in
+          let e = key-below (lastWords t r m) (end-words t good (lastWords t r m) (last-words-end r m l some (c .long))) in
+          let q : key (lastWords t r m) < power m = rw (last-size t r m l (c .long)) at e in
+          omega arith
+
+    -- no candidate: the next row has more words
+    pub next-length : r ≡ rowsOf t → Bracket T (power m) place place
+    unfolding rowKey
+    next-length e = record {
+      order = omega arith;
+      within = b .within;
+      below = λ j q.
+          let v = b .below j q in
+          omega arith;
+      above = λ j q w.
+          ⊎-elim
+          (λ (u : rowKey T j < power m).
+          let f = b .above j q w in
+          let n = from-floor j w f in
+          let s = short-enough m (words T j) (row-words T goodT j w) u in
+          let c = candidate j w (omega (arith, row-size T goodT j w)) f in
+          absurd (let v = h .least (c .0) (c .1) .0 in omega arith))
+          (λ u. u)
+          (lt-or-ge (rowKey T j) (power m));
+    }
+
+  -- past the longest rows there is no row left
+  pub next-end : (floor place : ℕ) → power (orderOf t) ≤ floor → Bracket T floor place place → place ≡ rowsOf T
+  unfolding rowKey
+  next-end floor place n b = ⊎-elim (λ l. absurd (longer l)) (λ l. let w = b .within in omega arith) (lt-or-ge place (rowsOf T))
+    where
+      longer : place < rowsOf T → ⊥
+      longer l =
+          let v = b .above place (omega arith) l in
+          let f = long-enough (orderOf t) (words T place) (row-words T goodT place l) (omega arith) in
+          let o = length-order T goodT (omega arith) place l in
+          omega (arith, filled-order t good (checked-size true t a .0), row-size T goodT place l)
+
+  pub next-start : Bracket T (power 0) 0 0
+  unfolding rowKey
+  next-start = record {
+    order = omega arith;
+    within = omega arith;
+    below = λ j q. absurd (omega arith);
+    above = λ j q w. ⊎-elim (λ u. absurd (let s = short-enough 0 (words T j) (row-words T goodT j w) u in let n = goodT .row j w .some in omega (arith, row-size T goodT j w))) (λ u. u) (lt-or-ge (rowKey T j) (power 0));
+  }
+
+  -- ---- filling under way: the next row has m words or more, and a key from the floor on
+
+  pub record Filling (n m high low place : ℕ) : Type 0 where
+    pub order-is : n ≡ orderOf t
+    pub some : 0 < m
+    pub within : m ≤ suc n
+    pub from : power (m - 1) ≤ keyOf high low
+    pub to : keyOf high low ≤ power m
+    pub bracket : Bracket T (keyOf high low) place place
+
+  order-five : orderOf t ≤ orderLimit
+  unfolding orderOf
+  order-five = length-limit t (rowsOf t - 1)
+
+  pub filling-starts : (n : ℕ) → n ≡ orderOf t → Filling n 1 0 1 0
+  unfolding power zeros
+  filling-starts n e = record { order-is = e; some = omega arith; within = omega arith; from = omega arith; to = omega arith; bracket = next-start }
+
+  module _ (n m high low place : ℕ) (f : Filling n m high low place) where
+    pub filling-ends : n < m → place ≡ rowsOf T
+    filling-ends l =
+        let e : m - 1 ≡ orderOf t = let w = f .within in omega (arith, f .order-is) in
+        next-end (keyOf high low) place (rw e at (f .from)) (f .bracket)
+
+    module _ (l : m ≤ n) where
+      pub filling-asks : (0 < m) × (m ≤ n) × (n ≤ orderLimit) × (power (m - 1) ≤ keyOf high low) × (keyOf high low ≤ power m)
+      filling-asks = (f .some, l, omega (arith, order-five, f .order-is), f .from, f .to)
+
+      module _ (r high′ low′ : ℕ) (b : Best t m (keyOf high low) (suc n) r high′ low′) where
+        best : Least t m (keyOf high low) (suc (orderOf t)) r
+        best = rw (f .order-is) at (b .least)
+
+        module _ (w : r < rowsOf t) where
+          pub filling-row : (place < rowsOf T) × (words T place ≡ lastWords t r m)
+          filling-row = next-place m (keyOf high low) place r (f .some) (f .from) (f .to) best (f .bracket) w
+
+          pub filling-high : high′ < radix
+          unfolding power zeros
+          filling-high =
+              let u = next-high m (keyOf high low) place r (f .some) (f .from) (f .to) best (f .bracket) w in
+              let v = power-le m orderLimit (omega (arith, order-five, f .order-is)) in
+              let x = b .key-is w in
+              omega arith
+
+          pub filling-on : (high″ low″ : ℕ) → keyOf high″ low″ ≡ keyOf high′ low′ + 1 → Filling n m high″ low″ (place + 1)
+          filling-on high″ low″ e =
+              let x : keyOf high″ low″ ≡ endKey t r m + 1 = e ∙ ap (λ (k : ℕ). k + 1) (b .key-is w) in
+              record {
+                order-is = f .order-is;
+                some = f .some;
+                within = f .within;
+                from = rw x (next-low m (keyOf high low) place r (f .some) (f .from) (f .to) best (f .bracket) w);
+                to = rw x (next-high m (keyOf high low) place r (f .some) (f .from) (f .to) best (f .bracket) w);
+                bracket = rw x (next-bracket m (keyOf high low) place r (f .some) (f .from) (f .to) best (f .bracket) w);
+              }
+
+        pub filling-longer : r ≡ rowsOf t → (high″ low″ : ℕ) → keyOf high″ low″ ≡ zeros m 1 → Filling n (m + 1) high″ low″ place
+        unfolding power
+        filling-longer e high″ low″ x =
+            let y : m + 1 - 1 ≡ m = omega arith in
+            record {
+              order-is = f .order-is;
+              some = omega arith;
+              within = omega arith;
+              from = rw (x, y) (omega arith);
+              to = rw x (power-le m (m + 1) (omega arith));
+              bracket = rw x (next-length m (keyOf high low) place r (f .some) (f .from) (f .to) best (f .bracket) e);
+            }
+
+    pub zeros-room : m ≤ n → zeros m 1 ≤ power orderLimit
+    unfolding power
+    zeros-room l = power-le m orderLimit (omega (arith, order-five, f .order-is))

@@ -1,0 +1,246 @@
+-- What it says of a list that filling it is not refused. Assumes nothing.
+use mathlib.Core.Path.{_≡_, refl, sym, ap, _∙_}
+use mathlib.Core.Logic.{⊎-elim}
+use mathlib.Core.Bool.{Bool, true, false, cond}
+use mathlib.Core.List.{List, [], _∷_, List·Memᴰ·head, List·Memᴰ·tail}
+use Prim.Native.Nat.{ℕ, zero, suc, _+_, _*_, _-_, _≤_, _<_}
+use native.Mathlib.Omega.{arith}
+use lib.Dec.{leb, lit<}
+use lib.ListN.{length, getD, drop}
+use lib.Seq.{drop-cons}
+use lib.IntN.{ℤ}
+use borrow.Author.Tests.{leb-true, le-leb, lt-leb}
+use Rattle.integer.proofs.Ranges.{lt-or-ge, and-left, and-right}
+use Rattle.backoff.specs.Limits.{rowLimit}
+use Rattle.backoff.specs.Refusal.{numberOf, placeOf, tableLength, rowProbability, shortSlice}
+use Rattle.backoff.specs.Model.{inProbability}
+use Rattle.backoff.specs.Run.{written}
+use Rattle.backoff.specs.declared.Verdict.{Verdict}
+use Rattle.backoff.specs.declared.Verdict.the-variants.{Accepted, Refused}
+use Rattle.list.specs.Table.{rowsOf, lengthOf, words}
+use Rattle.list.specs.Search.{findIn, isAt}
+use Rattle.list.specs.Check.{refuse, verdictFor}
+use Rattle.list.specs.declared.Found.the-variants.{Nothing}
+use Rattle.list.proofs.Table.{row-in, words-length}
+use Rattle.list.proofs.Check.{cond-accepted, refuse-accepted, refuse-number, accepted-refused, checked-number}
+use Rattle.filling.specs.Filled.{withoutFirstWords, addedProbability, filledRows, filledTable}
+use Rattle.filling.specs.Fill.{addable, allAddable, neededFault, sizeVerdict, neededScan, andThen, fillVerdict, filledBy, fillOutcome, IsFilled}
+use Rattle.filling.specs.Steps.{FirstNeeding, Checks}
+use Rattle.filling.specs.Next.{lastWords}
+use Rattle.filling.proofs.Ascending.{In}
+use Rattle.filling.proofs.WithoutFirstWords.{without-nil, without-more, without-none}
+use Rattle.filling.proofs.Next.{last-size, last-all}
+
+pub record Fills (t : List ℤ) (size : ℕ) : Type 0 where
+  pub checked : verdictFor true t ≡ Accepted
+  pub needed : (i : ℕ) → i < rowsOf t → neededFault t i ≡ 0
+  pub few : length (filledRows t) ≤ rowLimit
+  pub fits : 8 * length (filledRows t) ≤ size
+
+module _ (t : List ℤ) (size : ℕ) where
+  size-accepted : sizeVerdict t size ≡ Accepted → (length (filledRows t) ≤ rowLimit) × (8 * length (filledRows t) ≤ size)
+  unfolding sizeVerdict
+  size-accepted e =
+      let f = cond-accepted (leb (length (filledRows t)) rowLimit) (cond (leb (8 * length (filledRows t)) size) Accepted (Refused shortSlice 0)) tableLength 0 e in
+      let s = cond-accepted (leb (8 * length (filledRows t)) size) Accepted shortSlice 0 (f .1) in
+      (leb-true (length (filledRows t)) rowLimit (f .0), leb-true (8 * length (filledRows t)) size (s .0))
+
+  needed-accepted : (i k q : ℕ) → neededScan t size i k ≡ Accepted → i ≤ q → q < i + k → neededFault t q ≡ 0
+  unfolding neededScan
+  needed-accepted i zero q e l m = absurd (omega arith)
+  needed-accepted i (suc k) q e l m =
+      let p = refuse-accepted (neededFault t i) i (neededScan t size (suc i) k) e in
+      ⊎-elim (λ o. needed-accepted (suc i) k q (p .1) o (omega arith)) (λ o. let z : q ≡ i = omega arith in rw z (p .0)) (lt-or-ge i q)
+
+  needed-sizes : (i k : ℕ) → neededScan t size i k ≡ Accepted → sizeVerdict t size ≡ Accepted
+  unfolding neededScan
+  needed-sizes i zero e = e
+  needed-sizes i (suc k) e = needed-sizes (suc i) k (refuse-accepted (neededFault t i) i (neededScan t size (suc i) k) e .1)
+
+  then-accepted : (u v : Verdict) → andThen u v ≡ Accepted → (u ≡ Accepted) × (v ≡ Accepted)
+  then-accepted Accepted v e = (refl, e)
+  then-accepted (Refused n p) v e = absurd (accepted-refused n p e)
+
+  pub fill-accepted : fillVerdict t size ≡ Accepted → Fills t size
+  unfolding fillVerdict
+  fill-accepted e =
+      let b = then-accepted (verdictFor true t) (neededScan t size 0 (rowsOf t)) e in
+      let s = size-accepted (needed-sizes 0 (rowsOf t) (b .1)) in
+      record { checked = b .0; needed = λ i l. needed-accepted 0 (rowsOf t) i (b .1) (omega arith) (omega arith); few = s .0; fits = s .1 }
+
+  -- a refusal's number is never 0
+  size-number : numberOf (sizeVerdict t size) ≡ 0 → sizeVerdict t size ≡ Accepted
+  unfolding sizeVerdict
+  size-number = go (leb (length (filledRows t)) rowLimit) (leb (8 * length (filledRows t)) size)
+    where
+      go : (b c : Bool) → numberOf (cond b (cond c Accepted (Refused shortSlice 0)) (Refused tableLength 0)) ≡ 0 → cond b (cond c Accepted (Refused shortSlice 0)) (Refused tableLength 0) ≡ Accepted
+      go true true e = refl
+      go true false e = absurd (omega arith)
+      go false c e = absurd (omega arith)
+
+  needed-number : (i k : ℕ) → numberOf (neededScan t size i k) ≡ 0 → neededScan t size i k ≡ Accepted
+  unfolding neededScan
+  needed-number i zero e = size-number e
+  needed-number i (suc k) e = refuse-number (neededFault t i) i (neededScan t size (suc i) k) (needed-number (suc i) k) e
+
+  then-number : (u v : Verdict) → (numberOf u ≡ 0 → u ≡ Accepted) → (numberOf v ≡ 0 → v ≡ Accepted) → numberOf (andThen u v) ≡ 0 → andThen u v ≡ Accepted
+  then-number Accepted v f g e = g e
+  then-number (Refused n p) v f g e = f e
+
+  pub fill-number : numberOf (fillVerdict t size) ≡ 0 → fillVerdict t size ≡ Accepted
+  unfolding fillVerdict
+  fill-number = then-number (verdictFor true t) (neededScan t size 0 (rowsOf t)) (checked-number true t) (needed-number 0 (rowsOf t))
+
+-- the p of an added row is in range where no row needs one that is not
+module _ (t : List ℤ) where
+  each-addable : (rows : List (List ℕ)) → allAddable t rows ≡ true → (ws : List ℕ) → In ws rows → addable t ws ≡ true
+  unfolding allAddable
+  each-addable (vs ∷ rows) e ws (List·Memᴰ·head q) = rw q (and-left (addable t vs) (allAddable t rows) e)
+  each-addable (vs ∷ rows) e ws (List·Memᴰ·tail m) = each-addable rows (and-right (addable t vs) (allAddable t rows) e) ws m
+
+  fault-none : (b : Bool) → cond b 0 rowProbability ≡ 0 → b ≡ true
+  fault-none true e = refl
+  fault-none false e = absurd (omega arith)
+
+  pub needed-in-range : (i : ℕ) (ws : List ℕ) → neededFault t i ≡ 0 → In ws (withoutFirstWords (words t i)) → findIn t ws ≡ Nothing → inProbability (addedProbability t ws) ≡ true
+  unfolding neededFault addable
+  needed-in-range i ws e m f =
+      let a = each-addable (withoutFirstWords (words t i)) (fault-none (allAddable t (withoutFirstWords (words t i))) e) ws m in
+      rw f at a
+
+pub addable-listed : (t : List ℤ) (ws : List ℕ) → isAt (findIn t ws) ≡ true → addable t ws ≡ true
+unfolding addable
+addable-listed t ws e = rw e
+
+pub addable-unlisted : (t : List ℤ) (ws : List ℕ) → isAt (findIn t ws) ≡ false → addable t ws ≡ inProbability (addedProbability t ws)
+unfolding addable
+addable-unlisted t ws e = rw e
+
+-- ---- 5 at one row, as the code goes through it
+
+module _ (t : List ℤ) (i : ℕ) (l : i < rowsOf t) where
+  last-cons : (m : ℕ) → m < lengthOf t i → lastWords t i (suc m) ≡ getD (words t i) (lengthOf t i - suc m) 0 ∷ lastWords t i m
+  unfolding lastWords
+  last-cons m h =
+      let e : suc (lengthOf t i - suc m) ≡ lengthOf t i - m = omega arith in
+      drop-cons (words t i) (lengthOf t i - suc m) 0 (omega (arith, words-length t i (row-in t i l)))
+      ∙ ap {B = List ℕ} (λ k. getD (words t i) (lengthOf t i - suc m) 0 ∷ drop k (words t i)) e
+
+  -- what is left to look at
+  unfoldable pub leftFault : ℕ → ℕ
+  leftFault m = cond (allAddable t (withoutFirstWords (lastWords t i m))) 0 rowProbability
+
+  pub left-all : (k : ℕ) → k ≡ lengthOf t i → leftFault k ≡ neededFault t i
+  unfolding leftFault neededFault
+  left-all k e = ap (λ (ws : List ℕ). cond (allAddable t (withoutFirstWords ws)) 0 rowProbability) (ap (lastWords t i) e ∙ last-all t i)
+
+  module _ (m : ℕ) (two : 2 < m) (h : m ≤ lengthOf t i) where
+    left-step : withoutFirstWords (lastWords t i m) ≡ lastWords t i (m - 1) ∷ withoutFirstWords (lastWords t i (m - 1))
+    left-step =
+        let e : m ≡ suc (m - 1) = omega arith in
+        ap withoutFirstWords (ap (lastWords t i) e ∙ last-cons (m - 1) (omega arith))
+        ∙ without-more _ (lastWords t i (m - 1)) (omega (arith, last-size t i (m - 1) l (omega arith)))
+
+    pub left-fails : addable t (lastWords t i (m - 1)) ≡ false → leftFault m ≡ rowProbability
+    unfolding leftFault allAddable
+    left-fails e = rw (left-step, e)
+
+    pub left-passes : addable t (lastWords t i (m - 1)) ≡ true → leftFault m ≡ leftFault (m - 1)
+    unfolding leftFault allAddable
+    left-passes e = rw (left-step, e)
+
+  pub left-none : (m : ℕ) → m ≤ 2 → m ≤ lengthOf t i → leftFault m ≡ 0
+  unfolding leftFault allAddable
+  left-none m two h = go (lastWords t i m) (last-size t i m l h)
+    where
+      go : (ws : List ℕ) → length ws ≡ m → cond (allAddable t (withoutFirstWords ws)) 0 rowProbability ≡ 0
+      go [] e = rw without-nil
+      go (w ∷ ws) e = rw (without-none w ws (lt-leb 2 (length ws) (omega arith)))
+
+-- ---- the refusals, as the code goes through them
+
+module _ (t : List ℤ) where
+  pub fault-five : (i : ℕ) → (neededFault t i ≡ 0 → ⊥) → neededFault t i ≡ rowProbability
+  unfolding neededFault
+  fault-five i n = go (allAddable t (withoutFirstWords (words t i))) n
+    where
+      go : (b : Bool) → (cond b 0 rowProbability ≡ 0 → ⊥) → cond b 0 rowProbability ≡ rowProbability
+      go true n = absurd (n refl)
+      go false n = refl
+
+  module _ (size : ℕ) (a : verdictFor true t ≡ Accepted) (r : ℕ) (f : FirstNeeding t r) where
+    scan-needing : (i k : ℕ) → r < rowsOf t → i + k ≡ rowsOf t → i ≤ r → neededScan t size i k ≡ Refused rowProbability (r + 1)
+    unfolding neededScan
+    scan-needing i zero l e h = absurd (omega arith)
+    scan-needing i (suc k) l e h =
+        ⊎-elim
+        (λ p. ap (λ (n : ℕ). refuse n i (neededScan t size (suc i) k)) (f .none i p) ∙ scan-needing (suc i) k l (omega arith) p)
+        (λ (p : r ≤ i). let z : r ≡ i = omega arith in rw (← z, f .one l))
+        (lt-or-ge i r)
+
+    scan-passing : (i k : ℕ) → r ≡ rowsOf t → i + k ≡ rowsOf t → neededScan t size i k ≡ sizeVerdict t size
+    unfolding neededScan
+    scan-passing i zero l e = refl
+    scan-passing i (suc k) l e = ap (λ (n : ℕ). refuse n i (neededScan t size (suc i) k)) (f .none i (omega arith)) ∙ scan-passing (suc i) k l (omega arith)
+
+    fill-then : fillVerdict t size ≡ neededScan t size 0 (rowsOf t)
+    unfolding fillVerdict
+    fill-then = ap (λ (v : Verdict). andThen v (neededScan t size 0 (rowsOf t))) a
+
+    checks-refused : (n p rows : ℕ) → 0 < n → fillVerdict t size ≡ Refused n p → Checks t size n p rows
+    checks-refused n p rows l e = record { number-is = sym (ap numberOf e); place-is = sym (ap placeOf e); accepted = λ z. absurd (omega arith); rows-are = λ z. absurd (omega arith) }
+
+    pub checks-five : (rows : ℕ) → r < rowsOf t → Checks t size rowProbability (r + 1) rows
+    checks-five rows l = checks-refused rowProbability (r + 1) rows (lit< tt) (fill-then ∙ scan-needing 0 (rowsOf t) l (omega arith) (omega arith))
+
+    module _ (e : r ≡ rowsOf t) (count : ℕ) (c : count ≡ length (filledRows t)) where
+      sized : fillVerdict t size ≡ sizeVerdict t size
+      sized = fill-then ∙ scan-passing 0 (rowsOf t) e (omega arith)
+
+      pub checks-many : (rows : ℕ) → rowLimit < count → Checks t size tableLength 0 rows
+      unfolding sizeVerdict
+      checks-many rows l = checks-refused tableLength 0 rows (lit< tt) (sized ∙ rw (lt-leb (length (filledRows t)) rowLimit (omega arith)))
+
+      module _ (few : count ≤ rowLimit) where
+        pub checks-short : (rows : ℕ) → size < 8 * count → Checks t size shortSlice 0 rows
+        unfolding sizeVerdict
+        checks-short rows l = checks-refused shortSlice 0 rows (lit< tt) (sized ∙ rw (le-leb (length (filledRows t)) rowLimit (omega arith), lt-leb (8 * length (filledRows t)) size (omega arith)))
+
+        pub checks-none : 8 * count ≤ size → Checks t size 0 0 count
+        unfolding sizeVerdict
+        checks-none l =
+            let v : fillVerdict t size ≡ Accepted = sized ∙ rw (le-leb (length (filledRows t)) rowLimit (omega arith), le-leb (8 * length (filledRows t)) size (omega arith)) in
+            record { number-is = sym (ap numberOf v); place-is = sym (ap placeOf v); accepted = λ _. v; rows-are = λ _. c }
+
+pub checks-as : (t : List ℤ) (size n p rows n′ p′ : ℕ) → n′ ≡ n → p′ ≡ p → Checks t size n p rows → Checks t size n′ p′ rows
+checks-as t size n p rows n′ p′ e f c = rw (e, f) c
+
+-- ---- the outcome
+
+module _ (t second : List ℤ) where
+  outcome-by : (v : Verdict) → fillVerdict t (length second) ≡ v → filledBy t second v ≡ fillOutcome t second
+  unfolding fillOutcome
+  outcome-by v e = ap (filledBy t second) (sym e)
+
+  refused-by : (n p : ℕ) → fillVerdict t (length second) ≡ Refused n p → IsFilled (fillOutcome t second) n p 0 second
+  refused-by n p e = rw (← outcome-by (Refused n p) e) (record { number-is = refl; place-is = refl; rows-are = refl; table-is = refl })
+
+  -- refused by the checks of the list
+  pub outcome-unchecked : (n p : ℕ) → verdictFor true t ≡ Refused n p → IsFilled (fillOutcome t second) n p 0 second
+  unfolding fillVerdict
+  outcome-unchecked n p e = refused-by n p (ap (λ (v : Verdict). andThen v (neededScan t (length second) 0 (rowsOf t))) e)
+
+  module _ (number place rows : ℕ) (c : Checks t (length second) number place rows) where
+    -- refused by 5, 1 or 15
+    pub outcome-refused : (number ≡ 0 → ⊥) → IsFilled (fillOutcome t second) number place 0 second
+    outcome-refused n = go (fillVerdict t (length second)) refl
+      where
+        go : (v : Verdict) → fillVerdict t (length second) ≡ v → IsFilled (fillOutcome t second) number place 0 second
+        go Accepted e = absurd (n (c .number-is ∙ ap numberOf e))
+        go (Refused m p) e = rw (c .number-is ∙ ap numberOf e, c .place-is ∙ ap placeOf e) (refused-by m p e)
+
+    pub outcome-accepted : number ≡ 0 → (filled : List ℤ) → filled ≡ written (filledTable t) second → IsFilled (fillOutcome t second) 0 0 rows filled
+    outcome-accepted z filled e = rw (← outcome-by Accepted (c .accepted z)) (record { number-is = refl; place-is = refl; rows-are = c .rows-are z; table-is = e })
+
+pub counted-few : (t : List ℤ) (size number place rows : ℕ) → Checks t size number place rows → number ≡ 0 → (rows ≤ rowLimit) × (8 * length (filledRows t) ≤ size)
+counted-few t size number place rows c z = let f = fill-accepted t size (c .accepted z) in (omega (arith, c .rows-are z, f .few), f .fits)

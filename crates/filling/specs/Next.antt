@@ -1,0 +1,44 @@
+-- How filling goes about it: which of the sequences comes next. Only contracts of inner functions cite these. Assumes nothing.
+use mathlib.Core.Path.{_≡_}
+use mathlib.Core.List.{List}
+use Prim.Native.Nat.{ℕ, zero, suc, _*_, _-_, _≤_, _<_}
+use lib.ListN.{drop}
+use lib.IntN.{ℤ}
+use Rattle.backoff.specs.Words.{radix, key}
+use Rattle.list.specs.Table.{rowsOf, lengthOf, words}
+use Rattle.list.specs.Keys.{keyOf}
+
+-- the key k with j zeros put in front
+unfoldable pub zeros : ℕ → ℕ → ℕ
+zeros zero k = k
+zeros (suc j) k = radix * zeros j k
+
+-- the least number above the keys of j words
+unfoldable pub power : ℕ → ℕ
+power j = zeros j 1
+
+-- the last m words of row i
+unfoldable pub lastWords : List ℤ → ℕ → ℕ → List ℕ
+lastWords t i m = drop (lengthOf t i - m) (words t i)
+
+abbrev pub endKey : List ℤ → ℕ → ℕ → ℕ
+endKey t i m = key (lastWords t i m)
+
+-- row i has m words or more, but fewer than `to`, and the key of its last m words is not below `floor`
+pub record Candidate (t : List ℤ) (m floor to i : ℕ) : Type 0 where
+  pub within : i < rowsOf t
+  pub long : m ≤ lengthOf t i
+  pub short : lengthOf t i < to
+  pub above : floor ≤ endKey t i m
+
+-- of the candidates, row r has the least last m words; there are none if r is the number of rows
+pub record Least (t : List ℤ) (m floor to r : ℕ) : Type 0 where
+  pub within : r ≤ rowsOf t
+  pub one : r < rowsOf t → Candidate t m floor to r
+  pub least : (i : ℕ) → Candidate t m floor to i → (r < rowsOf t) × (endKey t r m ≤ endKey t i m)
+
+-- the same with the key of these words, as the code holds it; of more than m words it is only if no row of m words has them
+pub record Best (t : List ℤ) (m floor to row high low : ℕ) : Type 0 where
+  pub least : Least t m floor to row
+  pub key-is : row < rowsOf t → keyOf high low ≡ endKey t row m
+  pub absent : row < rowsOf t → m < lengthOf t row → (i : ℕ) → i < rowsOf t → lengthOf t i ≡ m → endKey t i m ≡ endKey t row m → ⊥
