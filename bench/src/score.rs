@@ -101,7 +101,7 @@ pub fn begin<S: State>(base: &[i32], check: &[i32], order: usize) -> Option<S> {
 }
 
 /// A word of a run: behind a 3 the state is start's.
-#[inline]
+#[inline(always)]
 pub fn score<S: State>(state: &mut S, base: &[i32], check: &[i32], order: usize, word: u32) -> Option<(i32, u8)> {
     let scored = state.step(base, check, order, word)?;
     if word == 3 {
