@@ -10,16 +10,16 @@ use lib.Dec.{eqb, leb, ltb}
 use lib.ListN.{length, getD}
 use lib.IntN.{ℤ, pos, negsuc, negℤ, natAbs, _+ℤ_, _*ℤ_}
 use lib.Signed.{leZ, ltZ, _≤ℤ_}
-use borrow.Author.Tests.{lt-ltb, le-leb, eq-eqb}
+use borrow.Author.Tests.{leb-false, lt-ltb, le-leb, eq-eqb}
 use Rattle.integer.specs.Integer.{eqZ, between, bit, twice, half, odd}
 use Rattle.integer.proofs.Arithmetic.{zarith, add, sub, mul, shr, abs}
 use Rattle.integer.proofs.Ranges.{and-left, and-right, and-both, between-low, between-high, between-yes}
 use Rattle.integer.proofs.Halving.{half-twice, odd-twice, half-odd, bit-bounds}
-use Rattle.backoff.specs.Limits.{largestBackoff, orderLimit, rowLimit, slotLimit}
-use Rattle.backoff.specs.Words.{isWord}
+use Rattle.backoff.specs.Limits.{leastProbability, largestBackoff, wordLimit, orderLimit, rowLimit, slotLimit}
+use Rattle.backoff.specs.Words.{isWord, radix}
 use Rattle.backoff.specs.Model.{inProbability, inBackoff}
 use Rattle.backoff.specs.Store.{broken, here, Store}
-use Rattle.double_array.specs.DoubleArray.{freeCheck, headCheck, markerCheck, markerBase, markerOf, childSlot, baseAt, checkAt, markerAt, childAt, rootChild, downTo, lookFrom, sizesOk, orderOk, headOk, isArray, orderIn, lookRow, storeIn, opened}
+use Rattle.double_array.specs.DoubleArray.{freeCheck, headCheck, markerCheck, markerBase, markerOf, childSlot, baseAt, checkAt, markerAt, ownedBy, childAt, rootChild, downTo, lookFrom, sizesOk, orderOk, headOk, isArray, orderIn, lookRow, storeIn, opened}
 use Rattle.double_array.specs.declared.Marker.{Marker}
 use Rattle.double_array.specs.declared.Marker.the-variants.{Sound, Broken}
 use Rattle.double_array.specs.declared.Child.the-variants.{At, Nothing}
@@ -150,6 +150,32 @@ module _ (base check : List ℤ) (s w t : ℕ) where
 
   pub child-inside : childAt base check s w ≡ At t → t < length check
   child-inside h = child-told h .inside
+
+-- where the node's marker is sound, the slot that BASE names for a number below the radix tells the child alone: for 0 it is the marker's, whose CHECK is negative
+module _ (base check : List ℤ) (s w : ℕ) (p b : ℤ) (e f : Bool) (sound : markerAt base check s ≡ Sound p b e f) (small : w < radix) where
+  abbrev d : ℤ
+  d = baseAt base check s
+
+  m : IsMarker base check s p b e f
+  m = marker-told base check s p b e f sound
+
+  marker-unowned : eqZ (checkAt base check (natAbs d)) (pos s) ≡ false
+  unfolding inProbability
+  marker-unowned = let high = between-high leastProbability (pos 0) p (m .p-in-range) in omega (zarith, m .p-packed, sub p (pos 1))
+
+  pub child-owned : childAt base check s w ≡ ownedBy check s (childSlot (natAbs d) w)
+  unfolding childAt isWord
+  child-owned = go (leb 1 w) refl
+    where
+      low : leZ (pos 1) d ≡ true
+      low = let l = m .some-base in omega zarith
+
+      go : (t : Bool) → leb 1 w ≡ t → cond ((t && leb w wordLimit) && (leZ (pos 1) d && (ltb (childSlot (natAbs d) w) (length check) && eqZ (checkAt base check (childSlot (natAbs d) w)) (pos s)))) (At (childSlot (natAbs d) w)) Nothing ≡ ownedBy check s (childSlot (natAbs d) w)
+      go true h = rw (le-leb w wordLimit (omega arith), low)
+      go false h =
+          let z = leb-false 1 w h in
+          let k : childSlot (natAbs d) w ≡ natAbs d = omega arith in
+          rw (k, lt-ltb (natAbs d) (length check) (m .inside), marker-unowned)
 
 -- a slot has one CHECK, so it is the child of one node for one word
 pub child-unique : (base check : List ℤ) (s w r v t : ℕ) → childAt base check s w ≡ At t → childAt base check r v ≡ At t → (s ≡ r) × (w ≡ v)

@@ -47,6 +47,10 @@ markerOf check base =
 abbrev pub childSlot : ℕ → ℕ → ℕ
 childSlot d w = d + w
 
+-- slot t as a child of the node in slot s: "d + w < N and CHECK[d + w] = s"
+abbrev pub ownedBy : List ℤ → ℕ → ℕ → Child
+ownedBy check s t = cond (ltb t (length check) && eqZ (getD check t freeCheck) (pos s)) (At t) Nothing
+
 module _ (base check : List ℤ) where
   abbrev pub baseAt : ℕ → ℤ
   baseAt s = getD base s (pos 0)

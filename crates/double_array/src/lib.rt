@@ -6,7 +6,7 @@ ghost use Prim.Native.Nat.{ℕ, _≤_, _<_};
 ghost use lib.ListN.{length, replicate};
 ghost use Rattle.backoff.specs.Limits.{orderLimit, slotLimit};
 ghost use Rattle.backoff.specs.Model.{inProbability, inBackoff};
-ghost use Rattle.double_array.specs.DoubleArray.{headCheck, markerCheck, markerBase, markerOf, markerAt, childAt, rootChild, lookFrom, sizesOk, orderOk, headOk, isArray, orderIn};
+ghost use Rattle.double_array.specs.DoubleArray.{headCheck, markerCheck, markerBase, markerOf, markerAt, ownedBy, childAt, rootChild, lookFrom, sizesOk, orderOk, headOk, isArray, orderIn};
 ghost use Rattle.double_array.specs.Lookup.{lookupOf, lookupOutcome, numberOf, placeOf, foundOf, pOf, bOf, leftOf, LookupMeans};
 
 // CHECK of a free slot; its BASE is 0.
@@ -109,6 +109,17 @@ pub fn read_marker(base: &[i32], check: &[i32], s: usize) -> Marker
     marker_of(check[t], base[t])
 }
 
+// Slot t as a child of the node in slot s: CHECK there names its parent.
+pub fn owned_by(check: &[i32], s: usize, t: usize) -> Child
+    requires { ⌜ s < slotLimit ⌝ }
+    ensures { λ r. ⌜ r ≡ ownedBy (now (check .entry)) s t ⌝ }
+{
+    if t < check.len() && check[t] == s as i32 {
+        return Child::At(t);
+    }
+    Child::Nothing
+}
+
 // The child for word w of the node in slot s.
 pub fn find_child(base: &[i32], check: &[i32], s: usize, w: u32) -> Child
     requires { ⌜ s < length (now base) ⌝ }
@@ -120,11 +131,7 @@ pub fn find_child(base: &[i32], check: &[i32], s: usize, w: u32) -> Child
     if !((1 <= w) & (w <= backoff::WORD_LIMIT as u32) & (1 <= d)) {
         return Child::Nothing;
     }
-    let t = d as usize + w as usize;
-    if t < check.len() && check[t] == s as i32 {
-        return Child::At(t);
-    }
-    Child::Nothing
+    owned_by(check, s, d as usize + w as usize)
 }
 
 // The root's child for word w, without a look at BASE[0], which is 1 in every array.
@@ -134,11 +141,7 @@ pub fn root_child(check: &[i32], w: u32) -> Child
     if !((1 <= w) & (w <= backoff::WORD_LIMIT as u32)) {
         return Child::Nothing;
     }
-    let t = 1 + w as usize;
-    if t < check.len() && check[t] == 0 {
-        return Child::At(t);
-    }
-    Child::Nothing
+    owned_by(check, 0, 1 + w as usize)
 }
 
 // Whether BASE and CHECK have lengths that an array can have.

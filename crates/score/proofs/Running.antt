@@ -17,13 +17,13 @@ use Rattle.backoff.specs.Limits.{unknownWord, orderLimit, largestBackoff}
 use Rattle.backoff.specs.Refusal.{brokenNode}
 use Rattle.backoff.specs.Model.{inProbability, probability}
 use Rattle.backoff.specs.Rule.{lengthByte, replaced}
-use Rattle.backoff.specs.State.{State as Carried, matchedFrom, extendedFrom, stepPoints, stepByte, stepNext}
+use Rattle.backoff.specs.State.{State as Carried, pointsFrom, matchedFrom, extendedFrom, nextFrom}
 use Rattle.backoff.specs.Run.{written, acceptedRun}
 use Rattle.backoff.specs.NineNumbers.{nine}
-use Rattle.backoff.specs.Store.{Store, modelIn, scored, stuck, step, Ran, ran, refusedAt, before, onward, runOver, brokenRun, ranAnswer}
+use Rattle.backoff.specs.Store.{Store, modelIn, scored, stuck, wordStep, step, Ran, ran, refusedAt, before, onward, runOver, brokenRun, ranAnswer}
 use Rattle.backoff.proofs.State.{walk-le}
 use Rattle.backoff.proofs.NineNumbers.{Bounded}
-use Rattle.backoff.proofs.Store.{stuckAt, step-is}
+use Rattle.backoff.proofs.Store.{wordStuck, wordStep-is}
 use Rattle.backoff.proofs.Sizes.{points-size}
 use Rattle.score.proofs.Written.{drop-more}
 
@@ -39,24 +39,27 @@ before-one ps bs x y (refusedAt k) = refl
 -- ---- how large one word's points and length byte get
 
 module _ (S : Store) (in-probability : (l : List ℕ) → inProbability (probability (modelIn S) l) ≡ true) (n : ℕ) (few : n ≤ 4) (s : Carried) (b : Bounded n s) (w : ℕ) where
-  pub scored-sizes : (x : ℤ) (y : ℕ) (t : Carried) → step S s w ≡ scored x y t → (natAbs x ≤ orderLimit * largestBackoff) × (y < 256)
-  scored-sizes x y t e = go (stuckAt S s w) (sym (step-is S s w) ∙ e)
+  pub scored-sizes : (x : ℤ) (y : ℕ) (t : Carried) → wordStep S s w ≡ scored x y t → (natAbs x ≤ orderLimit * largestBackoff) × (y < 256)
+  scored-sizes x y t e = go (wordStuck S s w) (sym (wordStep-is S s w) ∙ e)
     where
-      points : natAbs (stepPoints (modelIn S) s w) ≤ orderLimit * largestBackoff
-      points = unfold stepPoints in omega (arith, points-size (modelIn S) in-probability b (replaced (modelIn S) w), b .few)
+      v : ℕ
+      v = replaced (modelIn S) w
+
+      points : natAbs (pointsFrom (modelIn S) s v) ≤ orderLimit * largestBackoff
+      points = omega (arith, points-size (modelIn S) in-probability b v, b .few)
 
       at-most : (n : ℕ) (u : Bool) → cond u n 0 ≤ n
       at-most n true = omega arith
       at-most n false = omega arith
 
-      byte : stepByte (modelIn S) s w < 256
-      byte = unfold stepByte lengthByte matchedFrom in omega (arith, walk-le (modelIn S) (replaced (modelIn S) w) (s .words), b .few, at-most 8 (eqb (replaced (modelIn S) w) unknownWord), at-most 16 (extendedFrom (modelIn S) s (replaced (modelIn S) w)))
+      byte : lengthByte (matchedFrom (modelIn S) s v) v (extendedFrom (modelIn S) s v) < 256
+      byte = unfold lengthByte matchedFrom in omega (arith, walk-le (modelIn S) v (s .words), b .few, at-most 8 (eqb v unknownWord), at-most 16 (extendedFrom (modelIn S) s v))
 
-      go : (u : Bool) → cond u stuck (scored (stepPoints (modelIn S) s w) (stepByte (modelIn S) s w) (stepNext (modelIn S) s w)) ≡ scored x y t → (natAbs x ≤ orderLimit * largestBackoff) × (y < 256)
+      go : (u : Bool) → cond u stuck (scored (pointsFrom (modelIn S) s v) (lengthByte (matchedFrom (modelIn S) s v) v (extendedFrom (modelIn S) s v)) (nextFrom (modelIn S) s v)) ≡ scored x y t → (natAbs x ≤ orderLimit * largestBackoff) × (y < 256)
       go true q = let z : _≡_ {A = ℕ} 0 1 = cc in absurd (omega arith)
       go false q =
-          let f : stepPoints (modelIn S) s w ≡ x = cc in
-          let g : stepByte (modelIn S) s w ≡ y = cc in
+          let f : pointsFrom (modelIn S) s v ≡ x = cc in
+          let g : lengthByte (matchedFrom (modelIn S) s v) v (extendedFrom (modelIn S) s v) ≡ y = cc in
           (rw f at points, rw g at byte)
 
 -- ---- the loop

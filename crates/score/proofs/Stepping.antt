@@ -5,7 +5,7 @@ use mathlib.Core.List.{List, [], _∷_, map}
 use mathlib.Core.Option.{Option, none, some}
 use Prim.Native.Nat.{ℕ, suc, _-_, _≤_, _<_, min}
 use native.Mathlib.Omega.{arith}
-use borrow.Author.Tests.{leb-true, eqb-true}
+use borrow.Author.Tests.{leb-true}
 use lib.Dec.{leb, eqb}
 use lib.ListN.{length, take}
 use lib.Seq.{take-take, length-take-le}
@@ -34,9 +34,9 @@ use Rattle.score.specs.declared.Word.the-variants.{Scored, Refused}
 use Rattle.score.specs.declared.Packed.{Packed}
 use Rattle.score.specs.declared.Kept.{Kept}
 use Rattle.score.specs.declared.Stepped.{Stepped}
-use Rattle.score.specs.Answers.{stepOf}
+use Rattle.score.specs.Answers.{byteOf, stepOf}
 use Rattle.score.specs.Meaning.{rowsIn}
-use Rattle.score.specs.Inner.{firstOf, digits, pushed, heldIn, Carries, meetsBroken, Read, ScoredAs, SteppedTo, orRefused, endingOf}
+use Rattle.score.specs.Inner.{firstOf, digits, pushed, heldIn, Carries, meetsBroken, Read, ScoredAs, SteppedTo}
 use Rattle.score.proofs.Rows.{rows-in-backoff}
 use Rattle.score.proofs.Digits.{length-digits, digits-pushed}
 
@@ -120,36 +120,34 @@ module _ (base check : List ℤ) (h : isArray base check ≡ true) where
 pub refused : {n : ℕ} {expected : Step} {next : Packed} {backoffs : List ℤ} → expected ≡ stuck → SteppedTo n expected (record { word = Refused; next = next }) backoffs
 refused e = record { is = sym e; carries = λ kind points extended q. let z : _≡_ {A = ℕ} 0 1 = cc in absurd (omega arith) }
 
--- ---- a word w that may end its sentence, by its own step and, where it is given as 3, by that of `<s>`
+-- ---- a word w that may end its sentence, by its own answer and, where it is given as 3, by that of `<s>`
 
-module _ {n : ℕ} (S : Store) (s : Carried) (w : ℕ) {own begun : Stepped} {backoffs first : List ℤ} (a : SteppedTo n (wordStep S s w) own backoffs) (b : w ≡ endWord → SteppedTo n (wordStep S empty startWord) begun first) where
-  -- the state that is left
-  abbrev left : Bool → Carried
-  left t = cond t (heldIn (begun .next) first) (heldIn (own .next) backoffs)
+-- what an answer says of the step that it is
+pub told : {n : ℕ} {expected : Step} {r : Stepped} {backoffs : List ℤ} → SteppedTo n expected r backoffs → (x : Word) → r .word ≡ x → expected ≡ stepOf x (heldIn (r .next) backoffs)
+told {r = r} {backoffs = backoffs} a x e = sym (a .is) ∙ ap (λ (y : Word). stepOf y (heldIn (r .next) backoffs)) e
 
-  pub ending-step : stepOf (endingOf w (own .word) (begun .word)) (left (eqb w endWord)) ≡ step S s w
+module _ {n : ℕ} (S : Store) (s : Carried) (w : ℕ) {own : Stepped} {backoffs : List ℤ} (a : SteppedTo n (wordStep S s w) own backoffs) where
+  pub refused-word : own .word ≡ Refused → step S s w ≡ stuck
   unfolding step
-  ending-step = go (eqb w endWord) refl
+  refused-word q = go (eqb w endWord)
     where
-      both : (u v : Word) (r t : Carried) → stepOf (orRefused u v) r ≡ restarted (stepOf u t) (stepOf v r)
-      both (Scored k x e) (Scored l y f) r t = refl
-      both (Scored k x e) Refused r t = refl
-      both Refused (Scored l y f) r t = refl
-      both Refused Refused r t = refl
+      go : (t : Bool) → cond t (restarted (wordStep S s w) (wordStep S empty startWord)) (wordStep S s w) ≡ stuck
+      go true = rw (told a Refused q)
+      go false = told a Refused q
 
-      go : (t : Bool) → eqb w endWord ≡ t → stepOf (cond t (orRefused (own .word) (begun .word)) (own .word)) (left t) ≡ cond t (restarted (wordStep S s w) (wordStep S empty startWord)) (wordStep S s w)
-      go true e = both (own .word) (begun .word) (heldIn (begun .next) first) (heldIn (own .next) backoffs) ∙ ap₂ restarted (a .is) (b (eqb-true w endWord e) .is)
-      go false e = a .is
+  module _ (kind : Kind) (x : ℤ) (extended : Bool) (q : own .word ≡ Scored kind x extended) where
+    pub goes-on : eqb w endWord ≡ false → step S s w ≡ scored x (byteOf kind extended) (heldIn (own .next) backoffs)
+    unfolding step
+    goes-on e = rw e (told a _ q)
 
-  pub goes-on : eqb w endWord ≡ false → (kind : Kind) (x : ℤ) (extended : Bool) → endingOf w (own .word) (begun .word) ≡ Scored kind x extended → Carries n (own .next) backoffs
-  goes-on e kind x extended q = a .carries kind x extended (rw e at q)
+    module _ {begun : Stepped} {first : List ℤ} (b : SteppedTo n (wordStep S empty startWord) begun first) (e : eqb w endWord ≡ true) where
+      pub begins-anew : (k : Kind) (y : ℤ) (f : Bool) → begun .word ≡ Scored k y f → step S s w ≡ scored x (byteOf kind extended) (heldIn (begun .next) first)
+      unfolding step
+      begins-anew k y f r = rw (e, told a _ q, told b _ r)
 
-  pub begins-anew : eqb w endWord ≡ true → (kind : Kind) (x : ℤ) (extended : Bool) → endingOf w (own .word) (begun .word) ≡ Scored kind x extended → Carries n (begun .next) first
-  begins-anew e kind x extended q = go (begun .word) refl (rw e at q)
-    where
-      go : (v : Word) → begun .word ≡ v → orRefused (own .word) v ≡ Scored kind x extended → Carries n (begun .next) first
-      go (Scored l y f) p r = b (eqb-true w endWord e) .carries l y f p
-      go Refused p r = let z : _≡_ {A = ℕ} 0 1 = cc in absurd (omega arith)
+      pub start-refused : begun .word ≡ Refused → step S s w ≡ stuck
+      unfolding step
+      start-refused r = rw (e, told a _ q, told b _ r)
 
 -- ---- the state that a word leaves
 

@@ -5,7 +5,8 @@ use Prim.Native.Nat.{ℕ, zero, suc, _+_, _-_, _≤_, _<_}
 use native.Mathlib.Numerals.{add-one}
 use native.Mathlib.Omega.{arith}
 use lib.ListN.{length, drop, set, replicate}
-use lib.Seq.{drop-drop}
+use lib.Seq.{drop-drop, drop-set-lt}
+use Rattle.backoff.specs.Run.{written}
 
 module _ {A : Type 0} where
   fill-suc : (n : ℕ) (v : A) (l : List A) → n < length l → set (replicate n v ++ drop n l) n v ≡ replicate (suc n) v ++ drop (suc n) l
@@ -22,3 +23,8 @@ module _ {A : Type 0} where
   drop-more i k l m h e =
       let q : i + (k - i) ≡ k = omega arith in
       rw (sym q) (sym (drop-drop (k - i) i l) ∙ ap (drop (k - i)) e ∙ drop-drop (k - i) i m)
+
+  -- what is written from the front covers an item that was set before
+  pub written-set : (v l : List A) (i : ℕ) (x : A) → i < length v → written v (set l i x) ≡ written v l
+  unfolding written
+  written-set v l i x h = ap {B = List A} (λ t. v ++ t) (drop-set-lt (length v) l i x h)

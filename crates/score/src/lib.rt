@@ -5,22 +5,24 @@ ghost use mathlib.Core.Path.{_≡_};
 ghost use mathlib.Core.Bool.{Bool, true, false, cond};
 ghost use mathlib.Core.List.{[], _∷_, _++_, map};
 ghost use Prim.Native.Nat.{ℕ, _+_, _%_, _≤_, _<_};
+ghost use lib.Dec.{eqb};
 ghost use lib.ListN.{length, take, getD, set, replicate};
 ghost use lib.IntN.{pos, natAbs};
 ghost use lib.Signed.{_≤ℤ_};
 ghost use Rattle.integer.specs.Integer.{between, sum};
 ghost use Rattle.backoff.specs.Limits.{unknownWord, startWord, endWord, wordLimit, slotLimit, runLimit};
+ghost use Rattle.backoff.specs.Refusal.{brokenNode};
 ghost use Rattle.backoff.specs.Words.{isWord, radix, key};
 ghost use Rattle.backoff.specs.Model.{inBackoff};
 ghost use Rattle.backoff.specs.Rule.{lengthByte};
 ghost use Rattle.backoff.specs.State.{empty as emptyState};
 ghost use Rattle.backoff.specs.Run.{Run, written, sizeRefusal};
 ghost use Rattle.backoff.specs.NineNumbers.{all, padded, nine, nineZeros, stateIn, stateOk};
-ghost use Rattle.backoff.specs.Store.{wordStep, runOver, ranAnswer, runOutcome, refusedStart, startStep, startOutcome};
-ghost use Rattle.double_array.specs.DoubleArray.{childAt, rootChild, isArray, orderIn, storeIn, opened};
+ghost use Rattle.backoff.specs.Store.{isBroken, wordStep, runOver, ranAnswer, runOutcome, refusedStart, startStep, startOutcome};
+ghost use Rattle.double_array.specs.DoubleArray.{markerAt, lookMarker, childAt, rootChild, isArray, orderIn, storeIn, opened};
 ghost use Rattle.score.specs.Answers.{numbersOf, kindByte, byteOf, answerOf, startedOf, summedOf, summed};
 ghost use Rattle.score.specs.Meaning.{StartMeans, RunMeans};
-ghost use Rattle.score.specs.Inner.{partOk, firstOf, packedAs, heldIn, Carries, longestLive, WalkedOver, ScoredAs, SteppedTo, endingOf, earlyRefusal};
+ghost use Rattle.score.specs.Inner.{partOk, firstOf, packedAs, heldIn, Carries, longestLive, WalkedOver, ScoredAs, SteppedTo, earlyRefusal};
 
 // The paper's carried state as its nine signed numbers. A state of the caller's own making may hold any: check 16 decides.
 #[repr(C)]
@@ -98,6 +100,9 @@ struct Stepped {
     word: Word,
     next: Packed,
 }
+
+// A state has so many words at most: the compiler, which is told so, unrolls the walk.
+const STATE_WORDS: usize = 4;
 
 // So many words are scored at a time where their points are not asked for.
 const PIECE: usize = 64;
@@ -182,17 +187,18 @@ fn longest_live(kept: Kept, count: usize, owed: i32, order: usize, b: i32, f: bo
     }
 }
 
-// The child for the next older word of a state, where it has more words.
+// The child for the next older word of a state, where it has more words. A sound marker's slot has no parent, so that the word needs no test for 0.
 fn next_node(base: &[i32], check: &[i32], s: usize, older: u64, more: bool) -> Child
     requires { ⌜ s < length (now base) ⌝ }
     requires { ⌜ length (now base) ≤ slotLimit ⌝ }
-    ensures child { λ r. ⌜ r ≡ cond more (childAt (now (base .entry)) (now (check .entry)) s (older % radix)) Child.Nothing ⌝ }
-    ensures inside { λ r. ⌜ ((t : ℕ) → r ≡ Child.At t → t < length (now (check .entry))) ⌝ }
+    requires { ⌜ isBroken (lookMarker (markerAt (now base) (now check) s)) ≡ false ⌝ }
+    ensures { λ r. ⌜ r ≡ cond more (childAt (now (base .entry)) (now (check .entry)) s (older % radix)) Child.Nothing ⌝ }
 {
     if !more {
         return Child::Nothing;
     }
-    double_array::find_child(base, check, s, (older % backoff::RADIX) as u32)
+    let d = base[s] as usize;
+    double_array::owned_by(check, s, d + (older % backoff::RADIX) as usize)
 }
 
 // The walk from the node in this slot, that of a word v, through the state's words. Each node's back-off takes the place of one of the state's.
@@ -225,7 +231,8 @@ fn walk(
         backoffs[passed] = b;
         sum += b;
         kept = longest_live(kept, passed + 1, sum, order, b, f);
-        let Child::At(t) = next_node(base, check, s, older, passed < count) else {
+        let more = (passed < count) & (passed < STATE_WORDS);
+        let Child::At(t) = next_node(base, check, s, older, more) else {
             return Walked::Whole {
                 points: p + owed,
                 passed,
@@ -339,7 +346,7 @@ fn begin(base: &[i32], check: &[i32], order: usize, backoffs: &mut [i32; 5]) -> 
     scored(0, word, points, passed, kept, extended)
 }
 
-// One word from a state, whatever it ends.
+// One word from a state. What it ends is told by `ends_sentence`.
 fn step(
     base: &[i32],
     check: &[i32],
@@ -373,59 +380,6 @@ fn step(
         };
     };
     scored(carried.words, word, points, passed, kept, extended)
-}
-
-// The answer of a word once its sentence may end: a word given as 3 is refused where start is.
-fn ending(w: u32, word: Word, first: Word) -> Word
-    ensures { λ r. ⌜ r ≡ endingOf w word first ⌝ }
-{
-    if w != backoff::END_WORD {
-        return word;
-    }
-    if let Word::Refused = first {
-        return first;
-    }
-    word
-}
-
-// Whether some word of a run is given as 3.
-fn has_end(words: &[u32]) -> bool
-    ensures { λ r. ⌜ (r ≡ false → (k : ℕ) → k < length (now (words .entry)) → getD (now (words .entry)) k 0 ≡ endWord → ⊥) ⌝ }
-{
-    let mut found = false;
-    let mut i = 0;
-    while i < words.len() {
-        found = found | (words[i] == backoff::END_WORD);
-        i += 1;
-    }
-    found
-}
-
-// Start's step where some word of a run needs it, and a refused one where none does.
-fn begin_for(
-    base: &[i32],
-    check: &[i32],
-    order: usize,
-    words: &[u32],
-    backoffs: &mut [i32; 5],
-) -> Stepped
-    requires { ⌜ isArray (now base) (now check) ≡ true ⌝ }
-    requires { ⌜ order ≡ orderIn (now check) ⌝ }
-    requires { ⌜ length (now backoffs) ≡ 5 ⌝ }
-    ensures { λ r. ⌜ ((k : ℕ) → k < length (now (words .entry)) → getD (now (words .entry)) k 0 ≡ endWord → SteppedTo order (wordStep (storeIn (now (base .entry)) (now (check .entry))) emptyState startWord) r (now (backoffs .exit))) ⌝ }
-{
-    if has_end(words) {
-        return begin(base, check, order, backoffs);
-    }
-    let none = Packed {
-        count: 0,
-        words: 0,
-        owed: 0,
-    };
-    Stepped {
-        word: Word::Refused,
-        next: none,
-    }
 }
 
 // The paper's length byte without its 16.
@@ -485,6 +439,31 @@ pub fn clear(points: &mut [i32], lengths: &mut [u8], count: usize)
         points[i] = 0;
         lengths[i] = 0;
         i += 1;
+    }
+}
+
+// Whether word i ends its sentence: it is given as 3, whatever it is scored as.
+fn ends_sentence(words: &[u32], i: usize) -> bool
+    requires { ⌜ i < length (now words) ⌝ }
+    ensures { λ r. ⌜ r ≡ eqb (getD (now (words .entry)) i 0) endWord ⌝ }
+{
+    words[i] == backoff::END_WORD
+}
+
+// What a run of `count` words from this state returns where 12 meets word i, or start behind it.
+fn refuse_word(points: &mut [i32], lengths: &mut [u8], count: usize, i: usize, state: State) -> Ran
+    requires { ⌜ (count ≤ length (now points)) × (count ≤ length (now lengths)) ⌝ }
+    requires { ⌜ i < runLimit ⌝ }
+    ensures answer { λ r. ⌜ r ≡ record { number = brokenNode; place = i + 1; total = pos 0; end = state } ⌝ }
+    ensures points { λ _. ⌜ now (points .exit) ≡ written (replicate count (pos 0)) (now (points .entry)) ⌝ }
+    ensures lengths { λ _. ⌜ now (lengths .exit) ≡ written (replicate count 0) (now (lengths .entry)) ⌝ }
+{
+    clear(points, lengths, count);
+    Ran {
+        number: backoff::BROKEN_NODE,
+        place: i as u32 + 1,
+        total: 0,
+        end: state,
     }
 }
 
@@ -595,10 +574,6 @@ fn score_words(
     requires { ⌜ (length (now words) ≤ length (now points)) × (length (now words) ≤ length (now lengths)) ⌝ }
     ensures { λ r. ⌜ answerOf r (now (points .exit)) (now (lengths .exit)) ≡ ranAnswer (numbersOf state) (record { words = now (words .entry); points = now (points .entry); lengths = now (lengths .entry) }) (runOver (storeIn (now (base .entry)) (now (check .entry))) (now (words .entry)) (stateIn (numbersOf state)) 1) ⌝ }
 {
-    let mut first_backoffs = [0i32; 5];
-    let begun = begin_for(base, check, order, words, &mut first_backoffs);
-    let first = begun.word;
-    let begins = begun.next;
     let mut carried = pack(state);
     let mut backoffs = lent(state);
     let mut total: i64 = 0;
@@ -606,29 +581,27 @@ fn score_words(
     while i < words.len() {
         let w = words[i];
         let stepped = step(base, check, order, carried, &mut backoffs, w);
-        let own = stepped.word;
-        let word = ending(w, own, first);
+        let word = stepped.word;
         let Word::Scored {
             kind,
             points: scored,
             extended,
         } = word
         else {
-            clear(points, lengths, words.len());
-            return Ran {
-                number: backoff::BROKEN_NODE,
-                place: i as u32 + 1,
-                total: 0,
-                end: state,
-            };
+            return refuse_word(points, lengths, words.len(), i, state);
         };
         write_word(points, lengths, i, kind, scored, extended);
         total += scored as i64;
         let next = stepped.next;
         carried = next;
-        if w == backoff::END_WORD {
+        if ends_sentence(words, i) {
+            let begun = begin(base, check, order, &mut backoffs);
+            let first = begun.word;
+            if let Word::Refused = first {
+                return refuse_word(points, lengths, words.len(), i, state);
+            }
+            let begins = begun.next;
             carried = begins;
-            backoffs = first_backoffs;
         }
         i += 1;
     }

@@ -1,34 +1,32 @@
 -- `score::score_words` meets its contract. The loop's invariant: what is left is the run of the words from the i-th on. Assumes nothing.
-use mathlib.Core.Path.{_≡_, sym, ap, _∙_}
-use mathlib.Core.Bool.{Bool, cond}
+use mathlib.Core.Path.{_≡_, refl, sym, ap, _∙_}
+use mathlib.Core.Bool.{Bool}
 use mathlib.Core.Logic.{⊎-elim}
 use mathlib.Core.List.{List}
 use Prim.Native.Nat.{ℕ, _*_, _-_, _≤_, _<_}
 use native.Mathlib.Omega.{arith}
 use borrow.Author.Needs.{needs, sfits-of}
-use borrow.Author.Tests.{eq-eqb, ne-eqb}
-use lib.Dec.{eqb}
-use lib.ListN.{length, getD, set}
-use lib.IntN.{ℤ, natAbs}
+use lib.ListN.{length, getD, set, replicate, length-replicate}
+use lib.IntN.{ℤ, pos, natAbs}
 use mir.Syntax.{w32, w64}
 use mir.Val.{toZ, ofZ, SFits}
 use mir.Facts.{toZ-ofZ}
 use Rattle.integer.proofs.Arithmetic.{zarith, abs, to-wide}
-use Rattle.backoff.specs.Limits.{startWord, endWord, orderLimit, largestBackoff}
+use Rattle.backoff.specs.Limits.{orderLimit, largestBackoff}
+use Rattle.backoff.specs.Run.{written}
 use Rattle.backoff.specs.NineNumbers.{stateIn}
-use Rattle.backoff.specs.State.{State as Carried, empty}
-use Rattle.backoff.specs.Store.{Store, wordStep, step}
+use Rattle.backoff.specs.State.{State as Carried}
+use Rattle.backoff.specs.Store.{Store, scored, step}
 use Rattle.double_array.specs.DoubleArray.{storeIn}
 use Rattle.double_array.proofs.DoubleArray.{opened-order}
 use Rattle.score.specs.declared.Kind.{Kind}
-use Rattle.score.specs.declared.Word.{Word}
-use Rattle.score.specs.declared.Word.the-variants.{Refused}
 use Rattle.score.specs.declared.Packed.{Packed}
-use Rattle.score.specs.Answers.{numbersOf, byteOf, stepOf}
-use Rattle.score.specs.Inner.{heldIn, Carries, SteppedTo}
+use Rattle.score.specs.Answers.{numbersOf, byteOf}
+use Rattle.score.specs.Inner.{heldIn, Carries}
 use Rattle.score.proofs.Carried.{Four, count-low, all-in-words, all-in-backoff, packed-held, packed-carries, carries-bounded}
 use Rattle.score.proofs.Rows.{rows-in-probability}
-use Rattle.score.proofs.Stepping.{ending-step, goes-on, begins-anew}
+use Rattle.score.proofs.Written.{written-set}
+use Rattle.score.proofs.Stepping.{told, refused-word, goes-on, begins-anew, start-refused}
 use Rattle.score.proofs.Running.{Running, scored-sizes, running-begins, running-on, running-refused, running-ends}
 use Rattle.score.proofs.score_words.Statement.{statement}
 use Rattle.score.proofs.score_words.Tie as tie
@@ -38,11 +36,11 @@ record Loop (S : Store) (s : Carried) (ws : List ℕ) (points₀ : List ℤ) (le
   carries : Carries (S .order) carried backoffs
 
 abbrev Inv-loop : tie.InvT-loop
-Inv-loop base check order state words points₀ lengths₀ first-backoffs first begins carried₀ backoffs₀ total₀ i₀ points lengths carried backoffs total i =
+Inv-loop base check order state words points₀ lengths₀ carried₀ backoffs₀ total₀ i₀ points lengths carried backoffs total i =
     Loop (storeIn base check) (stateIn (numbersOf state)) words points₀ lengths₀ carried backoffs (toZ w64 total) i points lengths
 
 abbrev μ-loop : tie.MeasureT-loop
-μ-loop base check order state words points₀ lengths₀ first-backoffs first begins carried₀ backoffs₀ total₀ i₀ points lengths carried backoffs total i =
+μ-loop base check order state words points₀ lengths₀ carried₀ backoffs₀ total₀ i₀ points lengths carried backoffs total i =
     length words - i
 
 -- the array's order, which is the code's
@@ -56,12 +54,9 @@ limit s = omega (arith, order-is s)
 arrays : (s : tie.Start Inv-loop μ-loop) → Four (s .args .state)
 arrays s = record { words = search needs; backoffs = search needs }
 
-begin-for-requires : tie.Need-begin-for-requires Inv-loop μ-loop
-begin-for-requires c κs = search needs
-
 pack-requires : tie.Need-pack-requires Inv-loop μ-loop
 pack-requires c κs =
-    let s = c .before .before .before .before .before in
+    let s = c .before .before in
     let n = s .args .order in
     let o = limit s in
     let k = s .pre .1 .1 .0 in
@@ -76,7 +71,7 @@ begins d e f h = rw (d, e) (record { running = running-begins _ _ _ _ _ _ f; car
 loop-holds : tie.Need-loop-holds Inv-loop μ-loop
 loop-holds c =
     let p = c .before in
-    let s = p .before .before .before .before .before .before in
+    let s = p .before .before .before in
     let n = s .args .order in
     begins (p .pack .ensures) (c .lent .ensures) (packed-held n (s .args .state) (arrays s) (limit s) (s .pre .1 .1 .0)) (rw (order-is s .0) (packed-carries n (s .args .state) (arrays s) (limit s) (s .pre .1 .1 .0)))
 
@@ -86,50 +81,36 @@ mul-w c = search needs
 shared-slice-read-w : tie.Need-shared-slice-read-w Inv-loop μ-loop
 shared-slice-read-w c = search needs
 
+-- the function's entry
+abbrev entry : tie.At-loop Inv-loop μ-loop → tie.Start Inv-loop μ-loop
+entry l = l .before .before .before .before .before
+
 step-requires : tie.Need-step-requires Inv-loop μ-loop
 step-requires c κs =
     let l = c .before .before .before in
-    let s = l .before .before .before .before .before .before .before .before in
+    let s = entry l in
     (s .pre .0, (s .pre .1 .0, rw (order-is s .0) at (l .loop .inv .carries)))
 
-ending-requires : tie.Need-ending-requires Inv-loop μ-loop
-ending-requires c κs = search needs
+-- the loop's turn
+abbrev turn : tie.After-step Inv-loop μ-loop → tie.At-loop Inv-loop μ-loop
+turn c = c .before .before .before .before
 
--- the loop's turn, and the function's entry
-abbrev turn : tie.After-ending Inv-loop μ-loop → tie.At-loop Inv-loop μ-loop
-turn c = c .before .before .before .before .before
+more : (c : tie.After-step Inv-loop μ-loop) → turn c .loop .i < length (entry (turn c) .args .words .now)
+more c = c .before .before .before .loop-test .taken
 
-abbrev entry : tie.At-loop Inv-loop μ-loop → tie.Start Inv-loop μ-loop
-entry l = l .before .before .before .before .before .before .before .before
-
--- the lent back-offs as `step` and `begin_for` left them
-abbrev backoffs : tie.After-ending Inv-loop μ-loop → List ℤ
-backoffs c = c .before .step .last .1 .1 .1 .1 .0
-
-abbrev first : tie.After-ending Inv-loop μ-loop → List ℤ
-first c = c .before .before .before .before .before .before .before .before .before .begin-for .last .1 .1 .1 .1 .0
+-- the lent back-offs as `step` left them
+abbrev backoffs : tie.After-step Inv-loop μ-loop → List ℤ
+backoffs c = c .step .last .1 .1 .1 .1 .0
 
 -- the next word, and the state that it is scored from
-abbrev w : tie.After-ending Inv-loop μ-loop → ℕ
+abbrev w : tie.After-step Inv-loop μ-loop → ℕ
 w c = getD (entry (turn c) .args .words .now) (turn c .loop .i) 0
 
-abbrev S : tie.After-ending Inv-loop μ-loop → Store
+abbrev S : tie.After-step Inv-loop μ-loop → Store
 S c = storeIn (entry (turn c) .args .base .now) (entry (turn c) .args .check .now)
 
-abbrev held : tie.After-ending Inv-loop μ-loop → Carried
+abbrev held : tie.After-step Inv-loop μ-loop → Carried
 held c = heldIn (turn c .loop .carried) (turn c .loop .backoffs)
-
-begun : (c : tie.After-ending Inv-loop μ-loop) → w c ≡ endWord → SteppedTo (entry (turn c) .args .order) (wordStep (S c) empty startWord) (c .before .before .before .before .before .before .before .before .before .begin-for .result) (first c)
-begun c e = c .before .before .before .before .before .before .before .before .before .begin-for .ensures (turn c .loop .i) (c .before .before .before .before .loop-test .taken) e
-
--- the state that the word leaves
-abbrev left : tie.After-ending Inv-loop μ-loop → Carried
-left c = cond (eqb (w c) endWord) (heldIn (c .before .before .before .before .before .before .before .before .before .begin-for .result .next) (first c)) (heldIn (c .before .step .result .next) (backoffs c))
-
--- the next word's step is what `ending` answered
-step-is : (c : tie.After-ending Inv-loop μ-loop) (x : Word) → c .ending .result ≡ x → step (S c) (held c) (w c) ≡ stepOf x (left c)
-step-is c x e =
-    sym (ending-step (S c) (held c) (w c) (c .before .step .ensures) (begun c)) ∙ ap (λ (y : Word). stepOf y (left c)) (sym (c .ending .ensures) ∙ e)
 
 enum-known-word : tie.Need-enum-known-word Inv-loop μ-loop
 enum-known-word c = search needs
@@ -137,17 +118,12 @@ enum-known-word c = search needs
 enum-told : tie.Need-enum-told Inv-loop μ-loop
 enum-told c = search needs
 
-clear-requires : tie.Need-clear-requires Inv-loop μ-loop
-clear-requires c κs =
-    let l = turn (c .before .before .before .before) in
+refuse-word-requires : tie.Need-refuse-word-requires Inv-loop μ-loop
+refuse-word-requires c κs =
+    let d = c .before .before .before .before in
+    let l = turn d in
     let s = entry l in
-    (omega (arith, l .loop .inv .running .points-long, s .pre), omega (arith, l .loop .inv .running .lengths-long, s .pre))
-
-cast-t38 : tie.Need-cast-t38 Inv-loop μ-loop
-cast-t38 c = let n = c .before .before .before .before .before .before .before .before .before .before .before .before in omega (arith, n .loop-test .taken, entry (n .before) .pre .1 .1 .1 .0)
-
-add-t39 : tie.Need-add-t39 Inv-loop μ-loop
-add-t39 c = let n = c .before .before .before .before .before .before .before .before .before .before .before .before in omega (arith, n .loop-test .taken, entry (n .before) .pre .1 .1 .1 .0)
+    ((omega (arith, l .loop .inv .running .points-long, s .pre), omega (arith, l .loop .inv .running .lengths-long, s .pre)), omega (arith, more d, s .pre .1 .1 .1 .0))
 
 same-length : tie.Need-same-length Inv-loop μ-loop
 same-length c = search needs
@@ -162,7 +138,8 @@ returns c =
     let d = e .before .before in
     let l = turn d in
     let s = entry l in
-    running-refused (S d) (stateIn (numbersOf (s .args .state))) (s .args .words .now) (s .args .points .now) (s .args .lengths .now) (held d) (toZ w64 (l .loop .total)) (l .loop .i) (l .loop .points) (l .loop .lengths) (l .loop .inv .running) (d .before .before .before .before .loop-test .taken) (step-is d Refused (e .enum-told .given .1)) (numbersOf (s .args .state)) (k .clear .last .0) (k .clear .last .1 .0) (k .clear .ensures .0) (k .clear .ensures .1)
+    rw (k .refuse-word .ensures .0)
+    (running-refused (S d) (stateIn (numbersOf (s .args .state))) (s .args .words .now) (s .args .points .now) (s .args .lengths .now) (held d) (toZ w64 (l .loop .total)) (l .loop .i) (l .loop .points) (l .loop .lengths) (l .loop .inv .running) (more d) (refused-word (S d) (held d) (w d) (d .step .ensures) (e .enum-told .given .1)) (numbersOf (s .args .state)) (k .refuse-word .last .0) (k .refuse-word .last .1 .0) (k .refuse-word .ensures .1 .0) (k .refuse-word .ensures .1 .1))
 
 -- the word's kind and points, and whether its row is extended
 abbrev kind : tie.After-word Inv-loop μ-loop → Kind
@@ -183,82 +160,151 @@ sizes c =
     let l = turn d in
     let s = entry l in
     let o = order-is s .1 in
-    scored-sizes (S d) (rows-in-probability (s .args .base .now) (s .args .check .now)) (S d .order - 1) (omega arith) (held d) (carries-bounded (S d .order) o (l .loop .carried) (l .loop .backoffs) (l .loop .inv .carries)) (w d) (x c) (byteOf (kind c) (extended c)) (left d) (step-is d _ (c .word .given .1))
+    scored-sizes (S d) (rows-in-probability (s .args .base .now) (s .args .check .now)) (S d .order - 1) (omega arith) (held d) (carries-bounded (S d .order) o (l .loop .carried) (l .loop .backoffs) (l .loop .inv .carries)) (w d) (x c) (byteOf (kind c) (extended c)) (heldIn (d .step .result .next) (backoffs d)) (told (d .step .ensures) _ (c .word .given .1))
 
 write-word-requires : tie.Need-write-word-requires Inv-loop μ-loop
 write-word-requires c κs =
     let m = c .before .before .before in
     let d = m .before .before in
-    let n = d .before .before .before .before in
     let l = turn d in
     let s = entry l in
-    ((omega (arith, n .loop-test .taken, l .loop .inv .running .points-long, s .pre), omega (arith, n .loop-test .taken, l .loop .inv .running .lengths-long, s .pre)), sizes m .1)
+    ((omega (arith, more d, l .loop .inv .running .points-long, s .pre), omega (arith, more d, l .loop .inv .running .lengths-long, s .pre)), sizes m .1)
 
 -- the word that is written
-abbrev told : tie.After-slice-known3 Inv-loop μ-loop → tie.After-known-told Inv-loop μ-loop
-told c = c .before .before .before .before .before .before
+abbrev read : tie.After-slice-known3 Inv-loop μ-loop → tie.After-known-told Inv-loop μ-loop
+read c = c .before .before .before .before .before .before
+
+abbrev stepped : tie.After-slice-known3 Inv-loop μ-loop → tie.After-step Inv-loop μ-loop
+stepped c = read c .before .before .before
 
 cast-total : tie.Need-cast-total Inv-loop μ-loop
-cast-total c = to-wide tt (x-fits (told c))
+cast-total c = to-wide tt (x-fits (read c))
 
 -- as the cast left them
-x-wide : (c : tie.After-slice-known3 Inv-loop μ-loop) → toZ w64 (ofZ w64 (toZ w32 (ofZ w32 (x (told c .before))))) ≡ x (told c .before)
-x-wide c = cc (toZ-ofZ (cast-total c), toZ-ofZ (x-fits (told c)))
+x-wide : (c : tie.After-slice-known3 Inv-loop μ-loop) → toZ w64 (ofZ w64 (toZ w32 (ofZ w32 (x (read c .before))))) ≡ x (read c .before)
+x-wide c = cc (toZ-ofZ (cast-total c), toZ-ofZ (x-fits (read c)))
 
 add-total : tie.Need-add-total Inv-loop μ-loop
 add-total c =
-    let m = told c .before in
-    let l = turn (m .before .before) in
+    let m = read c .before in
+    let l = turn (stepped c) in
     omega (zarith, x-wide c, sizes m .0, l .loop .inv .running .total-small, abs (x m), abs (toZ w64 (l .loop .total)), l .loop .inv .running .at, entry l .pre .1 .1 .1 .0)
+
+ends-sentence-requires : tie.Need-ends-sentence-requires Inv-loop μ-loop
+ends-sentence-requires c κs = more (stepped (c .before))
+
+-- the state that the word itself leaves
+carries-on : (c : tie.After-slice-known3 Inv-loop μ-loop) → Carries (entry (turn (stepped c)) .args .order) (stepped c .step .result .next) (backoffs (stepped c))
+carries-on c = let m = read c .before in stepped c .step .ensures .carries (kind m) (x m) (extended m) (m .word .given .1)
+
+begin-requires : tie.Need-begin-requires Inv-loop μ-loop
+begin-requires c κs =
+    let d = c .before .before .before .before in
+    let s = entry (turn (stepped d)) in
+    (s .pre .0, (s .pre .1 .0, carries-on d .five))
+
+enum-told-2 : tie.Need-enum-told-2 Inv-loop μ-loop
+enum-told-2 c = search needs
+
+-- the slices with the word
+points-now : (c : tie.After-slice-known3 Inv-loop μ-loop) → c .before .before .before .write-word .last .0 ≡ set (turn (stepped c) .loop .points) (turn (stepped c) .loop .i) (x (read c .before))
+points-now c = c .before .before .before .write-word .ensures .0 ∙ ap (set (turn (stepped c) .loop .points) (turn (stepped c) .loop .i)) (toZ-ofZ (x-fits (read c)))
+
+lengths-now : (c : tie.After-slice-known3 Inv-loop μ-loop) → c .before .before .before .write-word .last .1 .0 ≡ set (turn (stepped c) .loop .lengths) (turn (stepped c) .loop .i) (byteOf (kind (read c .before)) (extended (read c .before)))
+lengths-now c = c .before .before .before .write-word .ensures .1
+
+points-long : (c : tie.After-slice-known3 Inv-loop μ-loop) → length (c .before .before .before .write-word .last .0) ≡ length (entry (turn (stepped c)) .args .points .now)
+points-long c = c .before .before .before .write-word .kept .0 ∙ turn (stepped c) .loop .inv .running .points-long
+
+lengths-long : (c : tie.After-slice-known3 Inv-loop μ-loop) → length (c .before .before .before .write-word .last .1 .0) ≡ length (entry (turn (stepped c)) .args .lengths .now)
+lengths-long c = c .before .before .before .write-word .kept .1 .0 ∙ turn (stepped c) .loop .inv .running .lengths-long
+
+refuse-word-requires-2 : tie.Need-refuse-word-requires-2 Inv-loop μ-loop
+refuse-word-requires-2 c κs =
+    let d = c .before .before .before .before .before .before .before .before .before in
+    let s = entry (turn (stepped d)) in
+    ((omega (arith, points-long d, s .pre), omega (arith, lengths-long d, s .pre)), omega (arith, more (stepped d), s .pre .1 .1 .1 .0))
+
+same-length-3 : tie.Need-same-length-3 Inv-loop μ-loop
+same-length-3 c =
+    let k = c .before .before .before in
+    k .refuse-word2 .kept .0 ∙ points-long (k .before .before .before .before .before .before .before .before .before .before)
+
+same-length-4 : tie.Need-same-length-4 Inv-loop μ-loop
+same-length-4 c =
+    let k = c .before .before .before in
+    k .refuse-word2 .kept .1 .0 ∙ lengths-long (k .before .before .before .before .before .before .before .before .before .before)
+
+returns-2 : tie.Need-returns-2 Inv-loop μ-loop
+returns-2 c =
+    let k = c .before .before .before in
+    let g = k .before .before .before in
+    let b = g .before .before in
+    let u = b .before .before .before in
+    let v = u .before .before in
+    let d = stepped v in
+    let m = read v .before in
+    let l = turn d in
+    let s = entry l in
+    let n = length (s .args .words .now) in
+    rw (k .refuse-word2 .ensures .0)
+    (running-refused (S d) (stateIn (numbersOf (s .args .state))) (s .args .words .now) (s .args .points .now) (s .args .lengths .now) (held d) (toZ w64 (l .loop .total)) (l .loop .i) (l .loop .points) (l .loop .lengths) (l .loop .inv .running) (more d)
+    (start-refused (S d) (held d) (w d) (d .step .ensures) (kind m) (x m) (extended m) (m .word .given .1) (b .begin .ensures) (sym (u .ends-sentence .ensures) ∙ b .before .before .if1 .taken) (g .enum-told2 .given .1))
+    (numbersOf (s .args .state)) (k .refuse-word2 .last .0) (k .refuse-word2 .last .1 .0)
+    (k .refuse-word2 .ensures .1 .0 ∙ ap (written (replicate n (pos 0))) (points-now v) ∙ written-set (replicate n (pos 0)) (l .loop .points) (l .loop .i) (x m) (omega (arith, more d, length-replicate n (pos 0))))
+    (k .refuse-word2 .ensures .1 .1 ∙ ap (written (replicate n 0)) (lengths-now v) ∙ written-set (replicate n 0) (l .loop .lengths) (l .loop .i) (byteOf (kind m) (extended m)) (omega (arith, more d, length-replicate {A = ℕ} n 0))))
+
+enum-told-3 : tie.Need-enum-told-3 Inv-loop μ-loop
+enum-told-3 c = search needs
 
 add-i : tie.Need-add-i Inv-loop μ-loop
 add-i c =
-    let n = told (c .before .before) .before .before .before .before .before .before .before in
-    omega (arith, n .loop-test .taken, entry (n .before) .pre .1 .1 .1 .0)
+    let d = stepped (c .before .before .before) in
+    omega (arith, more d, entry (turn d) .pre .1 .1 .1 .0)
 
 loop-less : tie.Need-loop-less Inv-loop μ-loop
-loop-less c = search needs
+loop-less c = let d = stepped (c .before .before .before) in omega (arith, more d)
 
 again : {S : Store} {s next : Carried} {ws : List ℕ} {points₀ ps qs : List ℤ} {lengths₀ bs cs : List ℕ} {carried : Packed} {backoffs : List ℤ} {total sum : ℤ} {i : ℕ} → sum ≡ total → qs ≡ ps → cs ≡ bs → heldIn carried backoffs ≡ next → Carries (S .order) carried backoffs → Running S s ws points₀ lengths₀ next total i ps bs → Loop S s ws points₀ lengths₀ carried backoffs sum i qs cs
 again d e f g k r = rw (d, e, f) (record { running = rw g r; carries = k })
 
--- the state that is carried on
-carried-on : (c : tie.Joined1 Inv-loop μ-loop) → (heldIn (c .if1 .carried) (c .if1 .backoffs) ≡ left (c .before .before .before .before .before .before .before .before .before .before .before)) × Carries (entry (turn (c .before .before .before .before .before .before .before .before .before .before .before)) .args .order) (c .if1 .carried) (c .if1 .backoffs)
+-- the word's step, and the state that is carried on
+carried-on : (c : tie.Joined1 Inv-loop μ-loop) → (step (S (stepped (c .before .before .before))) (held (stepped (c .before .before .before))) (w (stepped (c .before .before .before))) ≡ scored (x (read (c .before .before .before) .before)) (byteOf (kind (read (c .before .before .before) .before)) (extended (read (c .before .before .before) .before))) (heldIn (c .if1 .carried) (c .if1 .backoffs))) × Carries (entry (turn (stepped (c .before .before .before))) .args .order) (c .if1 .carried) (c .if1 .backoffs)
 carried-on c =
-    let d = c .before .before .before .before .before .before .before .before .before .before .before in
-    let q = sym (d .ending .ensures) ∙ c .before .before .before .before .before .before .before .before .before .word .given .1 in
+    let u = c .before in
+    let v = u .before .before in
+    let d = stepped v in
+    let m = read v .before in
     ⊎-elim
-    (λ v.
-    let e = eq-eqb (w d) endWord (v .0 .taken) in
-    (rw (v .1, v .2, e), rw (v .1, v .2) (begins-anew (S d) (held d) (w d) (d .before .step .ensures) (begun d) e _ _ _ q)))
-    (λ v.
-    let e = ne-eqb (w d) endWord (v .0 .left) in
-    (rw (v .1, v .2, e), rw (v .1, v .2) (goes-on (S d) (held d) (w d) (d .before .step .ensures) (begun d) e _ _ _ q)))
+    (λ r.
+    let e = sym (u .ends-sentence .ensures) ∙ r .0 .taken in
+    (rw (r .6, r .7) (begins-anew (S d) (held d) (w d) (d .step .ensures) (kind m) (x m) (extended m) (m .word .given .1) (r .2 .ensures) e _ _ _ (r .4 .given .1)), rw (r .6, r .7) (r .2 .ensures .carries _ _ _ (r .4 .given .1))))
+    (λ r.
+    let e = sym (u .ends-sentence .ensures) ∙ r .0 .left in
+    (rw (r .1, r .2) (goes-on (S d) (held d) (w d) (d .step .ensures) (kind m) (x m) (extended m) (m .word .given .1) e), rw (r .1, r .2) (carries-on v)))
     (c .if1 .came)
 
 loop-again : tie.Need-loop-again Inv-loop μ-loop
 loop-again c =
-    let b = c .before .before in
-    let p = b .before .before .before in
-    let k = told b in
-    let m = k .before in
-    let d = m .before .before in
+    let v = c .before .before .before in
+    let m = read v .before in
+    let d = stepped v in
     let l = turn d in
     let s = entry l in
-    again (cc (toZ-ofZ (add-total b), x-wide b)) (p .write-word .ensures .0 ∙ ap (set (l .loop .points) (l .loop .i)) (toZ-ofZ (x-fits k))) (p .write-word .ensures .1) (carried-on c .0) (rw (order-is s .0) (carried-on c .1))
-    (running-on (S d) (stateIn (numbersOf (s .args .state))) (s .args .words .now) (s .args .points .now) (s .args .lengths .now) (held d) (toZ w64 (l .loop .total)) (l .loop .i) (l .loop .points) (l .loop .lengths) (l .loop .inv .running) (x m) (byteOf (kind m) (extended m)) (left d) (d .before .before .before .before .loop-test .taken) (s .pre .1 .1 .1 .1 .0) (s .pre .1 .1 .1 .1 .1) (sizes m .0) (step-is d _ (m .word .given .1)))
+    again (cc (toZ-ofZ (add-total v), x-wide v)) (points-now v) (lengths-now v) refl (rw (order-is s .0) (carried-on c .1))
+    (running-on (S d) (stateIn (numbersOf (s .args .state))) (s .args .words .now) (s .args .points .now) (s .args .lengths .now) (held d) (toZ w64 (l .loop .total)) (l .loop .i) (l .loop .points) (l .loop .lengths) (l .loop .inv .running) (x m) (byteOf (kind m) (extended m)) (heldIn (c .if1 .carried) (c .if1 .backoffs)) (more d) (s .pre .1 .1 .1 .1 .0) (s .pre .1 .1 .1 .1 .1) (sizes m .0) (carried-on c .0))
 
 unpack-requires : tie.Need-unpack-requires Inv-loop μ-loop
 unpack-requires c κs = let l = c .before in omega (arith, l .loop .inv .carries .few, order-is (entry l))
 
-same-length-3 : tie.Need-same-length-3 Inv-loop μ-loop
-same-length-3 c = search needs
+same-length-5 : tie.Need-same-length-5 Inv-loop μ-loop
+same-length-5 c = search needs
 
-same-length-4 : tie.Need-same-length-4 Inv-loop μ-loop
-same-length-4 c = search needs
+same-length-6 : tie.Need-same-length-6 Inv-loop μ-loop
+same-length-6 c = search needs
 
-returns-2 : tie.Need-returns-2 Inv-loop μ-loop
-returns-2 c =
+returns-3 : tie.Need-returns-3 Inv-loop μ-loop
+returns-3 c =
     let n = c .before in
     let l = n .before in
     let s = entry l in
@@ -270,29 +316,33 @@ score-words-spec =
     (tie.spec
     Inv-loop
     μ-loop
-    begin-for-requires
     pack-requires
     lent-requires
     loop-holds
     mul-w
     shared-slice-read-w
     step-requires
-    ending-requires
     enum-known-word
     enum-told
-    clear-requires
-    cast-t38
-    add-t39
+    refuse-word-requires
     same-length
     same-length-2
     returns
     write-word-requires
     cast-total
     add-total
+    ends-sentence-requires
+    begin-requires
+    enum-told-2
+    refuse-word-requires-2
+    same-length-3
+    same-length-4
+    returns-2
+    enum-told-3
     add-i
     loop-less
     loop-again
     unpack-requires
-    same-length-3
-    same-length-4
-    returns-2)
+    same-length-5
+    same-length-6
+    returns-3)

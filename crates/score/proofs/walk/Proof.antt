@@ -17,7 +17,7 @@ use mir.Val.{SFits, toZ, ofZ}
 use mir.Facts.{toZ-ofZ}
 use Rattle.integer.specs.Integer.{eqZ, sum}
 use Rattle.integer.proofs.Arithmetic.{zarith, abs, add, sub}
-use Rattle.integer.proofs.Ranges.{between-low, between-high}
+use Rattle.integer.proofs.Ranges.{and-left, between-low, between-high}
 use Rattle.backoff.specs.Limits.{leastProbability, largestBackoff}
 use Rattle.backoff.specs.Words.{radix}
 use Rattle.backoff.specs.Model.{inProbability}
@@ -29,7 +29,7 @@ use Rattle.double_array.specs.declared.Child.{Child}
 use Rattle.double_array.specs.declared.Child.the-variants.{At, Nothing}
 use Rattle.double_array.specs.declared.Marker.{Marker}
 use Rattle.double_array.specs.declared.Marker.the-variants.{Sound, Broken}
-use Rattle.double_array.proofs.DoubleArray.{IsMarker, marker-told, Sizes, opened-sizes, opened-order}
+use Rattle.double_array.proofs.DoubleArray.{IsMarker, marker-told, child-inside, Sizes, opened-sizes, opened-order}
 use Rattle.score.specs.declared.Kept.{Kept}
 use Rattle.score.specs.Inner.{digits, longestLive, Read}
 use Rattle.score.proofs.Digits.{shifted, length-digits, digit-at}
@@ -180,8 +180,9 @@ longest-live-requires c κs = search needs
 
 next-node-requires : tie.Need-next-node-requires Inv-loop μ-loop
 next-node-requires c κs =
-    let l = c .before .before .before .before .before .before in
-    (l .loop .inv .inside, sizes (l .before .before) .high)
+    let m = c .before .before .before in
+    let l = m .before .before .before in
+    (l .loop .inv .inside, (sizes (l .before .before) .high, rw (marker-sound m)))
 
 enum-known-t : tie.Need-enum-known-t Inv-loop μ-loop
 enum-known-t c = search needs
@@ -220,12 +221,12 @@ found : (t : Bool) (x : Child) (u : ℕ) → cond t x Nothing ≡ At u → (t �
 found true x u e = (refl, e)
 found false x u e = let z : _≡_ {A = ℕ} 0 1 = cc in absurd (omega arith)
 
-next-is : (c : tie.After-next-node Inv-loop μ-loop) (r : Child) → c .next-node .result ≡ r → cond (ltb (c .before .before .before .before .before .before .before .loop .passed) (c .before .before .before .before .before .before .before .before .before .args .carried .count)) (childAt (c .before .before .before .before .before .before .before .before .before .args .base .now) (c .before .before .before .before .before .before .before .before .before .args .check .now) (c .before .before .before .before .before .before .before .loop .s) (c .before .before .before .before .before .before .before .loop .older % radix)) Nothing ≡ r
-next-is c r e = sym (c .next-node .ensures .0) ∙ e
+next-is : (c : tie.After-next-node Inv-loop μ-loop) (r : Child) → c .next-node .result ≡ r → cond (ltb (c .before .before .before .before .before .before .before .loop .passed) (c .before .before .before .before .before .before .before .before .before .args .carried .count) && ltb (c .before .before .before .before .before .before .before .loop .passed) 4) (childAt (c .before .before .before .before .before .before .before .before .before .args .base .now) (c .before .before .before .before .before .before .before .before .before .args .check .now) (c .before .before .before .before .before .before .before .loop .s) (c .before .before .before .before .before .before .before .loop .older % radix)) Nothing ≡ r
+next-is c r e = sym (c .next-node .ensures) ∙ e
 
-add-t29 : tie.Need-add-t29 Inv-loop μ-loop
+add-t31 : tie.Need-add-t31 Inv-loop μ-loop
 unfolding inProbability
-add-t29 c =
+add-t31 c =
     let k = c .before .before .before .before .before in
     let l = k .before .before .before .before in
     let s = l .before .before in
@@ -247,18 +248,18 @@ returns-2 c = λ v e.
     let l = m .before .before .before in
     let s = l .before .before in
     let o = l .loop .inv .owing in
-    told (cc (toZ-ofZ (add-t29 c), toZ-ofZ (p-fits k), o .owed-is)) (noted-is g) (read-is k)
+    told (cc (toZ-ofZ (add-t31 c), toZ-ofZ (p-fits k), o .owed-is)) (noted-is g) (read-is k)
     (walking-ends (s .args .base .now) (s .args .check .now) v (words s) (l .loop .s) (l .loop .passed) (l .loop .kept) (l .loop .backoffs) (l .loop .inv .walking v e) (p m) (b m) (extended m) (f m) (marker-sound m) (total m) (left s) (o .long ∙ five s) (omega (arith, passed-inside m, five s))
     (now-owed (s .args .carried .count) (s .args .backoffs .now) (l .loop .passed) (l .loop .kept) (toZ w32 (l .loop .sum)) (toZ w32 (l .loop .owed)) (l .loop .backoffs) o (passed-inside m) (b m) (in-range m .b-in-range) (live m))
     (omega (arith, length-words s, l .loop .inv .few))
-    (λ h. let n : l .loop .passed < s .args .carried .count = omega (arith, length-words s) in rw (sym (word-is l n)) (rw (lt-ltb (l .loop .passed) (s .args .carried .count) n) at (next-is d Nothing (c .enum-told2 .given .1)))))
+    (λ h. let n : l .loop .passed < s .args .carried .count = omega (arith, length-words s) in rw (sym (word-is l n)) (rw (lt-ltb (l .loop .passed) (s .args .carried .count) n, lt-ltb (l .loop .passed) 4 (omega (arith, count-few s))) at (next-is d Nothing (c .enum-told2 .given .1)))))
 
 -- the walk goes on
-went-on : (c : tie.After-t Inv-loop μ-loop) → (ltb (c .before .before .before .before .before .before .before .before .before .loop .passed) (c .before .before .before .before .before .before .before .before .before .before .before .args .carried .count) ≡ true) × (childAt (c .before .before .before .before .before .before .before .before .before .before .before .args .base .now) (c .before .before .before .before .before .before .before .before .before .before .before .args .check .now) (c .before .before .before .before .before .before .before .before .before .loop .s) (c .before .before .before .before .before .before .before .before .before .loop .older % radix) ≡ At (c .t .given .0 .0))
+went-on : (c : tie.After-t Inv-loop μ-loop) → ((ltb (c .before .before .before .before .before .before .before .before .before .loop .passed) (c .before .before .before .before .before .before .before .before .before .before .before .args .carried .count) && ltb (c .before .before .before .before .before .before .before .before .before .loop .passed) 4) ≡ true) × (childAt (c .before .before .before .before .before .before .before .before .before .before .before .args .base .now) (c .before .before .before .before .before .before .before .before .before .before .before .args .check .now) (c .before .before .before .before .before .before .before .before .before .loop .s) (c .before .before .before .before .before .before .before .before .before .loop .older % radix) ≡ At (c .t .given .0 .0))
 went-on c = found _ _ _ (next-is (c .before .before) _ (c .t .given .1))
 
 passed-few : (c : tie.After-t Inv-loop μ-loop) → c .before .before .before .before .before .before .before .before .before .loop .passed < c .before .before .before .before .before .before .before .before .before .before .before .args .carried .count
-passed-few c = ltb-true _ _ (went-on c .0)
+passed-few c = ltb-true _ _ (and-left _ _ (went-on c .0))
 
 -- the back-off that was overwritten
 old-fits : (c : tie.After-old Inv-loop μ-loop) → SFits w32 (getD (c .before .before .before .before .before .loop .backoffs) (c .before .before .before .before .before .loop .passed) (pos 0))
@@ -303,7 +304,7 @@ loop-again c =
     let u = t .t .given .0 .0 in
     again (read-is k) (cc (toZ-ofZ (sub-owed c), toZ-ofZ (old-fits a))) (sum-is a) (noted-is g)
     (record {
-      inside = omega (arith, d .next-node .ensures .1 u (t .t .given .1), sizes s .same);
+      inside = omega (arith, child-inside (s .args .base .now) (s .args .check .now) (l .loop .s) (l .loop .older % radix) u (went-on t .1), sizes s .same);
       few = omega (arith, passed-few t);
       older-is = rw add-one (ap (λ (n : ℕ). n / radix) (l .loop .inv .older-is));
       owing = owing-on (s .args .carried .count) (s .args .backoffs .now) (l .loop .passed) (l .loop .kept) (toZ w32 (l .loop .sum)) (toZ w32 (l .loop .owed)) (l .loop .backoffs) o (passed-inside m) (b m) (in-range m .b-in-range) (omega (arith, count-few s, five s)) (passed-few t) (live m);
@@ -331,7 +332,7 @@ walk-spec =
     next-node-requires
     enum-known-t
     enum-told-2
-    add-t29
+    add-t31
     returns-2
     sub-owed
     add-passed
