@@ -3,7 +3,7 @@ use mathlib.Core.Path.{_≡_, refl, sym, ap, ap₂, subst, _∙_}
 use mathlib.Core.Bool.{Bool, true, false, cond, true≢false}
 use mathlib.Core.List.{List, [], _∷_}
 use mathlib.Core.Option.{Option}
-use Prim.Native.Nat.{ℕ, suc, _+_, _*_, _-_, _≤_, _<_}
+use Prim.Native.Nat.{ℕ, suc, _+_, _*_, _-_, _%_, _≤_, _<_}
 use native.Mathlib.Omega.{arith}
 use lib.ListN.{length, getD, take}
 use lib.IntN.{ℤ, natAbs, _+ℤ_}
@@ -238,17 +238,14 @@ module _ (base check : List ℤ) (ends : List ℕ) (r : Run) where
   abbrev o : Option Store
   o = opened base check
 
-  module _ (a i : ℕ) (total : ℤ) (points : List ℤ) (lengths counts : List ℕ) (b : Batching o ends r a i total points lengths counts) (h : i < length ends) (good : badEnd (length (r .words)) 1 0 ends ≡ 0) (in-points : lastEnd 0 ends ≤ length (r .points)) (in-lengths : lastEnd 0 ends ≤ length (r .lengths)) where
-    abbrev e : ℕ
-    e = getD ends i 0
-
+  module _ (a i : ℕ) (total : ℤ) (points : List ℤ) (lengths counts : List ℕ) (b : Batching o ends r a i total points lengths counts) (h : i < length ends) (good : badEnd (length (r .words)) 1 0 ends ≡ 0) (in-points : lastEnd 0 ends ≤ length (r .points)) (in-lengths : lastEnd 0 ends ≤ length (r .lengths)) (e : ℕ) (e-is : e ≡ getD ends i 0) where
     last : e ≤ lastEnd 0 ends
-    last = omega (arith, lastEnd-next 0 ends i h, good-last (length (r .words)) 0 0 ends (i + 1) good)
+    last = omega (arith, e-is, lastEnd-next 0 ends i h, good-last (length (r .words)) 0 0 ends (i + 1) good)
 
     pub next-within : Within a e (length (r .words)) (length points) (length lengths)
     next-within =
         let g = good-end (length (r .words)) 0 0 ends i good h in
-        record { below = omega (arith, b .a-is, g .0); in-words = g .1; in-points = omega (arith, last, b .points-done .long); in-lengths = omega (arith, last, b .lengths-done .long) }
+        record { below = omega (arith, e-is, b .a-is, g .0); in-words = omega (arith, e-is, g .1); in-points = omega (arith, last, b .points-done .long); in-lengths = omega (arith, last, b .lengths-done .long) }
 
     -- what it is lent is what stood there at first
     lent-is : record { words = stretch a e (r .words); points = stretch a e points; lengths = stretch a e lengths } ≡ sentence a e r
@@ -262,13 +259,13 @@ module _ (base check : List ℤ) (ends : List ℕ) (r : Run) where
       pub turn-total : (y : ℤ) (c : ℕ) → answer ≡ Whole y c → natAbs y ≤ totalLimit
       turn-total y c w = rw (sentence-whole o (sentence a e r) y c (sym w ∙ next-is .answer-is) .1 .0) (sentence-total-small base check (sentence a e r))
 
-      pub turn-on : (y : ℤ) (c : ℕ) → answer ≡ Whole y c → Batching o ends r e (i + 1) (total +ℤ y) (putBack a e ps points) (putBack a e bs lengths) (counted c counts)
+      pub turn-on : (y : ℤ) (c : ℕ) → answer ≡ Whole y c → Batching o ends r e (i + 1) (total +ℤ y) (putBack a e ps points) (putBack a e bs lengths) (counted (c % 8) counts)
       turn-on y c w =
           let q = sentence a e r in
           let t = sentence-whole o q y c (sym w ∙ next-is .answer-is) in
           rw (t .1 .0)
-          (batching-on o ends r a i total points lengths counts b h (next-within .below) (omega (arith, last)) (omega (arith, last)) (t .0) ps long-points (next-is .points-are (t .0)) bs long-bytes (next-is .lengths-are (t .0)) (sentence-total-small base check q) c (closed-one o q ∙ ap (λ (k : ℕ). k ∷ []) (sym (t .1 .1))))
+          (batching-on o ends r a i total points lengths counts b h e e-is (next-within .below) (omega (arith, last)) (omega (arith, last)) (t .0) ps long-points (next-is .points-are (t .0)) bs long-bytes (next-is .lengths-are (t .0)) (sentence-total-small base check q) c (closed-one o q ∙ ap (λ (k : ℕ). k ∷ []) (sym (t .1 .1))))
 
       pub turn-refused : answer ≡ Refused → OneRefused o ends r i (putBack a e ps points) (putBack a e bs lengths)
       turn-refused w =
-          batching-refused o ends r a i total points lengths counts b h good in-points in-lengths (sentence-refused o (sentence a e r) (sym w ∙ next-is .answer-is)) ps long-points bs long-bytes
+          batching-refused o ends r a i total points lengths counts b h e e-is good in-points in-lengths (sentence-refused o (sentence a e r) (sym w ∙ next-is .answer-is)) ps long-points bs long-bytes

@@ -1,11 +1,11 @@
 -- The sheet's outcome from what the code finds: refused early, some sentence refused, or all scored and counted. Assumes nothing.
 use mathlib.Core.Path.{_≡_, refl, sym, ap, _∙_}
 use mathlib.Core.Bool.{Bool, true, false}
-use mathlib.Core.List.{List, [], _∷_, _++_}
+use mathlib.Core.List.{List}
 use mathlib.Core.Option.{Option}
-use Prim.Native.Nat.{ℕ, _+_, _≤_, _<_}
+use Prim.Native.Nat.{ℕ, _+_, _≤_}
 use native.Mathlib.Omega.{arith}
-use lib.ListN.{length, take, drop, getD, replicate, length-replicate, length-append}
+use lib.ListN.{length, take, drop, replicate, length-replicate, length-append}
 use lib.Seq.{take-at}
 use lib.IntN.{ℤ, pos}
 use lib.Dec.{eqb}
@@ -17,11 +17,9 @@ use Rattle.double_array.specs.DoubleArray.{isArray, opened}
 use Rattle.double_array.proofs.DoubleArray.{opened-some, opened-none}
 use Rattle.batch.specs.declared.Refusal.{Refusal}
 use Rattle.batch.specs.declared.Sheet.{Sheet}
-use Rattle.batch.specs.Counts.{hasMatched, saysUnknown, count}
 use Rattle.batch.specs.Sheet.{sentences, lastEnd, badEnd, sheetSize, earlyRefusal, met, Outcome, wordBytes, closingBytes, unknownOf, matchedOf, firstRefused, refusedSheet, brokenSheet, acceptedSheet, scoredSheet, sheetOutcome}
-use Rattle.batch.specs.Inner.{Tallied, AllScored, OneRefused}
+use Rattle.batch.specs.Inner.{bytesSheet, AllScored, OneRefused}
 use Rattle.batch.proofs.Ends.{Fits, fits, good-within}
-use Rattle.batch.proofs.Counts.{count-append}
 
 -- ---- what comes early
 
@@ -91,18 +89,10 @@ module _ (o : Option Store) (ends : List ℕ) (r : Run) where
     pub lengths-reach : lastEnd 0 ends ≤ length lengths
     lengths-reach = rw (u .lengths-are) (omega (arith, length-append (wordBytes o rs) (drop (lastEnd 0 ends) (r .lengths)), long))
 
-    module _ (last : ℕ) (last-is : last ≡ lastEnd 0 ends) where
-      -- the bytes that are counted last are the words'
-      counted-bytes : take last lengths ≡ wordBytes o rs
-      counted-bytes = rw last-is (ap (take (lastEnd 0 ends)) (u .lengths-are) ∙ take-at (wordBytes o rs) _ (lastEnd 0 ends) long)
+    -- the bytes that are counted last are the words'
+    counted-bytes : take (lastEnd 0 ends) lengths ≡ wordBytes o rs
+    counted-bytes = ap (take (lastEnd 0 ends)) (u .lengths-are) ∙ take-at (wordBytes o rs) _ (lastEnd 0 ends) long
 
-      matched-is : (all : List ℕ) → Tallied (closingBytes o rs ++ take last lengths) all → (k : ℕ) → k < 8 → getD all k 0 ≡ matchedOf o rs k
-      unfolding matchedOf
-      matched-is all t k h = t .each k h ∙ count-append (hasMatched k) (closingBytes o rs) (take last lengths) ∙ rw counted-bytes (omega arith)
-
-      pub all-outcome : (all : List ℕ) → Tallied (closingBytes o rs ++ take last lengths) all → (unknown : ℕ) → unknown ≡ count saysUnknown (take last lengths) → (x : ℤ) → x ≡ total
-          → record { sheet = record { number = 0; sentences = length ends; place = 0; total = x; words = last; unknown = unknown; matched = getD all 1 0 ∷ getD all 2 0 ∷ getD all 3 0 ∷ getD all 4 0 ∷ getD all 5 0 ∷ [] }; points = points; lengths = lengths } ≡ scoredSheet o ends r
-      unfolding scoredSheet acceptedSheet unknownOf
-      all-outcome all t unknown n x y =
-          let unknown-is : unknown ≡ count saysUnknown (wordBytes o rs) = n ∙ ap (count saysUnknown) counted-bytes in
-          rw (u .none-refused, unknown-is, y, u .total-is, u .points-are, u .lengths-are, last-is, matched-is all t 1 (omega arith), matched-is all t 2 (omega arith), matched-is all t 3 (omega arith), matched-is all t 4 (omega arith), matched-is all t 5 (omega arith))
+    pub all-outcome : (x : ℤ) → x ≡ total → (s : Sheet) → s ≡ bytesSheet (length ends) (lastEnd 0 ends) x (closingBytes o rs) (take (lastEnd 0 ends) lengths) → record { sheet = s; points = points; lengths = lengths } ≡ scoredSheet o ends r
+    unfolding scoredSheet acceptedSheet unknownOf matchedOf
+    all-outcome x y s q = rw (u .none-refused, q, counted-bytes, y, u .total-is, u .points-are, u .lengths-are)

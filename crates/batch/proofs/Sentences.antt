@@ -4,7 +4,7 @@ use mathlib.Core.Path.{_≡_, refl, sym, ap, ap₂, _∙_}
 use mathlib.Core.Bool.{true, false, cond}
 use mathlib.Core.List.{List, [], _∷_, _++_, map, append-assoc, append-nil, map-append}
 use mathlib.Core.Option.{Option}
-use Prim.Native.Nat.{ℕ, suc, _+_, _*_, _-_, _≤_, _<_}
+use Prim.Native.Nat.{ℕ, suc, _+_, _*_, _-_, _%_, _≤_, _<_}
 use native.Mathlib.Numerals.{add-one}
 use native.Mathlib.Omega.{arith}
 use lib.ListN.{length, take, drop, getD, length-append, length-drop, take-append-drop, drop-of-length-le}
@@ -21,7 +21,7 @@ use Rattle.score.proofs.Written.{drop-more}
 use Rattle.batch.specs.Sheet.{stretch, sentence, sentences, lastEnd, wordsRun, closed, isScored, sentenceTotal, wordPoints, wordBytes, closingBytes, totalOf, firstRefused, badEnd}
 use Rattle.batch.specs.Inner.{counted, Tallied, AllScored, OneRefused}
 use Rattle.batch.proofs.Ends.{lastEnd-next, good-end, good-last}
-use Rattle.batch.proofs.Counts.{tallied-small, tallied-more, counted-small}
+use Rattle.batch.proofs.Counts.{tallied-small, tallied-closing, counted-small}
 
 -- ---- sentences in two parts
 
@@ -130,10 +130,10 @@ module _ (o : Option Store) (ends : List ℕ) (r : Run) where
     pub lengths-done : Done a (wordBytes o (before i)) (r .lengths) lengths
     pub total-is : total ≡ totalOf o (before i)
     pub total-small : natAbs total ≤ i * totalLimit
-    pub tallied : Tallied (closingBytes o (before i)) counts
+    pub tallied : Tallied (closingBytes o (before i)) [] counts
     pub counts-small : (k : ℕ) → getD counts k 0 ≤ i
 
-  pub batching-begins : (counts : List ℕ) → Tallied [] counts → Batching 0 0 (pos 0) (r .points) (r .lengths) counts
+  pub batching-begins : (counts : List ℕ) → Tallied [] [] counts → Batching 0 0 (pos 0) (r .points) (r .lengths) counts
   unfolding wordPoints wordBytes closingBytes totalOf sentences flat lastEnd
   batching-begins counts t = record {
     at = omega arith;
@@ -144,21 +144,18 @@ module _ (o : Option Store) (ends : List ℕ) (r : Run) where
     total-is = refl;
     total-small = omega arith;
     tallied = t;
-    counts-small = tallied-small [] counts t;
+    counts-small = tallied-small [] [] counts t;
   }
 
-  module _ (a i : ℕ) (total : ℤ) (points : List ℤ) (lengths counts : List ℕ) (b : Batching a i total points lengths counts) (h : i < length ends) where
-    abbrev e : ℕ
-    e = getD ends i 0
-
+  module _ (a i : ℕ) (total : ℤ) (points : List ℤ) (lengths counts : List ℕ) (b : Batching a i total points lengths counts) (h : i < length ends) (e : ℕ) (e-is : e ≡ getD ends i 0) where
     abbrev next : Run
     next = sentence a e r
 
     next-left : firstRefused o 1 (sentences 0 ends r) ≡ cond (isScored o next) (firstRefused o (suc (suc i)) (sentences e (drop (suc i) ends) r)) (suc i)
-    next-left = b .rest ∙ (unfold firstRefused sentences in rw (drop-cons ends i 0 h))
+    next-left = b .rest ∙ (unfold firstRefused sentences in rw (e-is, drop-cons ends i 0 h))
 
     next-before : before (i + 1) ≡ before i ++ (next ∷ [])
-    next-before = sentences-next 0 ends i r h ∙ ap (λ (k : ℕ). before i ++ (sentence k e r ∷ [])) (sym (b .a-is))
+    next-before = sentences-next 0 ends i r h ∙ ap₂ (λ (j k : ℕ). before i ++ (sentence j k r ∷ [])) (sym (b .a-is)) (sym e-is)
 
     -- the next sentence is scored
     pub batching-on : (below : a ≤ e) (in-points : e ≤ length (r .points)) (in-lengths : e ≤ length (r .lengths)) → isScored o next ≡ true
@@ -166,24 +163,24 @@ module _ (o : Option Store) (ends : List ℕ) (r : Run) where
         → (bs : List ℕ) → length bs ≡ e - a → bs ≡ wordsRun o next .lengths
         → natAbs (sentenceTotal o next) ≤ totalLimit
         → (closing : ℕ) → closed o next .lengths ≡ closing ∷ []
-        → Batching e (i + 1) (total +ℤ sentenceTotal o next) (putBack a e ps points) (putBack a e bs lengths) (counted closing counts)
+        → Batching e (i + 1) (total +ℤ sentenceTotal o next) (putBack a e ps points) (putBack a e bs lengths) (counted (closing % 8) counts)
     batching-on below in-points in-lengths s ps long-points points-are bs long-bytes bytes-are small closing byte-is = record {
       at = omega arith;
-      a-is = sym (lastEnd-next 0 ends i h);
+      a-is = e-is ∙ sym (lastEnd-next 0 ends i h);
       rest = next-left ∙ rw (s, add-one i);
       points-done = rw (next-before, wordPoints-one o (before i) next, sym points-are) (done-more a e (wordPoints o (before i)) (r .points) points ps below in-points long-points (b .points-done));
       lengths-done = rw (next-before, wordBytes-one o (before i) next, sym bytes-are) (done-more a e (wordBytes o (before i)) (r .lengths) lengths bs below in-lengths long-bytes (b .lengths-done));
       total-is = rw (next-before, totalOf-one o (before i) next, sym (b .total-is));
       total-small = omega (arith, add total (sentenceTotal o next), abs total, abs (sentenceTotal o next), abs (total +ℤ sentenceTotal o next), b .total-small);
-      tallied = rw (next-before, closingBytes-one o (before i) next, byte-is) (tallied-more (closingBytes o (before i)) counts closing (b .tallied));
-      counts-small = counted-small counts closing i (b .tallied .eight) (b .counts-small);
+      tallied = rw (next-before, closingBytes-one o (before i) next, byte-is) (tallied-closing (closingBytes o (before i)) counts (b .tallied) closing);
+      counts-small = counted-small (closing % 8) counts (b .tallied .nine) i (b .counts-small);
     }
 
     -- the next sentence is refused
     pub batching-refused : badEnd (length (r .words)) 1 0 ends ≡ 0 → lastEnd 0 ends ≤ length (r .points) → lastEnd 0 ends ≤ length (r .lengths) → isScored o next ≡ false → (ps : List ℤ) → length ps ≡ e - a → (bs : List ℕ) → length bs ≡ e - a → OneRefused o ends r i (putBack a e ps points) (putBack a e bs lengths)
     batching-refused good in-points in-lengths s ps long-points bs long-bytes =
-        let below : a ≤ e = omega (arith, b .a-is, good-end (length (r .words)) 0 0 ends i good h .0) in
-        let last : e ≤ lastEnd 0 ends = omega (arith, lastEnd-next 0 ends i h, good-last (length (r .words)) 0 0 ends (i + 1) good) in
+        let below : a ≤ e = omega (arith, e-is, b .a-is, good-end (length (r .words)) 0 0 ends i good h .0) in
+        let last : e ≤ lastEnd 0 ends = omega (arith, e-is, lastEnd-next 0 ends i h, good-last (length (r .words)) 0 0 ends (i + 1) good) in
         let points-done = done-more a e (wordPoints o (before i)) (r .points) points ps below (omega arith) long-points (b .points-done) in
         let lengths-done = done-more a e (wordBytes o (before i)) (r .lengths) lengths bs below (omega arith) long-bytes (b .lengths-done) in
         record {

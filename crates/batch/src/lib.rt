@@ -3,17 +3,19 @@ use score::Started;
 use score::State;
 ghost use mathlib.Core.Path.{_≡_};
 ghost use mathlib.Core.List.{List, [], _++_};
-ghost use Prim.Native.Nat.{ℕ, _%_, _≤_, _<_};
-ghost use lib.ListN.{length, getD};
+ghost use Prim.Native.Nat.{ℕ, _+_, _%_, _≤_, _<_};
+ghost use lib.ListN.{length, take, getD, replicate};
+ghost use lib.IntN.{pos};
 ghost use Rattle.backoff.specs.Limits.{runLimit};
+ghost use Rattle.backoff.specs.Refusal.{brokenNode};
+ghost use Rattle.backoff.specs.Run.{written};
 ghost use Rattle.backoff.specs.NineNumbers.{nineZeros};
 ghost use Rattle.backoff.specs.Store.{startOutcome, runOutcome};
 ghost use Rattle.double_array.specs.DoubleArray.{opened};
 ghost use Rattle.score.specs.Answers.{numbersOf, startedOf};
-ghost use Rattle.batch.specs.Counts.{saysUnknown, count};
 ghost use Rattle.batch.specs.Sheet.{closingRun, lastEnd, badEnd, sheetSize, earlyRefusal, refusedSheet, scoredSheet, met, sheetOutcome};
 ghost use Rattle.batch.specs.Meaning.{SheetMeans};
-ghost use Rattle.batch.specs.Inner.{closingOf, SentenceIs, counted, Tallied, ScoredAs};
+ghost use Rattle.batch.specs.Inner.{closingOf, SentenceIs, counted, Tallied, countedSheet, bytesSheet, ScoredAs};
 
 // What the call returns: sentences, words, unknown words, total points, and for each matched length 1 to 5 how many scored words had it. A refused
 // sheet is all zeros but for the refusal's number and its place.
@@ -46,6 +48,9 @@ enum Scored {
     Refused(usize),
 }
 
+// Length bytes are counted by their matched length at 0 to 7, and those of unknown words at 8.
+const UNKNOWN: usize = 8;
+
 // A refused sheet.
 fn refused(number: u32, place: u64) -> Sheet
     ensures { λ r. ⌜ r ≡ refusedSheet number place ⌝ }
@@ -61,6 +66,13 @@ fn refused(number: u32, place: u64) -> Sheet
     }
 }
 
+// How many words stand before a sentence's end: the end is their count.
+fn words_before(end: u32) -> usize
+    ensures { λ r. ⌜ r ≡ end ⌝ }
+{
+    end as usize
+}
+
 // The number of the first sentence whose end is below the one before or past the words, 0 if there is none.
 fn bad_end(ends: &[u32], words: usize) -> usize
     ensures { λ r. ⌜ r ≡ badEnd words 1 0 (now (ends .entry)) ⌝ }
@@ -68,7 +80,7 @@ fn bad_end(ends: &[u32], words: usize) -> usize
     let mut before = 0;
     let mut i = 0;
     while i < ends.len() {
-        let end = ends[i] as usize;
+        let end = words_before(ends[i]);
         if end < before {
             return i + 1;
         }
@@ -89,7 +101,7 @@ fn last_end(ends: &[u32]) -> usize
     if count == 0 {
         return 0;
     }
-    ends[count - 1] as usize
+    words_before(ends[count - 1])
 }
 
 // 14 for too many words or ends, 15 for a slice that is shorter than the last end, 0 for neither.
@@ -140,30 +152,26 @@ fn early_refusal(
     Refusal { number, place: 0 }
 }
 
-// One more byte, counted by its matched length.
-fn count_byte(counts: &mut [u32; 8], byte: u8)
-    requires { ⌜ getD (now counts) (byte % 8) 0 < 4294967295 ⌝ }
+// One more byte, counted by its matched length, and among the unknown words if it says so.
+fn count_byte(counts: &mut [u32; 9], byte: u8)
+    requires { ⌜ (getD (now counts) (byte % 8) 0 < 4294967295) × (getD (now counts) 8 0 < 4294967295) ⌝ }
     ensures { λ _. ⌜ now (counts .exit) ≡ counted byte (now (counts .entry)) ⌝ }
 {
     let matched = (byte % 8) as usize;
     counts[matched] += 1;
+    counts[UNKNOWN] += (byte / 8 % 2) as u32;
 }
 
-// The words' bytes, counted by their matched lengths; answers how many are those of unknown words.
-fn count_words(lengths: &[u8], counts: &mut [u32; 8]) -> u32
-    requires { ⌜ (length (now lengths) ≤ runLimit) × ((length (now counts) ≡ 8) × ((k : ℕ) → getD (now counts) k 0 ≤ runLimit)) ⌝ }
-    ensures unknown { λ r. ⌜ r ≡ count saysUnknown (now (lengths .entry)) ⌝ }
-    ensures matched { λ _. ⌜ ((bytes : List ℕ) → Tallied bytes (now (counts .entry)) → Tallied (bytes ++ now (lengths .entry)) (now (counts .exit))) ⌝ }
+// The words' bytes, counted.
+fn count_words(lengths: &[u8], counts: &mut [u32; 9])
+    requires { ⌜ (length (now lengths) ≤ runLimit) × ((length (now counts) ≡ 9) × ((k : ℕ) → getD (now counts) k 0 ≤ runLimit)) ⌝ }
+    ensures { λ _. ⌜ ((bytes words : List ℕ) → Tallied bytes words (now (counts .entry)) → Tallied (bytes ++ now (lengths .entry)) (words ++ now (lengths .entry)) (now (counts .exit))) ⌝ }
 {
-    let mut unknown = 0;
     let mut i = 0;
     while i < lengths.len() {
-        let byte = lengths[i];
-        count_byte(counts, byte);
-        unknown += (byte / 8 % 2) as u32;
+        count_byte(counts, lengths[i]);
         i += 1;
     }
-    unknown
 }
 
 // The closing 3, from the state that a sentence's words left.
@@ -213,28 +221,27 @@ fn score_sentence(
     }
 }
 
-// Each sentence in turn, on its own stretch of the words, of the points and of the lengths.
+// Each sentence in turn, on its own stretch of the words, of the points and of the lengths. A closing 3 is counted by its matched length alone.
 fn score_sentences(
     base: &[i32],
     check: &[i32],
-    started: Started,
     words: &[u32],
     ends: &[u32],
     points: &mut [i32],
     lengths: &mut [u8],
-    counts: &mut [u32; 8],
+    counts: &mut [u32; 9],
 ) -> Scored
-    requires { ⌜ startedOf started ≡ startOutcome (opened (now base) (now check)) nineZeros ⌝ }
     requires { ⌜ badEnd (length (now words)) 1 0 (now ends) ≡ 0 ⌝ }
     requires { ⌜ (length (now ends) ≤ runLimit) × ((lastEnd 0 (now ends) ≤ length (now points)) × (lastEnd 0 (now ends) ≤ length (now lengths))) ⌝ }
-    requires { ⌜ Tallied [] (now counts) ⌝ }
+    requires { ⌜ Tallied [] [] (now counts) ⌝ }
     ensures { λ r. ⌜ ScoredAs (opened (now (base .entry)) (now (check .entry))) (now (ends .entry)) (record { words = now (words .entry); points = now (points .entry); lengths = now (lengths .entry) }) r (now (points .exit)) (now (lengths .exit)) (now (counts .exit)) ⌝ }
 {
+    let started = score::start(base, check);
     let mut sum: i64 = 0;
     let mut a = 0;
     let mut i = 0;
     while i < ends.len() {
-        let e = ends[i] as usize;
+        let e = words_before(ends[i]);
         let scored = score_sentence(
             base,
             check,
@@ -246,12 +253,52 @@ fn score_sentences(
         let Sentence::Whole { total, closing } = scored else {
             return Scored::Refused(i);
         };
-        count_byte(counts, closing);
+        count_byte(counts, closing % 8);
         sum += total;
         a = e;
         i += 1;
     }
     Scored::All(sum)
+}
+
+// The sheet of so many sentences and words, once all of them are counted.
+fn counted_sheet(sentences: usize, words: usize, total: i64, counts: [u32; 9]) -> Sheet
+    requires { ⌜ (sentences ≤ runLimit) × (words ≤ runLimit) ⌝ }
+    ensures { λ r. ⌜ r ≡ countedSheet sentences words total counts ⌝ }
+{
+    Sheet {
+        number: 0,
+        sentences: sentences as u32,
+        place: 0,
+        total,
+        words: words as u32,
+        unknown: counts[UNKNOWN],
+        matched: [counts[1], counts[2], counts[3], counts[4], counts[5]],
+    }
+}
+
+// The sheet of sentences that are all scored: their closing 3s are counted, their words not yet.
+fn full_sheet(ends: &[u32], lengths: &[u8], total: i64, mut counts: [u32; 9]) -> Sheet
+    requires { ⌜ (length (now ends) ≤ runLimit) × ((lastEnd 0 (now ends) ≤ runLimit) × (lastEnd 0 (now ends) ≤ length (now lengths))) ⌝ }
+    requires { ⌜ ((k : ℕ) → getD counts k 0 ≤ runLimit) ⌝ }
+    ensures { λ r. ⌜ ((closing : List ℕ) → Tallied closing [] counts → r ≡ bytesSheet (length (now (ends .entry))) (lastEnd 0 (now (ends .entry))) total closing (take (lastEnd 0 (now (ends .entry))) (now (lengths .entry)))) ⌝ }
+{
+    let last = last_end(ends);
+    count_words(&lengths[..last], &mut counts);
+    counted_sheet(ends.len(), last, total, counts)
+}
+
+// The sheet where sentence k is refused, counted from 0: no stretch keeps what was written.
+fn broken_sheet(ends: &[u32], points: &mut [i32], lengths: &mut [u8], k: usize) -> Sheet
+    requires { ⌜ (k < length (now ends)) × (length (now ends) ≤ runLimit) ⌝ }
+    requires { ⌜ (lastEnd 0 (now ends) ≤ length (now points)) × (lastEnd 0 (now ends) ≤ length (now lengths)) ⌝ }
+    ensures sheet { λ r. ⌜ r ≡ refusedSheet brokenNode (k + 1) ⌝ }
+    ensures points { λ _. ⌜ now (points .exit) ≡ written (replicate (lastEnd 0 (now (ends .entry))) (pos 0)) (now (points .entry)) ⌝ }
+    ensures lengths { λ _. ⌜ now (lengths .exit) ≡ written (replicate (lastEnd 0 (now (ends .entry))) 0) (now (lengths .entry)) ⌝ }
+{
+    let last = last_end(ends);
+    score::clear(points, lengths, last);
+    refused(backoff::BROKEN_NODE, k as u64 + 1)
 }
 
 // The sheet of sentences that no early refusal meets.
@@ -266,36 +313,11 @@ fn score_sheet(
     requires { ⌜ met (opened (now base) (now check)) (now ends) (record { words = now words; points = now points; lengths = now lengths }) .number ≡ 0 ⌝ }
     ensures { λ r. ⌜ record { sheet = r; points = now (points .exit); lengths = now (lengths .exit) } ≡ scoredSheet (opened (now (base .entry)) (now (check .entry))) (now (ends .entry)) (record { words = now (words .entry); points = now (points .entry); lengths = now (lengths .entry) }) ⌝ }
 {
-    let started = score::start(base, check);
-    let last = last_end(ends);
-    let mut counts = [0u32; 8];
-    let scored = score_sentences(
-        base,
-        check,
-        started,
-        words,
-        ends,
-        points,
-        lengths,
-        &mut counts,
-    );
+    let mut counts = [0u32; 9];
+    let scored = score_sentences(base, check, words, ends, points, lengths, &mut counts);
     match scored {
-        Scored::All(total) => {
-            let unknown = count_words(&lengths[..last], &mut counts);
-            Sheet {
-                number: 0,
-                sentences: ends.len() as u32,
-                place: 0,
-                total,
-                words: last as u32,
-                unknown,
-                matched: [counts[1], counts[2], counts[3], counts[4], counts[5]],
-            }
-        }
-        Scored::Refused(k) => {
-            score::clear(points, lengths, last);
-            refused(backoff::BROKEN_NODE, k as u64 + 1)
-        }
+        Scored::All(total) => full_sheet(ends, lengths, total, counts),
+        Scored::Refused(k) => broken_sheet(ends, points, lengths, k),
     }
 }
 

@@ -1,32 +1,37 @@
 -- `batch::last_end` meets its contract. Assumes nothing.
-use mathlib.Core.Path.{sym}
-use Prim.Native.Nat.{_-_}
-use native.Mathlib.Omega.{arith}
+use mathlib.Core.Path.{sym, _∙_}
 use borrow.Author.Needs.{needs}
-use lib.ListN.{length}
 use Rattle.batch.proofs.Ends.{lastEnd-none, lastEnd-is}
 use Rattle.batch.proofs.last_end.Statement.{statement}
 use Rattle.batch.proofs.last_end.Tie as tie
 
 returns : tie.Need-returns
-returns c = sym (lastEnd-none (c .before .args .ends .now) (c .if1 .taken))
+returns c = sym (lastEnd-none (c .before .before .args .ends .now) (c .if1 .taken))
 
-sub-result : tie.Need-sub-result
-sub-result c = search needs
+sub-words-before : tie.Need-sub-words-before
+sub-words-before c = search needs
 
-mul-result : tie.Need-mul-result
-mul-result c = search needs
+mul-words-before : tie.Need-mul-words-before
+mul-words-before c = search needs
 
-shared-slice-read-result : tie.Need-shared-slice-read-result
-shared-slice-read-result c = search needs
+shared-slice-read-words-before : tie.Need-shared-slice-read-words-before
+shared-slice-read-words-before c = search needs
 
-cast-result : tie.Need-cast-result
-cast-result c = let s = c .before .before in omega (arith, c .shared-slice-known .given (length (s .args .ends .now) - 1))
+words-before-requires : tie.Need-words-before-requires
+words-before-requires c κs = search needs
 
 returns-2 : tie.Need-returns-2
-returns-2 c = let s = c .before .before in sym (lastEnd-is (s .args .ends .now) (c .before .if1 .left))
+returns-2 c =
+    let k = c .before .before in
+    c .words-before .ensures ∙ sym (lastEnd-is (k .before .before .args .ends .now) (k .if1 .left))
 
 pub last-end-spec : {M : Type 1} → statement M
 last-end-spec =
     tie.close
-    (tie.spec returns sub-result mul-result shared-slice-read-result cast-result returns-2)
+    (tie.spec
+    returns
+    sub-words-before
+    mul-words-before
+    shared-slice-read-words-before
+    words-before-requires
+    returns-2)

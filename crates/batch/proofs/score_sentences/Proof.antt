@@ -1,7 +1,7 @@
 -- `batch::score_sentences` meets its contract. The loop's invariant: the sentences before the i-th are scored, each on its own stretch. Assumes nothing.
 use mathlib.Core.Path.{_≡_, _∙_}
 use mathlib.Core.List.{List}
-use Prim.Native.Nat.{ℕ, _-_, _%_, _≤_, _<_}
+use Prim.Native.Nat.{ℕ, _-_, _≤_, _<_}
 use native.Mathlib.Omega.{arith}
 use borrow.Author.Needs.{needs}
 use lib.ListN.{length, getD, drop, length-drop}
@@ -18,81 +18,90 @@ use Rattle.batch.proofs.score_sentences.Statement.{statement}
 use Rattle.batch.proofs.score_sentences.Tie as tie
 
 abbrev Inv-loop : tie.InvT-loop
-Inv-loop base check started words ends points₀ lengths₀ counts₀ sum₀ a₀ i₀ points lengths counts sum a i =
+Inv-loop base check words ends points₀ lengths₀ counts₀ started sum₀ a₀ i₀ points lengths counts sum a i =
     Batching (opened base check) ends (record { words = words; points = points₀; lengths = lengths₀ }) a i (toZ w64 sum) points lengths counts
 
 abbrev μ-loop : tie.MeasureT-loop
-μ-loop base check started words ends points₀ lengths₀ counts₀ sum₀ a₀ i₀ points lengths counts sum a i =
+μ-loop base check words ends points₀ lengths₀ counts₀ started sum₀ a₀ i₀ points lengths counts sum a i =
     length ends - i
 
 -- the sheet that is asked for
 abbrev asked : tie.Start Inv-loop μ-loop → Run
 asked s = record { words = s .args .words .now; points = s .args .points .now; lengths = s .args .lengths .now }
 
+start-requires : tie.Need-start-requires Inv-loop μ-loop
+start-requires c κs = search needs
+
 loop-holds : tie.Need-loop-holds Inv-loop μ-loop
-loop-holds c = let s = c .before .before .before in batching-begins (opened (s .args .base .now) (s .args .check .now)) (s .args .ends .now) (asked s) (s .args .counts .now) (s .pre .1 .1 .1)
+loop-holds c =
+    let s = c .before .before .before .before in
+    batching-begins (opened (s .args .base .now) (s .args .check .now)) (s .args .ends .now) (asked s) (s .args .counts .now) (s .pre .1 .1)
 
-mul-e : tie.Need-mul-e Inv-loop μ-loop
-mul-e c = search needs
+mul-words-before : tie.Need-mul-words-before Inv-loop μ-loop
+mul-words-before c = search needs
 
-shared-slice-read-e : tie.Need-shared-slice-read-e Inv-loop μ-loop
-shared-slice-read-e c = search needs
+shared-slice-read-words-before : tie.Need-shared-slice-read-words-before Inv-loop μ-loop
+shared-slice-read-words-before c = search needs
 
-cast-e : tie.Need-cast-e Inv-loop μ-loop
-cast-e c = omega (arith, c .shared-slice-known3 .given (c .before .before .loop .i))
+words-before-requires : tie.Need-words-before-requires Inv-loop μ-loop
+words-before-requires c κs = search needs
 
--- the function's start, from a turn of the loop
+-- a turn of the loop, once its sentence's end is known, and the function's start from there
+abbrev turn : tie.After-words-before Inv-loop μ-loop → tie.In-loop Inv-loop μ-loop
+turn w = w .before .before
+
 abbrev start : tie.In-loop Inv-loop μ-loop → tie.Start Inv-loop μ-loop
-start n = n .before .before .before .before .before
+start n = n .before .before .before .before .before .before
 
 next-end : (n : tie.In-loop Inv-loop μ-loop) → n .before .loop .i < length (start n .args .ends .now)
 next-end n = search needs
 
-within : (n : tie.In-loop Inv-loop μ-loop) → Within (n .before .loop .a) (getD (start n .args .ends .now) (n .before .loop .i) 0) (length (start n .args .words .now)) (length (n .before .loop .points)) (length (n .before .loop .lengths))
-within n =
+within : (w : tie.After-words-before Inv-loop μ-loop) → Within (turn w .before .loop .a) (w .words-before .result) (length (start (turn w) .args .words .now)) (length (turn w .before .loop .points)) (length (turn w .before .loop .lengths))
+within w =
+    let n = turn w in
     let l = n .before .loop in
     let s = start n in
-    next-within (s .args .base .now) (s .args .check .now) (s .args .ends .now) (asked s) (l .a) (l .i) (toZ w64 (l .sum)) (l .points) (l .lengths) (l .counts) (l .inv) (next-end n) (s .pre .1 .0) (s .pre .1 .1 .0 .1 .0) (s .pre .1 .1 .0 .1 .1)
+    next-within (s .args .base .now) (s .args .check .now) (s .args .ends .now) (asked s) (l .a) (l .i) (toZ w64 (l .sum)) (l .points) (l .lengths) (l .counts) (l .inv) (next-end n) (s .pre .0) (s .pre .1 .0 .1 .0) (s .pre .1 .0 .1 .1) (w .words-before .result) (w .words-before .ensures)
 
 mul-score-sentence : tie.Need-mul-score-sentence Inv-loop μ-loop
-mul-score-sentence c = omega (arith, within (c .before))
+mul-score-sentence c = omega (arith, within c)
 
 sub-score-sentence : tie.Need-sub-score-sentence Inv-loop μ-loop
-sub-score-sentence c = omega (arith, within (c .before))
+sub-score-sentence c = omega (arith, within c)
 
 part-score-sentence-start : tie.Need-part-score-sentence-start Inv-loop μ-loop
-part-score-sentence-start c = omega (arith, within (c .before))
+part-score-sentence-start c = omega (arith, within c)
 
 part-score-sentence-end : tie.Need-part-score-sentence-end Inv-loop μ-loop
-part-score-sentence-end c = omega (arith, within (c .before))
+part-score-sentence-end c = omega (arith, within c)
 
 mul-score-sentence-2 : tie.Need-mul-score-sentence-2 Inv-loop μ-loop
-mul-score-sentence-2 c = omega (arith, within (c .before .before))
+mul-score-sentence-2 c = omega (arith, within (c .before))
 
 sub-score-sentence-2 : tie.Need-sub-score-sentence-2 Inv-loop μ-loop
-sub-score-sentence-2 c = omega (arith, within (c .before .before))
+sub-score-sentence-2 c = omega (arith, within (c .before))
 
 part-score-sentence-start-2 : tie.Need-part-score-sentence-start-2 Inv-loop μ-loop
-part-score-sentence-start-2 c = omega (arith, within (c .before .before))
+part-score-sentence-start-2 c = omega (arith, within (c .before))
 
 part-score-sentence-end-2 : tie.Need-part-score-sentence-end-2 Inv-loop μ-loop
-part-score-sentence-end-2 c = omega (arith, within (c .before .before))
+part-score-sentence-end-2 c = omega (arith, within (c .before))
 
 sub-score-sentence-3 : tie.Need-sub-score-sentence-3 Inv-loop μ-loop
-sub-score-sentence-3 c = omega (arith, within (c .before .before .before))
+sub-score-sentence-3 c = omega (arith, within (c .before .before))
 
 part-score-sentence-start-3 : tie.Need-part-score-sentence-start-3 Inv-loop μ-loop
-part-score-sentence-start-3 c = omega (arith, within (c .before .before .before))
+part-score-sentence-start-3 c = omega (arith, within (c .before .before))
 
 part-score-sentence-end-3 : tie.Need-part-score-sentence-end-3 Inv-loop μ-loop
-part-score-sentence-end-3 c = omega (arith, within (c .before .before .before))
+part-score-sentence-end-3 c = omega (arith, within (c .before .before))
 
 score-sentence-requires : tie.Need-score-sentence-requires Inv-loop μ-loop
-score-sentence-requires c κs = start (c .before .before .before .before) .pre .0
+score-sentence-requires c κs = turn (c .before .before .before) .before .before .start .ensures .0
 
--- the turn in which `score_sentence` was called, and the stretches as it left them
-abbrev turn : tie.After-score-sentence Inv-loop μ-loop → tie.In-loop Inv-loop μ-loop
-turn d = d .before .before .before .before .before
+-- the sentence's end when `score_sentence` was called, and the stretches as it left them
+abbrev ended : tie.After-score-sentence Inv-loop μ-loop → tie.After-words-before Inv-loop μ-loop
+ended d = d .before .before .before .before
 
 abbrev points : tie.After-score-sentence Inv-loop μ-loop → List ℤ
 points d = d .score-sentence .last .1 .1 .1 .1 .0
@@ -100,20 +109,20 @@ points d = d .score-sentence .last .1 .1 .1 .1 .0
 abbrev lengths : tie.After-score-sentence Inv-loop μ-loop → List ℕ
 lengths d = d .score-sentence .last .1 .1 .1 .1 .1 .0
 
-points-long : (d : tie.After-score-sentence Inv-loop μ-loop) → length (points d) ≡ getD (start (turn d) .args .ends .now) (turn d .before .loop .i) 0 - turn d .before .loop .a
+points-long : (d : tie.After-score-sentence Inv-loop μ-loop) → length (points d) ≡ ended d .words-before .result - turn (ended d) .before .loop .a
 points-long d =
-    let w = within (turn d) in
-    let e = getD (start (turn d) .args .ends .now) (turn d .before .loop .i) 0 in
-    let a = turn d .before .loop .a in
-    let l = turn d .before .loop .points in
+    let w = within (ended d) in
+    let e = ended d .words-before .result in
+    let a = turn (ended d) .before .loop .a in
+    let l = turn (ended d) .before .loop .points in
     d .score-sentence .kept .1 .1 .1 .1 .0 ∙ length-take-le (e - a) (drop a l) (omega (arith, length-drop a l, w))
 
-lengths-long : (d : tie.After-score-sentence Inv-loop μ-loop) → length (lengths d) ≡ getD (start (turn d) .args .ends .now) (turn d .before .loop .i) 0 - turn d .before .loop .a
+lengths-long : (d : tie.After-score-sentence Inv-loop μ-loop) → length (lengths d) ≡ ended d .words-before .result - turn (ended d) .before .loop .a
 lengths-long d =
-    let w = within (turn d) in
-    let e = getD (start (turn d) .args .ends .now) (turn d .before .loop .i) 0 in
-    let a = turn d .before .loop .a in
-    let l = turn d .before .loop .lengths in
+    let w = within (ended d) in
+    let e = ended d .words-before .result in
+    let a = turn (ended d) .before .loop .a in
+    let l = turn (ended d) .before .loop .lengths in
     d .score-sentence .kept .1 .1 .1 .1 .1 .0 ∙ length-take-le (e - a) (drop a l) (omega (arith, length-drop a l, w))
 
 enum-known-scored : tie.Need-enum-known-scored Inv-loop μ-loop
@@ -131,39 +140,42 @@ same-length-2 c = search needs
 returns : tie.Need-returns Inv-loop μ-loop
 returns c =
     let d = c .before .before .before .before .before in
-    let n = turn d in
+    let w = ended d in
+    let n = turn w in
     let l = n .before .loop in
     let s = start n in
-    turn-refused (s .args .base .now) (s .args .check .now) (s .args .ends .now) (asked s) (l .a) (l .i) (toZ w64 (l .sum)) (l .points) (l .lengths) (l .counts) (l .inv) (next-end n) (s .pre .1 .0) (s .pre .1 .1 .0 .1 .0) (s .pre .1 .1 .0 .1 .1)
+    turn-refused (s .args .base .now) (s .args .check .now) (s .args .ends .now) (asked s) (l .a) (l .i) (toZ w64 (l .sum)) (l .points) (l .lengths) (l .counts) (l .inv) (next-end n) (s .pre .0) (s .pre .1 .0 .1 .0) (s .pre .1 .0 .1 .1) (w .words-before .result) (w .words-before .ensures)
     (d .score-sentence .result) (points d) (lengths d) (points-long d) (lengths-long d) (d .score-sentence .ensures) (c .enum-told .given .1)
 
+few : (n : tie.In-loop Inv-loop μ-loop) → n .before .loop .i ≤ runLimit
+few n = omega (arith, n .before .loop .inv .at, start n .pre .1 .0 .0)
+
+-- no counter is full
+room : (n : tie.In-loop Inv-loop μ-loop) (k : ℕ) → getD (n .before .loop .counts) k 0 < 4294967295
+room n k = omega (arith, n .before .loop .inv .counts-small k, few n)
+
 count-byte-requires : tie.Need-count-byte-requires Inv-loop μ-loop
-count-byte-requires c κs =
-    let n = turn (c .before .before .before .before .before .before .before) in
-    let v = n .before .loop .inv in
-    omega (arith, v .counts-small (c .before .before .scored .given .0 .1 .0 % 8), v .at, start n .pre .1 .1 .0 .0)
+count-byte-requires c κs = let n = turn (ended (c .before .before .before .before .before .before .before)) in (room n _, room n _)
 
 -- from the end of a turn
 abbrev called : tie.After-count-byte Inv-loop μ-loop → tie.After-score-sentence Inv-loop μ-loop
 called c = c .before .before .before .before .before .before .before .before
 
-few : (n : tie.In-loop Inv-loop μ-loop) → n .before .loop .i ≤ runLimit
-few n = omega (arith, n .before .loop .inv .at, start n .pre .1 .1 .0 .0)
-
 total-small : (c : tie.After-count-byte Inv-loop μ-loop) → natAbs (c .before .before .before .scored .given .0 .0) ≤ totalLimit
 total-small c =
     let d = called c in
-    let n = turn d in
+    let w = ended d in
+    let n = turn w in
     let l = n .before .loop in
     let s = start n in
-    turn-total (s .args .base .now) (s .args .check .now) (s .args .ends .now) (asked s) (l .a) (l .i) (toZ w64 (l .sum)) (l .points) (l .lengths) (l .counts) (l .inv) (next-end n) (s .pre .1 .0) (s .pre .1 .1 .0 .1 .0) (s .pre .1 .1 .0 .1 .1)
+    turn-total (s .args .base .now) (s .args .check .now) (s .args .ends .now) (asked s) (l .a) (l .i) (toZ w64 (l .sum)) (l .points) (l .lengths) (l .counts) (l .inv) (next-end n) (s .pre .0) (s .pre .1 .0 .1 .0) (s .pre .1 .0 .1 .1) (w .words-before .result) (w .words-before .ensures)
     (d .score-sentence .result) (points d) (lengths d) (points-long d) (lengths-long d) (d .score-sentence .ensures) _ _ (c .before .before .before .scored .given .1)
 
 add-sum : tie.Need-add-sum Inv-loop μ-loop
-add-sum c = let n = turn (called c) in next-fits (n .before .loop .i) (few n) (toZ w64 (n .before .loop .sum)) (c .before .before .before .scored .given .0 .0) (n .before .loop .inv .total-small) (total-small c)
+add-sum c = let n = turn (ended (called c)) in next-fits (n .before .loop .i) (few n) (toZ w64 (n .before .loop .sum)) (c .before .before .before .scored .given .0 .0) (n .before .loop .inv .total-small) (total-small c)
 
 add-i : tie.Need-add-i Inv-loop μ-loop
-add-i c = search needs
+add-i c = omega (arith, few (turn (ended (called c))))
 
 loop-less : tie.Need-loop-less Inv-loop μ-loop
 loop-less c = search needs
@@ -171,13 +183,14 @@ loop-less c = search needs
 loop-again : tie.Need-loop-again Inv-loop μ-loop
 loop-again c =
     let d = called c in
-    let n = turn d in
+    let w = ended d in
+    let n = turn w in
     let l = n .before .loop in
     let s = start n in
-    let w = c .before .before .before .scored in
-    rw (c .count-byte .ensures, next-added (l .i) (few n) (toZ w64 (l .sum)) (w .given .0 .0) (l .inv .total-small) (total-small c))
-    (turn-on (s .args .base .now) (s .args .check .now) (s .args .ends .now) (asked s) (l .a) (l .i) (toZ w64 (l .sum)) (l .points) (l .lengths) (l .counts) (l .inv) (next-end n) (s .pre .1 .0) (s .pre .1 .1 .0 .1 .0) (s .pre .1 .1 .0 .1 .1)
-    (d .score-sentence .result) (points d) (lengths d) (points-long d) (lengths-long d) (d .score-sentence .ensures) (w .given .0 .0) (w .given .0 .1 .0) (w .given .1))
+    let v = c .before .before .before .scored in
+    rw (c .count-byte .ensures, next-added (l .i) (few n) (toZ w64 (l .sum)) (v .given .0 .0) (l .inv .total-small) (total-small c))
+    (turn-on (s .args .base .now) (s .args .check .now) (s .args .ends .now) (asked s) (l .a) (l .i) (toZ w64 (l .sum)) (l .points) (l .lengths) (l .counts) (l .inv) (next-end n) (s .pre .0) (s .pre .1 .0 .1 .0) (s .pre .1 .0 .1 .1) (w .words-before .result) (w .words-before .ensures)
+    (d .score-sentence .result) (points d) (lengths d) (points-long d) (lengths-long d) (d .score-sentence .ensures) (v .given .0 .0) (v .given .0 .1 .0) (v .given .1))
 
 same-length-3 : tie.Need-same-length-3 Inv-loop μ-loop
 same-length-3 c = c .before .loop .inv .points-done .long
@@ -188,7 +201,7 @@ same-length-4 c = c .before .loop .inv .lengths-done .long
 returns-2 : tie.Need-returns-2 Inv-loop μ-loop
 returns-2 c =
     let l = c .before .loop in
-    let s = c .before .before .before .before .before in
+    let s = c .before .before .before .before .before .before in
     batching-ends (opened (s .args .base .now) (s .args .check .now)) (s .args .ends .now) (asked s) (l .a) (l .i) (toZ w64 (l .sum)) (l .points) (l .lengths) (l .counts) (l .inv) (search needs)
 
 pub score-sentences-spec : {M : Type 1} → statement M
@@ -197,10 +210,11 @@ score-sentences-spec =
     (tie.spec
     Inv-loop
     μ-loop
+    start-requires
     loop-holds
-    mul-e
-    shared-slice-read-e
-    cast-e
+    mul-words-before
+    shared-slice-read-words-before
+    words-before-requires
     mul-score-sentence
     sub-score-sentence
     part-score-sentence-start

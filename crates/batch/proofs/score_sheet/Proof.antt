@@ -1,12 +1,11 @@
 -- `batch::score_sheet` meets its contract. Assumes nothing.
-use mathlib.Core.Path.{_≡_, sym, subst}
-use mathlib.Core.List.{List}
+use mathlib.Core.Path.{_≡_, subst}
+use mathlib.Core.List.{List, []}
 use mathlib.Core.Option.{Option}
 use Prim.Native.Nat.{ℕ, _≤_}
 use native.Mathlib.Omega.{arith}
 use borrow.Author.Needs.{needs, sfits-of}
 use lib.ListN.{length}
-use lib.Seq.{length-take-le}
 use lib.IntN.{ℤ}
 use mir.Facts.{toZ-ofZ}
 use Rattle.backoff.specs.Limits.{runLimit}
@@ -41,34 +40,21 @@ reach s = omega (arith, last-within (s .args .base .now) (s .args .check .now) (
 long : (s : tie.Start) → length (wordBytes (array s) (sentences 0 (ends s) (asked s))) ≡ lastEnd 0 (ends s)
 long s = bytes-long (array s) (asked s) (ends s) (fit s .ends-good) (fit s .sizes .lengths-reach)
 
-start-requires : tie.Need-start-requires
-start-requires c κs = search needs
-
-last-end-requires : tie.Need-last-end-requires
-last-end-requires c κs = search needs
-
 score-sentences-requires : tie.Need-score-sentences-requires
-score-sentences-requires c κs =
-    let b = c .before .before .before .before in
-    let s = b .before .before .before .before in
-    let p = fit s in
-    (b .start .ensures .0, (p .ends-good, ((p .sizes .few-ends, (p .sizes .points-reach, p .sizes .lengths-reach)), tallied-none)))
+score-sentences-requires c κs = let p = fit (c .before .before .before .before .before .before) in (p .ends-good, ((p .sizes .few-ends, (p .sizes .points-reach, p .sizes .lengths-reach)), tallied-none))
 
--- the function's start and the last end, and what `score_sentences` left
+-- the function's start, and what `score_sentences` left
 abbrev start : tie.After-score-sentences → tie.Start
-start d = d .before .before .before .before .before .before .before .before .before
-
-last-is : (d : tie.After-score-sentences) → d .before .before .before .before .last-end .result ≡ lastEnd 0 (ends (start d))
-last-is d = d .before .before .before .before .last-end .ensures
+start d = d .before .before .before .before .before .before .before
 
 abbrev points : tie.After-score-sentences → List ℤ
-points d = d .score-sentences .last .1 .1 .1 .1 .1 .0
+points d = d .score-sentences .last .1 .1 .1 .1 .0
 
 abbrev lengths : tie.After-score-sentences → List ℕ
-lengths d = d .score-sentences .last .1 .1 .1 .1 .1 .1 .0
+lengths d = d .score-sentences .last .1 .1 .1 .1 .1 .0
 
 abbrev counts : tie.After-score-sentences → List ℕ
-counts d = d .score-sentences .last .1 .1 .1 .1 .1 .1 .1 .0
+counts d = d .score-sentences .last .1 .1 .1 .1 .1 .1 .0
 
 -- all sentences are scored
 abbrev scoredFrom : tie.After-scored → tie.After-score-sentences
@@ -79,52 +65,18 @@ all-scored w =
     let d = scoredFrom w in
     subst (λ (x : Scored). ScoredAs (array (start d)) (ends (start d)) (asked (start d)) x (points d) (lengths d) (counts d)) (w .scored .given .1) (d .score-sentences .ensures)
 
--- so the words' bytes reach to the last end
-reaches : (w : tie.After-scored) → scoredFrom w .before .before .before .before .last-end .result ≤ length (lengths (scoredFrom w))
-reaches w =
-    let d = scoredFrom w in
-    omega (arith, last-is d, lengths-reach (array (start d)) (ends (start d)) (asked (start d)) (w .scored .given .0 .0) (points d) (lengths d) (counts d) (all-scored w) (long (start d)))
-
 enum-known-scored : tie.Need-enum-known-scored
 enum-known-scored c = search needs
 
-slice-reshare-prefix-count-words : tie.Need-slice-reshare-prefix-count-words
-slice-reshare-prefix-count-words c = reaches (c .before)
-
-slice-aggregate-count-words : tie.Need-slice-aggregate-count-words
-slice-aggregate-count-words c = sym (length-take-le _ _ (reaches (c .before .before)))
-
-count-words-requires : tie.Need-count-words-requires
-count-words-requires c κs =
-    let w = c .before .before .before in
+full-sheet-requires : tie.Need-full-sheet-requires
+full-sheet-requires c κs =
+    let w = c .before .before in
     let d = scoredFrom w in
     let s = start d in
-    let rs = sentences 0 (ends s) (asked s) in
-    let t = all-scored w .tallied in (
-      omega (arith, length-take-le _ (lengths d) (reaches w), last-is d, reach s),
-      (t .eight, λ k. omega (arith, tallied-small (closingBytes (array s) rs) (counts d) t k, closing-long (array s) rs, sentences-long 0 (ends s) (asked s), fit s .sizes .few-ends)),
+    let rs = sentences 0 (ends s) (asked s) in (
+      (fit s .sizes .few-ends, (reach s, lengths-reach (array s) (ends s) (asked s) (w .scored .given .0 .0) (points d) (lengths d) (counts d) (all-scored w) (long s))),
+      λ k. omega (arith, tallied-small (closingBytes (array s) rs) [] (counts d) (all-scored w .tallied) k, closing-long (array s) rs, sentences-long 0 (ends s) (asked s), fit s .sizes .few-ends),
     )
-
-cast-t24 : tie.Need-cast-t24
-cast-t24 c = let s = start (scoredFrom (c .before .before .before .before)) in omega (arith, fit s .sizes .few-ends)
-
-cast-t25 : tie.Need-cast-t25
-cast-t25 c = let d = scoredFrom (c .before .before .before .before) in omega (arith, last-is d, reach (start d))
-
-array-read-t28 : tie.Need-array-read-t28
-array-read-t28 c = search needs
-
-array-read-t31 : tie.Need-array-read-t31
-array-read-t31 c = search needs
-
-array-read-t34 : tie.Need-array-read-t34
-array-read-t34 c = search needs
-
-array-read-t37 : tie.Need-array-read-t37
-array-read-t37 c = search needs
-
-array-read-t40 : tie.Need-array-read-t40
-array-read-t40 c = search needs
 
 enum-known-scored-2 : tie.Need-enum-known-scored-2
 enum-known-scored-2 c = search needs
@@ -138,20 +90,12 @@ one-refused w =
     let d = refusedFrom w in
     subst (λ (x : Scored). ScoredAs (array (start d)) (ends (start d)) (asked (start d)) x (points d) (lengths d) (counts d)) (w .scored2 .given .1) (d .score-sentences .ensures)
 
-clear-requires : tie.Need-clear-requires
-clear-requires c κs =
+broken-sheet-requires : tie.Need-broken-sheet-requires
+broken-sheet-requires c κs =
     let w = c .before .before .before in
-    let d = refusedFrom w in
+    let p = fit (start (refusedFrom w)) .sizes in
     let u = one-refused w in
-    (omega (arith, last-is d, u .points-long, fit (start d) .sizes .points-reach), omega (arith, last-is d, u .lengths-long, fit (start d) .sizes .lengths-reach))
-
-add-refused : tie.Need-add-refused
-add-refused c =
-    let w = c .before .before .before .before .before .before .before in
-    omega (arith, one-refused w .few, fit (start (refusedFrom w)) .sizes .few-ends)
-
-refused-requires : tie.Need-refused-requires
-refused-requires c κs = search needs
+    ((u .few, p .few-ends), (omega (arith, u .points-long, p .points-reach), omega (arith, u .lengths-long, p .lengths-reach)))
 
 same-length : tie.Need-same-length
 same-length c = search needs
@@ -161,17 +105,13 @@ same-length-2 c = search needs
 
 returns : tie.Need-returns
 returns c =
-    let m = c .before .before .before in
+    let m = c .before .before in
     let w = m .before in
     let d = scoredFrom w in
     let s = start d in
-    let total = w .scored .given .0 .0 in
     let u = all-scored w in
-    all-outcome (array s) (ends s) (asked s) total (points d) (lengths d) (counts d) u (long s) _ (last-is d) _
-    (c .count-words .ensures .1 (closingBytes (array s) (sentences 0 (ends s) (asked s))) (u .tallied))
-    (c .count-words .result)
-    (c .count-words .ensures .0)
-    _ (toZ-ofZ (sfits-of (m .known-told .given .0 .1)))
+    all-outcome (array s) (ends s) (asked s) (w .scored .given .0 .0) (points d) (lengths d) (counts d) u (long s) _ (toZ-ofZ (sfits-of (m .known-told .given .0 .1))) (c .full-sheet .result)
+    (c .full-sheet .ensures (closingBytes (array s) (sentences 0 (ends s) (asked s))) (u .tallied))
 
 same-length-3 : tie.Need-same-length-3
 same-length-3 c = search needs
@@ -181,35 +121,21 @@ same-length-4 c = search needs
 
 returns-2 : tie.Need-returns-2
 returns-2 c =
-    let k = c .before .before .before .before in
+    let k = c .before .before .before in
     let w = k .before .before .before .before in
     let d = refusedFrom w in
     let s = start d in
-    refused-outcome (array s) (ends s) (asked s) (w .scored2 .given .0 .0) (points d) (lengths d) (one-refused w) (c .refused .result) (c .refused .ensures)
-    (k .clear .last .0) (rw (last-is d) at (k .clear .ensures .0)) (k .clear .last .1 .0) (rw (last-is d) at (k .clear .ensures .1))
+    refused-outcome (array s) (ends s) (asked s) (w .scored2 .given .0 .0) (points d) (lengths d) (one-refused w) (k .broken-sheet .result) (k .broken-sheet .ensures .0) _ (k .broken-sheet .ensures .1 .0) _ (k .broken-sheet .ensures .1 .1)
 
 pub score-sheet-spec : {M : Type 1} → statement M
 score-sheet-spec =
     tie.close
     (tie.spec
-    start-requires
-    last-end-requires
     score-sentences-requires
     enum-known-scored
-    slice-reshare-prefix-count-words
-    slice-aggregate-count-words
-    count-words-requires
-    cast-t24
-    cast-t25
-    array-read-t28
-    array-read-t31
-    array-read-t34
-    array-read-t37
-    array-read-t40
+    full-sheet-requires
     enum-known-scored-2
-    clear-requires
-    add-refused
-    refused-requires
+    broken-sheet-requires
     same-length
     same-length-2
     returns
