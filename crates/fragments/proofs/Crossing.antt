@@ -1,15 +1,12 @@
 -- A fragment as it crosses to C is the fragment again. Assumes nothing.
 use mathlib.Core.Path.{_≡_, refl, sym, ap, _∙_}
 use mathlib.Core.Logic.{_⊎_, inl, inr}
-use mathlib.Core.Bool.{false, _&&_}
 use mathlib.Core.List.{List, [], _∷_, _++_}
 use Prim.Native.Nat.{ℕ, _+_, _-_, _≤_, _<_}
 use native.Mathlib.Omega.{arith}
 use lib.ListN.{length, take, getD, replicate, length-append, length-replicate, length-take, List·getD-append, List·getD-eq-default}
 use lib.Seq.{take-append-le, length-take-le, getD-take, getD-append-add}
 use lib.IntN.{ℤ}
-use lib.Dec.{ltb}
-use borrow.Author.Tests.{lt-ltb, ltb-false}
 use Rattle.integer.proofs.Ranges.{lt-or-ge}
 use Rattle.backoff.specs.State.{State}
 use Rattle.backoff.proofs.NineNumbers.{length-nine}
@@ -52,6 +49,14 @@ packed-back f few = crossed-back (packed f) (unfold packed in few) (unfold packe
 
 -- ---- the first words of two neighbours
 
+-- an item of a list, 0 past the last
+pub word-or-zero : (words : List ℕ) (i word : ℕ) → (i < length words → word ≡ getD words i 0) → (length words ≤ i → word ≡ 0) → word ≡ getD words i 0
+word-or-zero words i word within past = go (lt-or-ge i (length words))
+  where
+    go : (i < length words) ⊎ (length words ≤ i) → word ≡ getD words i 0
+    go (inl h) = within h
+    go (inr h) = past h ∙ sym (List·getD-eq-default words 0 h)
+
 -- of `most` words, the first `kept` in the places and then the second's
 module _ (places : List ℕ) (four : length places ≡ 4) (kept : ℕ) (words : List ℕ) (most : ℕ) (few : most ≤ 4) (within : kept ≤ most) where
   abbrev firsts : List ℕ
@@ -75,14 +80,8 @@ module _ (places : List ℕ) (four : length places ≡ 4) (kept : ℕ) (words : 
       at : i ≡ length (take kept places) + (i - kept)
       at = omega (arith, size)
 
-  pub no-word : (i : ℕ) → kept ≤ i → (ltb i most && ltb (i - kept) (length words)) ≡ false → getD firsts i 0 ≡ 0
-  no-word i h e = go (lt-or-ge i most)
-    where
-      go : (i < most) ⊎ (most ≤ i) → getD firsts i 0 ≡ 0
-      go (inl k) =
-          let z : ltb (i - kept) (length words) ≡ false = sym (rw (lt-ltb i most k)) ∙ e in
-          word-after i h k ∙ List·getD-eq-default words 0 (ltb-false (i - kept) (length words) z)
-      go (inr k) = List·getD-eq-default firsts 0 (omega (arith, length-take most (take kept places ++ words)))
+  pub no-word : (i : ℕ) → most ≤ i → getD firsts i 0 ≡ 0
+  no-word i h = List·getD-eq-default firsts 0 (omega (arith, length-take most (take kept places ++ words)))
 
 pub same-four : {a b c d a′ b′ c′ d′ : ℕ} → a ≡ a′ → b ≡ b′ → c ≡ c′ → d ≡ d′ → a ∷ b ∷ c ∷ d ∷ [] ≡ a′ ∷ b′ ∷ c′ ∷ d′ ∷ []
 same-four p q r s = cc

@@ -19,7 +19,7 @@ use Rattle.double_array.specs.DoubleArray.{isArray, orderIn, storeIn, opened}
 use Rattle.double_array.proofs.DoubleArray.{opened-some, opened-none}
 use Rattle.fragments.specs.Fragment.{Fragment, fragmentOk}
 use Rattle.fragments.specs.Outcome.{Reply, refusedBy, joinedAs, joinedIn}
-use Rattle.fragments.specs.Inner.{joinFault, Passed}
+use Rattle.fragments.specs.Inner.{firstBad, pairFault, joinFault, Passed}
 
 -- a verdict, and what a join returns where it is accepted
 abbrev ruled : Reply → Verdict → Reply
@@ -35,6 +35,15 @@ module _ (a b : Fragment (List ℤ)) where
       go true true false r = refl
       go true false k r = refl
       go false q k r = refl
+
+  -- 21 and then 14, as the code has them
+  pub pair-joins : (S : Store) → pairFault (firstBad (S .order) a b) (a .count + b .count) ≡ joinFault (some S) a b
+  pair-joins S = go (fragmentOk (S .order) a) (fragmentOk (S .order) b)
+    where
+      go : (p q : Bool) → pairFault (cond p (cond q 0 2) 1) (a .count + b .count) ≡ cond p (cond q (cond (ltb runLimit (a .count + b .count)) (Refused wordCount 0) Accepted) (Refused badFragment 2)) (Refused badFragment 1)
+      go true true = refl
+      go true false = refl
+      go false q = refl
 
   pub fault-refuses : (o : Option Store) (number place : ℕ) → joinFault o a b ≡ Refused number place → joinedIn o a b ≡ refusedBy number place
   fault-refuses none number place e = let x : arrayHead ≡ number = cc in let y : _≡_ {A = ℕ} 0 place = cc in rw (← x, ← y)

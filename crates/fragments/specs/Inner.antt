@@ -5,7 +5,7 @@ use mathlib.Core.List.{List}
 use mathlib.Core.Option.{Option, none, some}
 use Prim.Native.Nat.{ℕ, _+_, _*_, _≤_}
 use lib.IntN.{ℤ}
-use lib.Dec.{ltb}
+use lib.Dec.{eqb, ltb}
 use Rattle.integer.specs.Integer.{sum}
 use Rattle.backoff.specs.Limits.{runLimit, orderLimit, largestBackoff}
 use Rattle.backoff.specs.Refusal.{arrayHead, wordCount, badFragment}
@@ -20,6 +20,14 @@ use Rattle.fragments.specs.Fragment.{Fragment, fragmentOk}
 -- the most points of a word, from 0
 abbrev pub mostPoints : ℕ
 mostPoints = orderLimit * largestBackoff
+
+-- which of two fragments is the first that does not pass 21 where the order is n, 0 if both pass
+abbrev pub firstBad : ℕ → Fragment (List ℤ) → Fragment (List ℤ) → ℕ
+firstBad n a b = cond (fragmentOk n a) (cond (fragmentOk n b) 0 2) 1
+
+-- 21 for it, then 14 for so many words
+abbrev pub pairFault : ℕ → ℕ → Verdict
+pairFault bad words = cond (eqb bad 0) (cond (ltb runLimit words) (Refused wordCount 0) Accepted) (Refused badFragment bad)
 
 -- what meets two fragments before any word is scored: 11, 21, 14
 abbrev pub joinFault : Option Store → Fragment (List ℤ) → Fragment (List ℤ) → Verdict

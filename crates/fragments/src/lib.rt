@@ -17,7 +17,7 @@ ghost use Rattle.score.specs.Answers.{numbersOf};
 ghost use Rattle.fragments.specs.Fragment.{fragmentOk};
 ghost use Rattle.fragments.specs.Outcome.{refusedBy, fourPlaces, fragmentIn, toNumbers, crossed, scoredFragment, scoredAs, joinedFragment, joinedAs, fragmentOutcome, joinOutcome};
 ghost use Rattle.fragments.specs.Meaning.{ScoringMeans, JoinMeans};
-ghost use Rattle.fragments.specs.Inner.{mostPoints, joinFault, Passed, RescoredAs};
+ghost use Rattle.fragments.specs.Inner.{mostPoints, firstBad, pairFault, joinFault, Passed, RescoredAs};
 
 // A fragment as it crosses to C. The first `kept` places of `first` hold its first words, as given; the others are written 0 and not read. A fragment of
 // the caller's own making may hold any numbers: check 21 decides.
@@ -93,6 +93,17 @@ fn fragment_ok(fragment: Fragment, order: usize) -> bool
     kept_ok & state_ok & total_ok
 }
 
+// The i-th word as it is given, 0 past the last.
+fn word_or_zero(words: &[u32], i: usize) -> u32
+    ensures within { λ r. ⌜ (i < length (now (words .entry)) → r ≡ getD (now (words .entry)) i 0) ⌝ }
+    ensures past { λ r. ⌜ (length (now (words .entry)) ≤ i → r ≡ 0) ⌝ }
+{
+    if i < words.len() {
+        return words[i];
+    }
+    0
+}
+
 // The i-th of the first words: the first `kept` of a fragment, and then its neighbour's, `most` in all.
 fn word_at(first: [u32; 4], kept: usize, words: &[u32], most: usize, i: usize) -> u32
     requires { ⌜ (kept ≤ most) × (most ≤ 4) ⌝ }
@@ -101,9 +112,8 @@ fn word_at(first: [u32; 4], kept: usize, words: &[u32], most: usize, i: usize) -
     if i < kept {
         return first[i];
     }
-    let j = i - kept;
-    if (i < most) & (j < words.len()) {
-        return words[j];
+    if i < most {
+        return word_or_zero(words, i - kept);
     }
     0
 }
@@ -172,6 +182,40 @@ pub fn score_fragment(base: &[i32], check: &[i32], words: &[u32]) -> Joined
     scored(base, check, order, words)
 }
 
+// Which of two fragments is the first that check 21 refuses, 0 if neither is.
+fn first_bad(order: usize, one: Fragment, two: Fragment) -> u32
+    requires { ⌜ (1 ≤ order) × (order ≤ orderLimit) ⌝ }
+    ensures { λ r. ⌜ r ≡ firstBad order (fragmentIn one) (fragmentIn two) ⌝ }
+{
+    if !fragment_ok(one, order) {
+        return 1;
+    }
+    if !fragment_ok(two, order) {
+        return 2;
+    }
+    0
+}
+
+// 21 for the fragment numbered `bad`, for none if that is 0, then 14 for the words of both.
+fn pair_fault(bad: u32, one: u32, two: u32) -> Verdict
+    ensures { λ r. ⌜ r ≡ pairFault bad (one + two) ⌝ }
+{
+    let words = one as u64 + two as u64;
+    if bad != 0 {
+        return Verdict::Refused {
+            number: backoff::BAD_FRAGMENT,
+            place: bad,
+        };
+    }
+    if (backoff::RUN_LIMIT as u64) < words {
+        return Verdict::Refused {
+            number: backoff::WORD_COUNT,
+            place: 0,
+        };
+    }
+    Verdict::Accepted
+}
+
 // What refuses a join before any word is scored: 11, 21 for the first and for the second, 14.
 fn join_fault(base: &[i32], check: &[i32], one: Fragment, two: Fragment) -> Verdict
     ensures { λ r. ⌜ r ≡ joinFault (opened (now (base .entry)) (now (check .entry))) (fragmentIn one) (fragmentIn two) ⌝ }
@@ -183,25 +227,7 @@ fn join_fault(base: &[i32], check: &[i32], one: Fragment, two: Fragment) -> Verd
         };
     }
     let order = double_array::order_of(check);
-    if !fragment_ok(one, order) {
-        return Verdict::Refused {
-            number: backoff::BAD_FRAGMENT,
-            place: 1,
-        };
-    }
-    if !fragment_ok(two, order) {
-        return Verdict::Refused {
-            number: backoff::BAD_FRAGMENT,
-            place: 2,
-        };
-    }
-    if (backoff::RUN_LIMIT as u64) < one.count as u64 + two.count as u64 {
-        return Verdict::Refused {
-            number: backoff::WORD_COUNT,
-            place: 0,
-        };
-    }
-    Verdict::Accepted
+    pair_fault(first_bad(order, one, two), one.count, two.count)
 }
 
 // Scores words from nothing, and again after a state.
