@@ -5,7 +5,7 @@ use mathlib.Core.Bool.{Bool, true, false, cond}
 use mathlib.Core.List.{List, [], _∷_, List·Memᴰ·head, List·Memᴰ·tail}
 use Prim.Native.Nat.{ℕ, zero, suc, _+_, _*_, _-_, _≤_, _<_}
 use native.Mathlib.Omega.{arith}
-use lib.Dec.{leb, lit<}
+use lib.Dec.{leb}
 use lib.ListN.{length, getD, drop}
 use lib.Seq.{drop-cons}
 use lib.IntN.{ℤ}
@@ -168,6 +168,18 @@ module _ (t : List ℤ) where
       go true n = absurd (n refl)
       go false n = refl
 
+  checks-refused : (size n p rows : ℕ) → (n ≡ 0 → ⊥) → fillVerdict t size ≡ Refused n p → Checks t size n p rows
+  checks-refused size n p rows l e = record { number-is = sym (ap numberOf e); place-is = sym (ap placeOf e); accepted = λ z. absurd (l z); rows-are = λ z. absurd (l z) }
+
+  -- by the checks of the list
+  pub checks-listed : (size n p rows : ℕ) → n ≡ numberOf (verdictFor true t) → p ≡ placeOf (verdictFor true t) → (n ≡ 0 → ⊥) → Checks t size n p rows
+  unfolding fillVerdict
+  checks-listed size n p rows n-is p-is l = go (verdictFor true t) refl
+    where
+      go : (v : Verdict) → verdictFor true t ≡ v → Checks t size n p rows
+      go Accepted e = absurd (l (n-is ∙ ap numberOf e))
+      go (Refused m q) e = checks-refused size n p rows l (rw (n-is, p-is, e))
+
   module _ (size : ℕ) (a : verdictFor true t ≡ Accepted) (r : ℕ) (f : FirstNeeding t r) where
     scan-needing : (i k : ℕ) → r < rowsOf t → i + k ≡ rowsOf t → i ≤ r → neededScan t size i k ≡ Refused rowProbability (r + 1)
     unfolding neededScan
@@ -187,11 +199,8 @@ module _ (t : List ℤ) where
     unfolding fillVerdict
     fill-then = ap (λ (v : Verdict). andThen v (neededScan t size 0 (rowsOf t))) a
 
-    checks-refused : (n p rows : ℕ) → 0 < n → fillVerdict t size ≡ Refused n p → Checks t size n p rows
-    checks-refused n p rows l e = record { number-is = sym (ap numberOf e); place-is = sym (ap placeOf e); accepted = λ z. absurd (omega arith); rows-are = λ z. absurd (omega arith) }
-
     pub checks-five : (rows : ℕ) → r < rowsOf t → Checks t size rowProbability (r + 1) rows
-    checks-five rows l = checks-refused rowProbability (r + 1) rows (lit< tt) (fill-then ∙ scan-needing 0 (rowsOf t) l (omega arith) (omega arith))
+    checks-five rows l = checks-refused size rowProbability (r + 1) rows (λ z. omega arith) (fill-then ∙ scan-needing 0 (rowsOf t) l (omega arith) (omega arith))
 
     module _ (e : r ≡ rowsOf t) (count : ℕ) (c : count ≡ length (filledRows t)) where
       sized : fillVerdict t size ≡ sizeVerdict t size
@@ -199,12 +208,12 @@ module _ (t : List ℤ) where
 
       pub checks-many : (rows : ℕ) → rowLimit < count → Checks t size tableLength 0 rows
       unfolding sizeVerdict
-      checks-many rows l = checks-refused tableLength 0 rows (lit< tt) (sized ∙ rw (lt-leb (length (filledRows t)) rowLimit (omega arith)))
+      checks-many rows l = checks-refused size tableLength 0 rows (λ z. omega arith) (sized ∙ rw (lt-leb (length (filledRows t)) rowLimit (omega arith)))
 
       module _ (few : count ≤ rowLimit) where
         pub checks-short : (rows : ℕ) → size < 8 * count → Checks t size shortSlice 0 rows
         unfolding sizeVerdict
-        checks-short rows l = checks-refused shortSlice 0 rows (lit< tt) (sized ∙ rw (le-leb (length (filledRows t)) rowLimit (omega arith), lt-leb (8 * length (filledRows t)) size (omega arith)))
+        checks-short rows l = checks-refused size shortSlice 0 rows (λ z. omega arith) (sized ∙ rw (le-leb (length (filledRows t)) rowLimit (omega arith), lt-leb (8 * length (filledRows t)) size (omega arith)))
 
         pub checks-none : 8 * count ≤ size → Checks t size 0 0 count
         unfolding sizeVerdict
@@ -225,13 +234,7 @@ module _ (t second : List ℤ) where
   refused-by : (n p : ℕ) → fillVerdict t (length second) ≡ Refused n p → IsFilled (fillOutcome t second) n p 0 second
   refused-by n p e = rw (← outcome-by (Refused n p) e) (record { number-is = refl; place-is = refl; rows-are = refl; table-is = refl })
 
-  -- refused by the checks of the list
-  pub outcome-unchecked : (n p : ℕ) → verdictFor true t ≡ Refused n p → IsFilled (fillOutcome t second) n p 0 second
-  unfolding fillVerdict
-  outcome-unchecked n p e = refused-by n p (ap (λ (v : Verdict). andThen v (neededScan t (length second) 0 (rowsOf t))) e)
-
   module _ (number place rows : ℕ) (c : Checks t (length second) number place rows) where
-    -- refused by 5, 1 or 15
     pub outcome-refused : (number ≡ 0 → ⊥) → IsFilled (fillOutcome t second) number place 0 second
     outcome-refused n = go (fillVerdict t (length second)) refl
       where
@@ -241,6 +244,3 @@ module _ (t second : List ℤ) where
 
     pub outcome-accepted : number ≡ 0 → (filled : List ℤ) → filled ≡ written (filledTable t) second → IsFilled (fillOutcome t second) 0 0 rows filled
     outcome-accepted z filled e = rw (← outcome-by Accepted (c .accepted z)) (record { number-is = refl; place-is = refl; rows-are = c .rows-are z; table-is = e })
-
-pub counted-few : (t : List ℤ) (size number place rows : ℕ) → Checks t size number place rows → number ≡ 0 → (rows ≤ rowLimit) × (8 * length (filledRows t) ≤ size)
-counted-few t size number place rows c z = let f = fill-accepted t size (c .accepted z) in (omega (arith, c .rows-are z, f .few), f .fits)

@@ -6,6 +6,7 @@ ghost use Prim.Native.Nat.{suc, _+_, _*_, _-_, _<_, _≤_};
 ghost use lib.IntN.{pos};
 ghost use lib.ListN.{length, getD};
 ghost use Rattle.backoff.specs.Limits.{orderLimit};
+ghost use Rattle.backoff.specs.Refusal.{numberOf, placeOf};
 ghost use Rattle.backoff.specs.Words.{areWords, radix, key};
 ghost use Rattle.backoff.specs.Run.{written};
 ghost use Rattle.backoff.specs.declared.Verdict.the-variants.{Accepted};
@@ -376,6 +377,28 @@ fn check_needed(table: &[i32], size: usize) -> Checked
     }
 }
 
+// The refusal of a verdict.
+fn refusal_of(verdict: Verdict) -> Checked
+    ensures { λ r. ⌜ (r .number ≡ numberOf verdict) × (r .place ≡ placeOf verdict) ⌝ }
+{
+    if let Verdict::Refused { number, place } = verdict {
+        return refused(number, place);
+    }
+    refused(0, 0)
+}
+
+// The refusals: those of a list that is to be filled, then 5, 1, 15.
+fn check_all(table: &[i32], size: usize) -> Checked
+    ensures { λ r. ⌜ Checks (now (table .entry)) size (r .number) (r .place) (r .rows) ⌝ }
+{
+    let listed = refusal_of(list::check_for(table, true));
+    let number = listed.number;
+    if number == 0 {
+        return check_needed(table, size);
+    }
+    listed
+}
+
 // ---- the rows written
 
 // The word at place `from` + j, 0 from `past` on.
@@ -468,15 +491,7 @@ pub fn fill(table: &[i32], filled: &mut [i32]) -> Answer
     ensures outcome { λ r. ⌜ IsFilled (fillOutcome (now (table .entry)) (now (filled .entry))) (r .number) (r .place) (r .rows) (now (filled .exit)) ⌝ }
     ensures meaning { λ r. ⌜ FillMeans (now (table .entry)) (now (filled .entry)) (r .number) (r .rows) (now (filled .exit)) ⌝ }
 {
-    let verdict = list::check_for(table, true);
-    if let Verdict::Refused { number, place } = verdict {
-        return Answer {
-            number,
-            rows: 0,
-            place,
-        };
-    }
-    let checked = check_needed(table, filled.len());
+    let checked = check_all(table, filled.len());
     if checked.number != 0 {
         return Answer {
             number: checked.number,

@@ -1,87 +1,63 @@
 -- All refusals are told before the first row is written.
-use mathlib.Core.Path.{_≡_, sym, _∙_}
-use mathlib.Core.Bool.{true}
 use native.Mathlib.Omega.{arith}
 use borrow.Author.Needs.{needs}
-use Rattle.backoff.specs.declared.Verdict.the-variants.{Accepted}
+use lib.ListN.{length}
 use Rattle.list.specs.Table.{rowsOf, orderOf}
-use Rattle.list.specs.Check.{verdictFor}
 use Rattle.list.proofs.Check.{checked-size}
-use Rattle.filling.proofs.Refusals.{outcome-unchecked, outcome-refused, outcome-accepted, counted-few}
+use Rattle.filling.proofs.Refusals.{Fills, fill-accepted, outcome-refused, outcome-accepted}
 use Rattle.filling.proofs.Meaning.{fill-means}
 use Rattle.filling.proofs.fill.Statement.{statement}
 use Rattle.filling.proofs.fill.Tie as tie
 
-check-for-requires : tie.Need-check-for-requires
-check-for-requires c κs = search needs
-
-enum-known-verdict : tie.Need-enum-known-verdict
-enum-known-verdict c = search needs
+check-all-requires : tie.Need-check-all-requires
+check-all-requires c κs = search needs
 
 returns : tie.Need-returns
 returns c =
-    let e = sym (c .before .before .before .check-for .ensures) ∙ c .before .verdict .given .1 in
-    let o = outcome-unchecked _ _ _ _ e in
+    let o = outcome-refused _ _ _ _ _ (c .before .before .check-all .ensures) (c .if1 .taken) in
     (o, fill-means _ _ _ _ _ _ o)
 
-enum-told : tie.Need-enum-told
-enum-told c = search needs
-
-check-needed-requires : tie.Need-check-needed-requires
-check-needed-requires c κs = sym (c .before .before .check-for .ensures) ∙ c .enum-told .given .1
-
--- the list passed the checks
-passed : (c : tie.After-check-needed) → verdictFor true (c .before .before .before .before .args .table .now) ≡ Accepted
-passed c = sym (c .before .before .before .check-for .ensures) ∙ c .before .enum-told .given .1
-
-returns-2 : tie.Need-returns-2
-returns-2 c =
-    let d = c .before .before in
-    let o = outcome-refused _ _ _ _ _ (d .check-needed .ensures) (c .if1 .taken) in
-    (o, fill-means _ _ _ _ _ _ o)
+-- nothing refuses it
+fills : (c : tie.Else1) → Fills (c .before .before .before .args .table .now) (length (c .before .before .before .args .filled .now))
+fills c = fill-accepted _ _ (c .before .before .check-all .ensures .accepted (c .if1 .left))
 
 sub-last : tie.Need-sub-last
 unfolding rowsOf
-sub-last c = checked-size true _ (passed (c .before .before)) .0
+sub-last c = checked-size _ _ (fills c .checked) .0
 
 length-of-requires : tie.Need-length-of-requires
 unfolding rowsOf
-length-of-requires c κs = let h = checked-size true _ (passed (c .before .before)) .0 in omega arith
+length-of-requires c κs = let h = checked-size _ _ (fills c .checked) .0 in omega arith
 
 write-rows-requires : tie.Need-write-rows-requires
 unfolding rowsOf orderOf
-write-rows-requires c κs =
-    let d = c .before .before .before .before in
-    (passed d, c .before .length-of .ensures .0, counted-few _ _ _ _ _ (d .check-needed .ensures) (c .before .before .if1 .left) .1)
+write-rows-requires c κs = let f = fills (c .before .before) in (f .checked, c .before .length-of .ensures .0, f .fits)
 
-cast-t14 : tie.Need-cast-t14
-cast-t14 c =
-    let d = c .before .before .before .before .before .before .before in
-    let f = counted-few _ _ _ _ _ (d .check-needed .ensures) (c .before .before .before .before .before .if1 .left) .0 in
-    omega arith
+-- where nothing refuses it, from the end
+abbrev passed : tie.After-struct-known2 → tie.Else1
+passed c = c .before .before .before .before .before
+
+cast-t11 : tie.Need-cast-t11
+cast-t11 c = let e = passed c in omega (arith, e .before .before .check-all .ensures .rows-are (e .if1 .left), fills e .few)
 
 same-length : tie.Need-same-length
 same-length c = search needs
 
-returns-3 : tie.Need-returns-3
-returns-3 c =
-    let d = c .before .before .before .before .before .before .before in
-    let o = outcome-accepted _ _ _ _ _ (d .check-needed .ensures) (c .before .before .before .before .before .if1 .left) _ (c .before .before .write-rows .ensures) in
+returns-2 : tie.Need-returns-2
+returns-2 c =
+    let e = passed c in
+    let o = outcome-accepted _ _ _ _ _ (e .before .before .check-all .ensures) (e .if1 .left) _ (c .before .before .write-rows .ensures) in
     (o, fill-means _ _ _ _ _ _ o)
 
 pub fill-spec : {M : Type 1} → statement M
 fill-spec =
     tie.close
     (tie.spec
-    check-for-requires
-    enum-known-verdict
+    check-all-requires
     returns
-    enum-told
-    check-needed-requires
-    returns-2
     sub-last
     length-of-requires
     write-rows-requires
-    cast-t14
+    cast-t11
     same-length
-    returns-3)
+    returns-2)
