@@ -1,5 +1,5 @@
 //! Safe calls of the proved back-off scorer, one for each function of `include/backoff.h`, which has the list's form, the numbers of the
-//! refusals and the limits; and two functions over the texts that reading an ARPA file leaves. Slices may have any lengths and hold any numbers: a call that does not accept them says so by a number and a place.
+//! refusals and the limits; and two functions over the texts that reading an ARPA file leaves; the refusals in words; the [`limits`] and the refusals' [`number`]s. Slices may have any lengths and hold any numbers: a call that does not accept them says so by a number and a place.
 //! No call allocates, panics or keeps anything; an array may be shared by threads while nobody writes it.
 //!
 //! ```
@@ -51,6 +51,14 @@
 //! rows[8 * 4 + 6] = 1;
 //! assert_eq!(backoff::check(&rows), backoff::Status { number: 5, place: 5 });
 //! ```
+
+pub mod limits;
+pub mod number;
+mod reason;
+
+pub use reason::reason;
+
+use limits::RECORD_BYTES;
 
 /// Number and place of a refusal; both are 0 where the call accepts.
 #[repr(C)]
@@ -527,12 +535,9 @@ pub fn fill(table: &[i32], filled: &mut [i32]) -> Rows {
     unsafe { raw::backoff_fill(table.as_ptr(), table.len(), filled.as_mut_ptr(), filled.len()) }
 }
 
-/// The bytes of a word's record in a store: its text's length, then the text.
-const RECORD: usize = 64;
-
 /// The words of a store with their texts, by ascending number: what a map from texts to numbers is made of.
 pub fn texts(store: &[u8]) -> impl Iterator<Item = (u32, &[u8])> {
-    let (records, _) = store.as_chunks::<RECORD>();
+    let (records, _) = store.as_chunks::<RECORD_BYTES>();
     (0..).zip(records).filter(|(_, record)| record[0] != 0).filter_map(|(word, record)| Some((word, record.get(1..=record[0] as usize)?)))
 }
 

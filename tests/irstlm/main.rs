@@ -2,12 +2,13 @@
 //!
 //! `train` and `unseen` print the two texts, one sentence a line. `drop` reads an ARPA file and prints it without some rows of two words. `compare FOLDER NAME..` reads FOLDER/unseen.txt and, of each list, NAME.arpa and what
 //! `compile-lm` printed of the text: NAME.eval by `--eval --debug=2`, with two decimals, and NAME.score by `--score`, with all digits. NAME.form is
-//! NAME.arpa as `tests/irstlm/in-form` prints it, for `backoff_arpa`.
+//! NAME.arpa as `tests/irstlm/in-form` prints it, for `backoff_arpa`, and NAME.query what `backoff query` prints of the text without marks.
 
 mod arpa;
 mod direct;
 mod dropped;
 mod printed;
+mod query;
 mod texts;
 
 use arpa::Arpa;
@@ -76,6 +77,8 @@ fn compare_all(folder: &str, names: &[&str]) -> ExitCode {
                 refused.0 == SHORTER_ROW && !list.added.is_empty(),
             ),
         }
+        let summary = printed::summary(&file(&format!("{name}.eval"))).unwrap_or_else(|| panic!("{name}.eval has no last line"));
+        query::compare(&mut count, name, &file(&format!("{name}.query")), &summary, &answers);
         count.compare_filled(name, direct::read_filled(file(&format!("{name}.form")).as_bytes()), &list, &answers);
     }
     println!("{} passed, {} failed", count.passed, count.failed);

@@ -29,6 +29,20 @@ pub fn score(text: &str, order: usize) -> Vec<Printed> {
     text.lines().filter_map(read).collect()
 }
 
+/// The last line of `--eval`: words, their perplexity with the unknown ones, and how many are unknown.
+#[derive(Debug, PartialEq)]
+pub struct Summary {
+    pub words: usize,
+    pub perplexity: f64,
+    pub unknown: usize,
+}
+
+pub fn summary(text: &str) -> Option<Summary> {
+    let line = text.lines().find_map(|line| line.strip_prefix("%% "))?;
+    let number = |name: &str| line.split(' ').find_map(|field| field.strip_prefix(name))?.parse::<f64>().ok();
+    Some(Summary { words: number("Nw=")? as usize, perplexity: number("PP=")?, unknown: number("Noov=")? as usize })
+}
+
 fn newest(words: &str) -> String {
     words.split_whitespace().next_back().unwrap_or_default().to_string()
 }
@@ -47,7 +61,7 @@ fn number(text: &str) -> Option<f64> {
 
 #[cfg(test)]
 mod tests {
-    use super::{eval, number, score, Printed};
+    use super::{eval, number, score, summary, Printed, Summary};
 
     #[test]
     fn numbers() {
@@ -67,5 +81,8 @@ mod tests {
         );
         let scored = score("> <s> w3\t1 p= NULL\n> <s> w3 w4\t1 p= -0x0p+0 bo= 1\n> ", 3);
         assert_eq!(scored, [word("w4", 2, 0.0)]);
+        let whole = Summary { words: 6993, perplexity: 134.31, unknown: 974 };
+        assert_eq!(summary("w\t1\n%% Nw=6993 PP=134.31 PPwp=0.00 Nbo=5697 Noov=974 OOV=13.93% logPr=-14881.79\n"), Some(whole));
+        assert_eq!(summary("Nw=1"), None);
     }
 }

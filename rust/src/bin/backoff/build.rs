@@ -1,0 +1,16 @@
+//! `backoff build`: an array file of a list.
+
+use crate::arguments::Source;
+use crate::array_file::encode;
+use crate::failure::Failure;
+use crate::files;
+use crate::model::Model;
+use crate::progress::Progress;
+use std::path::Path;
+
+pub fn build(source: &Source, path: &Path) -> Result<(), Failure> {
+    let progress = Progress::start(false);
+    let model = Model::load(source, &progress)?;
+    progress.say("writing the array");
+    files::write(path, &encode(&model.list, &model.array))
+}

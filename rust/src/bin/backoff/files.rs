@@ -1,0 +1,61 @@
+//! Files read whole, and written whole or not at all.
+
+use crate::failure::Failure;
+use std::ffi::OsString;
+use std::fs::{self, File, OpenOptions};
+use std::io::{self, ErrorKind, Read, Write};
+use std::path::{Path, PathBuf};
+
+/// The most bytes that are held of a model or of one line of a text. An accepted list fits in less than half of it.
+pub const BYTE_LIMIT: usize = 1 << 26;
+
+/// The bytes of a model's file.
+pub fn read(path: &Path) -> Result<Vec<u8>, Failure> {
+    let mut bytes = Vec::new();
+    let read = File::open(path).and_then(|file| file.take(BYTE_LIMIT as u64 + 1).read_to_end(&mut bytes));
+    match read {
+        Err(error) => Err(Failure::file(path, error)),
+        Ok(_) if bytes.len() > BYTE_LIMIT => {
+            Err(Failure::file(path, format!("more than {BYTE_LIMIT} bytes: no list of 65,535 rows, the most there may be, needs as many")))
+        }
+        Ok(_) => Ok(bytes),
+    }
+}
+
+/// Writes a file under another name beside it and renames it, so that there is never half a file. What is no regular file, as a pipe or a device, is written as it is.
+pub fn write(path: &Path, bytes: &[u8]) -> Result<(), Failure> {
+    let written = match fs::metadata(path) {
+        Ok(there) if !there.is_file() => OpenOptions::new().write(true).open(path).and_then(|mut file| file.write_all(bytes)),
+        Ok(_) => fs::canonicalize(path).and_then(|target| replace(&target, bytes)),
+        Err(error) if error.kind() == ErrorKind::NotFound => replace(path, bytes),
+        Err(error) => Err(error),
+    };
+    written.map_err(|error| Failure::file(path, error))
+}
+
+fn replace(path: &Path, bytes: &[u8]) -> io::Result<()> {
+    let part = part_name(path);
+    let written = write_part(&part, path, bytes).and_then(|()| fs::rename(&part, path));
+    if written.is_err() {
+        // The first error is the one to tell.
+        let _ = fs::remove_file(&part);
+    }
+    written
+}
+
+/// The file's name with this process's number and `part`.
+fn part_name(path: &Path) -> PathBuf {
+    let mut name = OsString::from(path);
+    name.push(format!(".{}.part", std::process::id()));
+    name.into()
+}
+
+/// A file that is replaced hands its permissions on.
+fn write_part(part: &Path, path: &Path, bytes: &[u8]) -> io::Result<()> {
+    let mut file = OpenOptions::new().write(true).create_new(true).open(part)?;
+    if let Ok(replaced) = fs::metadata(path) {
+        file.set_permissions(replaced.permissions())?;
+    }
+    file.write_all(bytes)?;
+    file.sync_all()
+}

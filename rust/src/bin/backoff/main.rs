@@ -1,0 +1,54 @@
+//! The program `backoff`: ARPA models checked, built, dumped and queried, over the calls of `include/backoff.h`. The calls are proved; the program is not.
+
+mod arguments;
+mod arpa_file;
+mod array;
+mod array_file;
+mod bench;
+mod build;
+mod check;
+mod checksum;
+mod decimal;
+mod dump;
+mod failure;
+mod files;
+mod form;
+mod list;
+mod model;
+mod progress;
+mod query;
+mod refusal;
+mod score;
+mod side_by_side;
+mod text;
+mod text_rows;
+
+use arguments::Command;
+use failure::Failure;
+use std::env::args_os;
+use std::io::{stderr, stdout, BufWriter, Write};
+use std::process::ExitCode;
+
+fn main() -> ExitCode {
+    match arguments::parse(args_os().skip(1)).and_then(run) {
+        Ok(()) | Err(Failure::ClosedPipe) => ExitCode::SUCCESS,
+        Err(Failure::Told(text)) => {
+            // Where standard error is closed too, the status tells all that can be told.
+            let _ = writeln!(stderr(), "backoff: {text}");
+            ExitCode::FAILURE
+        }
+    }
+}
+
+fn run(command: Command) -> Result<(), Failure> {
+    let mut out = BufWriter::new(stdout().lock());
+    match command {
+        Command::Help(text) => out.write_all(text.as_bytes()).map_err(Failure::output)?,
+        Command::Check(source) => check::check(&source, &mut out)?,
+        Command::Build(source, path) => build::build(&source, &path)?,
+        Command::Dump(path) => dump::dump(&path, &mut out)?,
+        Command::Query(source, asked) => query::query(&source, &asked, &mut out)?,
+        Command::Bench(source, threads) => bench::bench(&source, threads, &mut out)?,
+    }
+    out.flush().map_err(Failure::output)
+}
