@@ -1,0 +1,567 @@
+"""Back-off scoring of n-gram lists, with the interface of KenLM's Python module.
+
+    >>> import backoff
+    >>> model = backoff.Model("tests/irstlm/sample.arpa")
+    >>> model.score("four five")
+    -0.65
+    >>> model.points("four five")
+    -6500
+
+A point is 1/10,000 of a base-10 logarithm. `points` and its companions are exact whole numbers; `score` and its
+companions are the same numbers divided by 10,000, as KenLM gives them. docs/python.md is the page of this module.
+
+A `Model` is not changed after it was read, so threads may share it; each needs its own `State`. The calls give up the
+interpreter's lock while they work.
+"""
+
+from __future__ import annotations
+
+import array
+import ctypes
+import functools
+import os
+import struct
+import zlib
+from ctypes import c_bool, c_char_p, c_int64, c_size_t, c_uint32, c_uint64, c_void_p
+from dataclasses import dataclass
+from typing import Iterable, Iterator, NamedTuple, Optional, Union
+
+__all__ = ["FullScoreReturn", "LanguageModel", "Model", "Refused", "Sheet", "State"]
+
+Text = Union[str, bytes]
+Path = Union[str, "os.PathLike[str]"]
+
+POINTS = 10_000  # the points of a base-10 logarithm of 1
+
+# Sizes and limits, as include/backoff.h has them.
+ROW_ITEMS = 8
+STATE_LENGTH = 9
+ORDER_LIMIT = 5
+ROW_LIMIT = 65_535
+WORD_LIMIT = 65_535
+RUN_LIMIT = 65_535
+SLOT_LIMIT = 1_048_576
+RECORD_BYTES = 64
+TEXT_LIMIT = 63
+UNKNOWN_WORD = 1
+END_WORD = 3
+UNKNOWN_LENGTH = 8
+
+MATCHED_LENGTH = 7  # the bits of a length byte that hold the matched length
+UNLISTED_WORD = 0  # a number that no list has; it is scored as the unknown word
+ORDER_HEAD = 8  # check[0] of an array is its order and this
+
+# The array file: this first line, the version and five sizes, base, check, the texts, and a CRC-32 of all before it.
+FIRST_LINE = b"backoff\n"
+VERSION = 1
+_HEAD = struct.Struct("<8s6I")
+_CHECKSUM = struct.Struct("<I")
+
+_REFUSALS = {
+    1: "the list has no rows, or more than 65,535, those that filling adds among them",
+    2: "the array has fewer than 2 or more than 1,048,576 slots",
+    3: "the row has no words, or more than 5",
+    4: "a word of the row is outside 1 to 65,535",
+    5: "the row's log-probability is outside -99 to 0, or that of a row which filling adds for it is",
+    6: "the row's back-off is outside -99 to 99, or not 0 in a row of the longest section",
+    7: "the row comes twice",
+    8: "the row without its first or without its last word is missing; "
+    "Model(path, fill=True) adds those that are a row without its first words",
+    9: "<unk>, <s> or </s> has no row of one word",
+    10: "the array of the list needs more than 1,048,576 slots",
+    11: "the array's first two slots are not as this library builds them",
+    12: "the array holds no list, or one of its slots was changed",
+    14: "there are more than 65,535 words or sentences",
+    15: "the list has more than 65,535 rows",
+    16: "the state belongs to a model of another order",
+    17: "the line of the ARPA text is not in form, or is missing",
+    18: "a word of the line has no row of one word",
+    19: "the section before this line has not as many lines as the text announces",
+    20: "the end of a sentence is below the one before it, or past the words",
+}
+ARRAY_HEAD = 11
+_ROW_REFUSALS = range(3, 9)
+_LINE_REFUSALS = (15, 17, 18, 19)
+
+
+class Refused(OSError):
+    """A file, or a state, that is not accepted. It is an OSError, as what KenLM raises where it cannot read a model.
+
+    words   what is wrong, in words
+    number  the number of the refusal in include/backoff.h; 0 where an array file is not in form
+    place   the row (in list order) for the numbers 3 to 8, the line for 15 and 17 to 19; otherwise 0
+    path    the file, where one was read
+    line    the text of the line, where the place is one
+    """
+
+    def __init__(
+        self, words: str, number: int = 0, place: int = 0, path: Optional[str] = None, line: Optional[str] = None
+    ) -> None:
+        super().__init__(words)
+        self.words = words
+        self.number = number
+        self.place = place
+        self.path = path
+        self.line = line
+
+    def __str__(self) -> str:
+        where = "" if self.path is None else f"{self.path}: "
+        by = f"refused by {self.number}" if self.number else "refused"
+        if self.number in _ROW_REFUSALS:
+            by += f" at row {self.place}"
+        if self.line is not None:
+            by += f" at line {self.place} ({self.line[:200]!r})"
+        return f"{where}{by}: {self.words}"
+
+    def __reduce__(self) -> tuple:
+        return Refused, (self.words, self.number, self.place, self.path, self.line)
+
+
+class _Status(ctypes.Structure):
+    """struct backoff_status"""
+
+    _fields_ = [("number", c_uint32), ("place", c_uint32)]
+
+
+class _Total(ctypes.Structure):
+    """struct backoff_total"""
+
+    _fields_ = [("number", c_uint32), ("place", c_uint32), ("total", c_int64)]
+
+
+class _Sheet(ctypes.Structure):
+    """struct backoff_sheet"""
+
+    _fields_ = [
+        ("number", c_uint32),
+        ("sentences", c_uint32),
+        ("place", c_uint64),
+        ("total", c_int64),
+        ("words", c_uint32),
+        ("unknown", c_uint32),
+        ("matched", c_uint32 * ORDER_LIMIT),
+    ]
+
+
+class _Rows(ctypes.Structure):
+    """struct backoff_rows"""
+
+    _fields_ = [("number", c_uint32), ("rows", c_uint32), ("place", c_uint64)]
+
+
+# A slice crosses as array.array's buffer_info gives it: an address, and the number of items.
+_SLICE = [c_void_p, c_size_t]
+_TEXT = [c_char_p, c_size_t]
+_SIGNATURES = {
+    "backoff_arpa": (_Rows, _TEXT + [c_bool] + 2 * _SLICE),
+    "backoff_fill": (_Rows, 2 * _SLICE),
+    "backoff_build": (_Status, 4 * _SLICE),
+    "backoff_unload": (_Status, 4 * _SLICE),
+    "backoff_start": (_Status, 3 * _SLICE),
+    "backoff_run": (_Total, 6 * _SLICE),
+    "backoff_batch": (_Sheet, 6 * _SLICE),
+}
+_LIBRARY = "libbackoff.so"
+
+
+def _library_path() -> str:
+    """BACKOFF_LIBRARY, or the library beside this file, or in ../lib, or what the system's loader finds by its name."""
+    if "BACKOFF_LIBRARY" in os.environ:
+        return os.environ["BACKOFF_LIBRARY"]
+    folder = os.path.dirname(os.path.abspath(__file__))
+    places = (os.path.join(folder, _LIBRARY), os.path.join(folder, os.pardir, "lib", _LIBRARY))
+    return next(filter(os.path.exists, places), _LIBRARY)
+
+
+def _load(path: str) -> ctypes.CDLL:
+    """The library, with the types of the calls."""
+    try:
+        library = ctypes.CDLL(path)
+        for name, (answer, arguments) in _SIGNATURES.items():
+            call = getattr(library, name)
+            call.restype, call.argtypes = answer, arguments
+    except (OSError, AttributeError) as error:
+        raise ImportError(f"{error}; python/make-library makes {_LIBRARY}, and BACKOFF_LIBRARY may name it") from error
+    return library
+
+
+_calls = _load(_library_path())
+
+
+def _zeros(kind: str, count: int) -> array.array:
+    """So many zeros, of a kind of array.array: i, I and B are int32_t, uint32_t and uint8_t."""
+    return array.array(kind, [0]) * count
+
+
+def _bytes(text: Text) -> bytes:
+    """A text as UTF-8; bytes are taken as they are."""
+    if isinstance(text, str):
+        return text.encode("utf-8")
+    if isinstance(text, bytes):
+        return text
+    raise TypeError(f"a text is str or bytes, not {type(text).__name__}")
+
+
+class _Contents(NamedTuple):
+    """What a file holds: the array, and the texts of the words from 1 on."""
+
+    base: array.array
+    check: array.array
+    texts: list[bytes]
+
+
+def _line(text: bytes, number: int) -> str:
+    """A line of a text, numbered from 1; what follows the last line feed is one too."""
+    return text.split(b"\n", number)[number - 1].decode("utf-8", "backslashreplace")
+
+
+def _require(answer: ctypes.Structure, path: Optional[str] = None, text: bytes = b"") -> None:
+    """Raises where a call refused; `text` is the one whose line the place may be."""
+    number, place = answer.number, answer.place
+    if number:
+        line = _line(text, place) if number in _LINE_REFUSALS else None
+        raise Refused(_REFUSALS[number], number, place, path, line)
+
+
+def _texts_of(store: array.array) -> Iterator[bytes]:
+    """The texts of the words from 1 on, from the records that reading an ARPA text leaves."""
+    data = store.tobytes()
+    for record in range(RECORD_BYTES, len(data), RECORD_BYTES):
+        if data[record] == 0:
+            return
+        yield data[record + 1 : record + 1 + data[record]]
+
+
+def _read_arpa(path: str, text: bytes, fill: bool) -> _Contents:
+    """The contents of an ARPA file; with `fill`, the rows that a pruned list lacks are added."""
+    # Beyond the limit of rows there is room for one more, so that a list which has too many is refused.
+    rows = min(text.count(b"\n"), ROW_LIMIT + 1)
+    table, store = _zeros("i", ROW_ITEMS * rows), _zeros("B", RECORD_BYTES * (rows + 4))
+    read = _calls.backoff_arpa(text, len(text), fill, *table.buffer_info(), *store.buffer_info())
+    _require(read, path, text)
+    del table[ROW_ITEMS * read.rows :]
+    if fill:
+        filled = _zeros("i", ROW_ITEMS * ROW_LIMIT)
+        complete = _calls.backoff_fill(*table.buffer_info(), *filled.buffer_info())
+        _require(complete, path)
+        table = filled[: ROW_ITEMS * complete.rows]
+    return _Contents(*_build(path, table), list(_texts_of(store)))
+
+
+def _build(path: str, table: array.array) -> tuple[array.array, array.array]:
+    """The double array of a list, in the fewest slots."""
+    base, check = _zeros("i", SLOT_LIMIT), _zeros("i", SLOT_LIMIT)
+    work = _zeros("I", len(table) // ROW_ITEMS)
+    built = _calls.backoff_build(
+        *table.buffer_info(), *base.buffer_info(), *check.buffer_info(), *work.buffer_info()
+    )
+    _require(built, path)
+    # A free slot has the least number as its check. No other check has 0x80 as its highest byte.
+    used = len(check.tobytes()[3::4].rstrip(b"\x80"))
+    return base[:used], check[:used]
+
+
+def _texts_in(path: str, data: bytes, words: int) -> list[bytes]:
+    """The texts of an array file, each behind one byte with its length."""
+    texts, place = [], 0
+    while place < len(data) and 1 <= data[place] <= TEXT_LIMIT:
+        texts.append(data[place + 1 : place + 1 + data[place]])
+        place += 1 + data[place]
+    if place != len(data) or len(texts) != words:
+        raise Refused("the texts of the words are not in form", path=path)
+    return texts
+
+
+def _array_file_fault(data: bytes) -> Optional[str]:
+    """What is wrong with an array file, but for its array and its texts."""
+    if len(data) < _HEAD.size + _CHECKSUM.size:
+        return "the array file is cut"
+    _, version, order, rows, words, slots, text_bytes = _HEAD.unpack_from(data)
+    if version != VERSION:
+        return f"the array file has version {version}; this module reads version {VERSION}"
+    if order > ORDER_LIMIT or rows > ROW_LIMIT or words > WORD_LIMIT or not 2 <= slots <= SLOT_LIMIT:
+        return "the array file has a size beyond the limits"
+    size = _HEAD.size + 8 * slots + text_bytes + _CHECKSUM.size
+    if len(data) != size:
+        return f"the array file has {len(data)} bytes where {size} belong: it is cut or longer"
+    if _CHECKSUM.pack(zlib.crc32(data[: -_CHECKSUM.size])) != data[-_CHECKSUM.size :]:
+        return "the array file's checksum is wrong"
+    return None
+
+
+def _read_array_file(path: str, data: bytes) -> _Contents:
+    """The contents of an array file; unloading the array tells whether it holds a list."""
+    fault = _array_file_fault(data)
+    if fault is not None:
+        raise Refused(fault, path=path)
+    _, _, order, rows, words, slots, _ = _HEAD.unpack_from(data)
+    base, check = array.array("i"), array.array("i")
+    checks, texts = _HEAD.size + 4 * slots, _HEAD.size + 8 * slots
+    base.frombytes(data[_HEAD.size : checks])
+    check.frombytes(data[checks:texts])
+    if (check[0], base[1]) != (order + ORDER_HEAD, rows):
+        raise Refused(_REFUSALS[ARRAY_HEAD], ARRAY_HEAD, 0, path)
+    table, work = _zeros("i", ROW_ITEMS * rows), _zeros("I", rows)
+    unloaded = _calls.backoff_unload(
+        *base.buffer_info(), *check.buffer_info(), *table.buffer_info(), *work.buffer_info()
+    )
+    _require(unloaded, path)
+    return _Contents(base, check, _texts_in(path, data[texts : -_CHECKSUM.size], words))
+
+
+@functools.total_ordering
+class State:
+    """What is kept of the words before, as KenLM's State. It belongs to the model that wrote it.
+
+    Two readings with equal states over one model get the same points whatever follows. States compare by ==, < and so
+    on, have a hash, and may be copied and pickled. A State is the one without context until a model writes it.
+    """
+
+    __slots__ = ("_numbers",)
+
+    def __init__(self) -> None:
+        self._numbers = _zeros("i", STATE_LENGTH)
+
+    def __eq__(self, other: object) -> bool:
+        if not isinstance(other, State):
+            return NotImplemented
+        return self._numbers == other._numbers
+
+    def __lt__(self, other: object) -> bool:
+        if not isinstance(other, State):
+            return NotImplemented
+        return self._numbers < other._numbers
+
+    def __hash__(self) -> int:
+        return hash(self._numbers.tobytes())
+
+    def __copy__(self) -> State:
+        state = State()
+        state._numbers = self._numbers[:]
+        return state
+
+
+class FullScoreReturn(NamedTuple):
+    """The answer of `Model.BaseFullScore`."""
+
+    log_prob: float
+    ngram_length: int
+    oov: bool
+
+
+@dataclass(frozen=True)
+class Sheet:
+    """The sheet of many sentences: the fields of struct backoff_sheet. Sheets of parts add up: `sum(parts, Sheet())`.
+
+    sentences  how many there are
+    words      their words, without the closing </s>
+    unknown    how many of the words are unknown
+    total      the points of all words, the closing </s> among them
+    matched    how many words had the matched length 1, 2, 3, 4 and 5, the closing </s> among them
+    """
+
+    sentences: int = 0
+    words: int = 0
+    unknown: int = 0
+    total: int = 0
+    matched: tuple[int, ...] = (0,) * ORDER_LIMIT
+
+    def __add__(self, other: Sheet) -> Sheet:
+        if not isinstance(other, Sheet):
+            return NotImplemented
+        return Sheet(
+            self.sentences + other.sentences,
+            self.words + other.words,
+            self.unknown + other.unknown,
+            self.total + other.total,
+            tuple(map(int.__add__, self.matched, other.matched)),
+        )
+
+
+class Model:
+    """An n-gram list for scoring.
+
+    `path` is an ARPA file, or an array file that `save` or the command `backoff build` wrote. With `fill`, an ARPA file
+    may be a pruned one that lacks rows without their first words; they are added, and no word's points change.
+
+    A sentence is a str or bytes; its words are parted by white space. A word that the list lacks is scored as <unk>.
+    <s> within a sentence is a word as any other. </s> within a sentence ends it, and what follows is scored after <s>
+    alone; in KenLM it is a word as any other.
+    """
+
+    def __init__(self, path: Path, *, fill: bool = False) -> None:
+        self.path = os.path.abspath(os.fspath(path))
+        self._fill = fill
+        with open(self.path, "rb") as file:
+            data = file.read()
+        if data.startswith(FIRST_LINE):
+            contents = _read_array_file(self.path, data)
+        else:
+            contents = _read_arpa(self.path, data, fill)
+        self._base, self._check, self._texts = contents
+        self._slots = self._base.buffer_info() + self._check.buffer_info()
+        # Where two words have one text, it is the first one's.
+        self._numbers = {text: len(self._texts) - i for i, text in enumerate(reversed(self._texts))}
+        self._start = State()
+        _require(_calls.backoff_start(*self._slots, *self._start._numbers.buffer_info()), self.path)
+
+    @property
+    def order(self) -> int:
+        """The most words that a row of the list has."""
+        return self._check[0] - ORDER_HEAD
+
+    def __contains__(self, word: Text) -> bool:
+        """Whether the list has the word; <unk> itself counts as unknown, as in KenLM."""
+        return self._number(word) > UNKNOWN_WORD
+
+    def __repr__(self) -> str:
+        return f"<Model from {os.path.basename(self.path)}>"
+
+    def __reduce__(self) -> tuple:
+        return functools.partial(Model, fill=self._fill), (self.path,)
+
+    def _number(self, word: Text) -> int:
+        """The number of a word's text."""
+        return self._numbers.get(_bytes(word), UNLISTED_WORD)
+
+    def _words(self, sentence: Text) -> array.array:
+        """The numbers of a sentence's words."""
+        number = self._numbers.get
+        return array.array("I", [number(word, UNLISTED_WORD) for word in _bytes(sentence).split()])
+
+    def _run(self, state: State, words: array.array) -> tuple[int, array.array, array.array]:
+        """The total, points and length bytes of at most RUN_LIMIT words; `state` becomes the state after them."""
+        points, lengths = _zeros("i", len(words)), _zeros("B", len(words))
+        answer = _calls.backoff_run(
+            *self._slots,
+            *state._numbers.buffer_info(),
+            *words.buffer_info(),
+            *points.buffer_info(),
+            *lengths.buffer_info(),
+        )
+        _require(answer)
+        return answer.total, points, lengths
+
+    def _runs(self, words: array.array, bos: bool, eos: bool) -> Iterator[tuple[int, array.array, array.array]]:
+        """The runs of the words of a sentence, from its beginning on."""
+        state = State()
+        if bos:
+            self.BeginSentenceWrite(state)
+        if eos:
+            words = words + array.array("I", [END_WORD])
+        for first in range(0, len(words), RUN_LIMIT):
+            yield self._run(state, words[first : first + RUN_LIMIT])
+
+    def points(self, sentence: Text, bos: bool = True, eos: bool = True) -> int:
+        """The points of a sentence: exact, and a whole number.
+
+        bos  whether it is scored after <s>, or without context
+        eos  whether the closing </s> is scored too
+        """
+        return sum(total for total, _, _ in self._runs(self._words(sentence), bos, eos))
+
+    def full_points(self, sentence: Text, bos: bool = True, eos: bool = True) -> Iterator[tuple[int, int, bool]]:
+        """Of each word, and of </s> where `eos`: its points, its matched length, and whether it is unknown."""
+        for _, points, lengths in self._runs(self._words(sentence), bos, eos):
+            for word_points, length in zip(points, lengths):
+                yield word_points, length & MATCHED_LENGTH, bool(length & UNKNOWN_LENGTH)
+
+    def score(self, sentence: Text, bos: bool = True, eos: bool = True) -> float:
+        """The base-10 logarithm of a sentence's probability: its points divided by 10,000."""
+        return self.points(sentence, bos, eos) / POINTS
+
+    def full_scores(self, sentence: Text, bos: bool = True, eos: bool = True) -> Iterator[tuple[float, int, bool]]:
+        """`full_points` with logarithms in place of points."""
+        for points, length, unknown in self.full_points(sentence, bos, eos):
+            yield points / POINTS, length, unknown
+
+    def perplexity(self, sentence: Text) -> float:
+        """10 to the power of minus the score divided by the number of words, </s> among them."""
+        words = len(_bytes(sentence).split()) + 1
+        return 10.0 ** (-self.score(sentence) / words)
+
+    def BeginSentenceWrite(self, state: State) -> None:
+        """Makes `state` the one after <s>."""
+        state._numbers = self._start._numbers[:]
+
+    def NullContextWrite(self, state: State) -> None:
+        """Makes `state` the one without context."""
+        state._numbers = _zeros("i", STATE_LENGTH)
+
+    def _step(self, in_state: State, word: Text, out_state: State) -> tuple[int, int]:
+        """Points and length byte of a word; `out_state` may be `in_state` itself."""
+        state = in_state.__copy__()
+        total, _, lengths = self._run(state, array.array("I", [self._number(word)]))
+        out_state._numbers = state._numbers
+        return total, lengths[0]
+
+    def BasePoints(self, in_state: State, word: Text, out_state: State) -> int:
+        """The points of a word after `in_state`; `out_state` becomes the state after the word.
+
+        Behind the word </s> the state is the one after <s>. In KenLM it is the one after </s>.
+        """
+        return self._step(in_state, word, out_state)[0]
+
+    def BaseScore(self, in_state: State, word: Text, out_state: State) -> float:
+        """`BasePoints` as a base-10 logarithm."""
+        return self.BasePoints(in_state, word, out_state) / POINTS
+
+    def BaseFullScore(self, in_state: State, word: Text, out_state: State) -> FullScoreReturn:
+        """`BaseScore` with the matched length, and whether the word is unknown."""
+        points, length = self._step(in_state, word, out_state)
+        return FullScoreReturn(points / POINTS, length & MATCHED_LENGTH, bool(length & UNKNOWN_LENGTH))
+
+    def sheet(self, sentences: Iterable[Text]) -> Sheet:
+        """The sheet of sentences, each scored after <s> and closed with </s>.
+
+        Sentences are independent: the sheets of parts, added, are the sheet of the whole.
+        """
+        if isinstance(sentences, (str, bytes)):
+            raise TypeError("a sheet is of many sentences, not of one text")
+        whole, words, ends = Sheet(), array.array("I"), array.array("I")
+        for sentence in sentences:
+            numbers = self._words(sentence)
+            if len(words) + len(numbers) > RUN_LIMIT or len(ends) == RUN_LIMIT:
+                whole += self._batch(words, ends)
+                words, ends = array.array("I"), array.array("I")
+            if len(numbers) > RUN_LIMIT:
+                whole += self._long_sentence(numbers)
+            else:
+                words += numbers
+                ends.append(len(words))
+        return whole + self._batch(words, ends)
+
+    def _batch(self, words: array.array, ends: array.array) -> Sheet:
+        """The sheet of at most RUN_LIMIT words and sentences; `ends` has the words up to the end of each sentence."""
+        points, lengths = _zeros("i", len(words)), _zeros("B", len(words))
+        answer = _calls.backoff_batch(
+            *self._slots,
+            *words.buffer_info(),
+            *ends.buffer_info(),
+            *points.buffer_info(),
+            *lengths.buffer_info(),
+        )
+        _require(answer)
+        return Sheet(answer.sentences, answer.words, answer.unknown, answer.total, tuple(answer.matched))
+
+    def _long_sentence(self, words: array.array) -> Sheet:
+        """The sheet of one sentence that is too long for a batch."""
+        total, lengths = 0, b""
+        for run_total, _, run_lengths in self._runs(words, True, True):
+            total += run_total
+            lengths += run_lengths.tobytes()
+        matched = [length & MATCHED_LENGTH for length in lengths]
+        unknown = sum(length & UNKNOWN_LENGTH != 0 for length in lengths)
+        return Sheet(1, len(words), unknown, total, tuple(map(matched.count, range(1, ORDER_LIMIT + 1))))
+
+    def save(self, path: Path) -> None:
+        """Writes the array file, which `Model` reads without building anything."""
+        texts = b"".join(bytes([len(text)]) + text for text in self._texts)
+        sizes = (self.order, self._base[1], len(self._texts), len(self._base), len(texts))
+        head = _HEAD.pack(FIRST_LINE, VERSION, *sizes)
+        data = head + self._base.tobytes() + self._check.tobytes() + texts
+        with open(path, "wb") as file:
+            file.write(data + _CHECKSUM.pack(zlib.crc32(data)))
+
+
+LanguageModel = Model
