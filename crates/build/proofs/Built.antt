@@ -17,7 +17,7 @@ use Rattle.backoff.specs.Limits.{orderLimit, rowLimit, slotLimit, unknownWord, 
 use Rattle.backoff.specs.Refusal.{numberOf, tableLength, arrayLength, noRoom}
 use Rattle.backoff.specs.Model.{Entry, isSome, listed}
 use Rattle.backoff.specs.Run.{written}
-use Rattle.backoff.specs.Store.{entryOf, isBroken, lookEntry, modelIn}
+use Rattle.backoff.specs.Store.{entryOf, isBroken, lookEntry, storeOf, modelIn}
 use Rattle.backoff.specs.declared.Verdict.{Verdict}
 use Rattle.backoff.specs.declared.Verdict.the-variants.{Accepted, Refused}
 use Rattle.backoff.proofs.Model.{model-ext}
@@ -182,7 +182,7 @@ module _ (table base check : List ℤ) (work : List ℕ) where
   abbrev outcome : Built
   outcome = buildOutcome table base check work
 
-  outcome-filled : tableFits (length table) ≡ true → (sizesOk base check && leb (rowsOf table) (length work)) ≡ true → verdict table ≡ Accepted
+  pub outcome-filled : tableFits (length table) ≡ true → (sizesOk base check && leb (rowsOf table) (length work)) ≡ true → verdict table ≡ Accepted
       → leb (placedList table .top) (length base) ≡ true → outcome ≡ filled table base check work
   unfolding buildOutcome
   outcome-filled f s v r = rw (f, s, v, r)
@@ -215,6 +215,18 @@ module _ (table base check : List ℤ) (work : List ℕ) where
   build-holds e =
       let k = build-accepted e in
       rw (k .base-slots, k .check-slots) (built-holds table (k .accepted) (length base) (k .sizes .low) (k .sizes .high) (k .room))
+
+-- and they open to the list's own store, however many slots there are
+held-opened : {t base check : List ℤ} → HoldsList t base check → opened base check ≡ some (storeOf (modelOf t))
+unfolding storeIn storeOf modelOf
+held-opened {t} {base} {check} h = opened-some base check (h .array) ∙ ap some store
+  where
+    store : storeIn base check ≡ storeOf (modelOf t)
+    store = λ i. record { order = h .order i; look = λ l. h .look l i }
+
+pub build-opened : (table base check : List ℤ) (work : List ℕ) → buildOutcome table base check work .answer ≡ Accepted
+    → opened (buildOutcome table base check work .base) (buildOutcome table base check work .check) ≡ some (storeOf (modelOf table))
+build-opened table base check work e = held-opened (build-holds table base check work e)
 
 -- a refusal's number is never 0, so that the number alone tells an accepted build
 pub build-number : (table base check : List ℤ) (work : List ℕ) → numberOf (buildOutcome table base check work .answer) ≡ 0 → buildOutcome table base check work .answer ≡ Accepted

@@ -11,3 +11,4 @@ pub mod Turn
 pub mod NodeByNode
 pub mod Continued
 pub mod Outcome
+pub mod FewestSlots

@@ -1,7 +1,7 @@
 -- From the steps to the outcome of build: the slices before the first node, and what they hold at the end. Assumes nothing.
 use mathlib.Core.Path.{_≡_, refl, sym, ap, _∙_}
 use mathlib.Core.Bool.{Bool, true, false, cond, _&&_}
-use mathlib.Core.List.{List, [], _∷_, _++_, append-nil}
+use mathlib.Core.List.{List, [], _++_, append-nil}
 use Prim.Native.Nat.{ℕ, zero, suc, _+_, _/_, _≤_, _<_}
 use native.Mathlib.Omega.{arith}
 use lib.Dec.{leb}
@@ -20,7 +20,7 @@ use Rattle.list.specs.Check.{verdict, tableFits}
 use Rattle.list.specs.ListModel.{continuedIn}
 use Rattle.list.proofs.ListModel.{accepted-model}
 use Rattle.placing.specs.Placing.{placeAll, unplaced, slots}
-use Rattle.placing.proofs.Slots.{set-slots}
+use Rattle.placing.proofs.Slots.{set-slots, slots-alike}
 use Rattle.build.specs.ListTrie.{placedList, slotsFrom, rowSlots}
 use Rattle.build.specs.Build.{untouched, filled, emptied, checkedBuild, buildOutcome, IsBuilt, BuildMeans}
 use Rattle.build.specs.Steps.{Flagged, placedNodes, Filled, Tried, halved, Wiped}
@@ -29,19 +29,14 @@ use Rattle.build.proofs.Turn.{item-half}
 
 -- ---- before the first node
 
-same-slots : (n : ℕ) (v : ℤ) → slots n (λ t. v) ≡ replicate n v
-unfolding slots
-same-slots zero v = refl
-same-slots (suc n) v = ap (λ (l : List ℤ). v ∷ l) (same-slots n v)
-
 pub filled-none : (t : List ℤ) {N : ℕ} {B C : List ℤ} {W : List ℕ} → 2 ≤ N → N ≤ slotLimit → B ≡ replicate N (pos 0)
     → C ≡ set (replicate N freeCheck) 0 (headCheck (orderOf t)) → Flagged t (rowsOf t) W → Filled t N (placedNodes t 0) B C W
 unfolding placeAll unplaced continuedIn
 filled-none t {N} low high b c F = record {
   size = (low, high);
   room = omega arith;
-  base-slots = b ∙ sym (same-slots N (pos 0));
-  check-slots = c ∙ ap (λ (l : List ℤ). set l 0 (headCheck (orderOf t))) (sym (same-slots N freeCheck)) ∙ set-slots N (λ t. freeCheck) 0 (headCheck (orderOf t));
+  base-slots = b ∙ sym (slots-alike N (λ t. pos 0) (pos 0) (λ t. refl));
+  check-slots = c ∙ ap (λ (l : List ℤ). set l 0 (headCheck (orderOf t))) (sym (slots-alike N (λ t. freeCheck) freeCheck (λ t. refl))) ∙ set-slots N (λ t. freeCheck) 0 (headCheck (orderOf t));
   each = F .each;
   item = F .item;
 }
@@ -59,7 +54,7 @@ getD-slotsFrom t i zero j h = absurd (omega arith)
 getD-slotsFrom t i (suc k) zero h = ap (λ (x : ℕ). placedList t .slot (words t x)) (omega arith)
 getD-slotsFrom t i (suc k) (suc j) h = getD-slotsFrom t (suc i) k j (omega arith) ∙ ap (λ (x : ℕ). placedList t .slot (words t x)) (omega arith)
 
-length-rowSlots : (t : List ℤ) → length (rowSlots t) ≡ rowsOf t
+pub length-rowSlots : (t : List ℤ) → length (rowSlots t) ≡ rowsOf t
 unfolding rowSlots
 length-rowSlots t = length-slotsFrom t 0 (rowsOf t)
 

@@ -10,3 +10,4 @@ pub mod Items
 pub mod Crossing
 pub mod Fragments
 pub mod PrunedRuns
+pub mod AnswersAlike

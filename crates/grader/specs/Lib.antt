@@ -6,3 +6,4 @@ pub mod BatchSheet
 pub mod MarkedCases
 pub mod Returns
 pub mod PrunedRuns
+pub mod AnswersAlike

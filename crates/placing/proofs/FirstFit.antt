@@ -1,5 +1,6 @@
 -- Laws of the first fit: what it finds is free, at least 1, the smallest such and the only one. Assumes nothing.
 use mathlib.Core.Path.{_≡_, refl, sym, _∙_, subst}
+use mathlib.Core.Logic.{_≢_}
 use mathlib.Core.Bool.{Bool, true, false, false≢true}
 use mathlib.Core.List.{List, [], _∷_, List·Memᴰ, List·Memᴰ·head, List·Memᴰ·tail}
 use Prim.Native.Nat.{ℕ, zero, suc, _+_, _≤_, _<_}
@@ -18,6 +19,13 @@ isFree-true z e = omega zarith
 pub isFree-yes : (z : ℤ) → z ≡ freeCheck → isFree z ≡ true
 unfolding isFree
 isFree-yes z e = rw e
+
+pub isFree-no : (z : ℤ) → z ≢ freeCheck → isFree z ≡ false
+isFree-no z h = go (isFree z) refl
+  where
+    go : (b : Bool) → isFree z ≡ b → b ≡ false
+    go true e = absurd (h (isFree-true z e))
+    go false e = refl
 
 -- ---- the search, for any test
 

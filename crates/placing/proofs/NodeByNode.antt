@@ -26,6 +26,7 @@ unplaced-inv order all = record {
   lies = λ m h. absurd (List·Memᴰ·not-nil h);
   holds = λ t s l e. absurd (pos-ne-negsuc _ _ (sym e ∙ update-other (λ t. freeCheck) 0 (headCheck order) t (λ q. absurd (omega arith))));
   past = λ t l. update-other (λ t. freeCheck) 0 (headCheck order) t (λ q. absurd (omega arith));
+  last = λ t q z. pos-ne-negsuc _ _ (sym (update-same (λ t. freeCheck) 0 (headCheck order) t (omega arith)) ∙ z);
   blank = λ t e. refl;
 }
 

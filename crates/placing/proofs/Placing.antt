@@ -3,7 +3,7 @@
 use mathlib.Core.Path.{_≡_, refl, sym, ap, _∙_, subst}
 use mathlib.Core.Logic.{_⊎_, inl, inr, _≢_}
 use mathlib.Core.List.{List, [], _∷_, _++_, List·Memᴰ, List·Memᴰ·head, List·Memᴰ·append-cases, List·Memᴰ·eq-of-singleton, Memᴰ·append-left, Memᴰ·append-right}
-use Prim.Native.Nat.{ℕ, _≤_, _<_}
+use Prim.Native.Nat.{ℕ, suc, _≤_, _<_}
 use native.Mathlib.Omega.{arith}
 use native.Mathlib.Decide.{ℕ-discrete, decLt}
 use lib.IntN.{pos, negsuc, pos-ne-negsuc}
@@ -11,7 +11,7 @@ use Rattle.double_array.specs.DoubleArray.{freeCheck, headCheck, childSlot}
 use Rattle.placing.specs.Trie.{Node, children}
 use Rattle.placing.specs.Placing.{Placed, update, own, give, settle}
 use Rattle.backoff.proofs.Words.{same-refl, same-ne}
-use Rattle.placing.proofs.Rooms.{update-same, update-other, Owned, kept, given, own-cases, reach-top, reach-child}
+use Rattle.placing.proofs.Rooms.{update-same, update-other, Owned, kept, given, own-cases, reach-top, reach-child, Highest, of-before, of-marker, of-child, reach-highest}
 
 -- ---- the slots of nodes once n has taken d: its children's are given, all others kept
 
@@ -60,6 +60,7 @@ pub record Inv (order : ℕ) (all done : List Node) (P : Placed) : Type 0 where
   pub lies : (m : Node) → List·Memᴰ m done → Lies all P m
   pub holds : (t s : ℕ) → 1 ≤ t → P .check t ≡ pos s → Holds all done P t s
   pub past : (t : ℕ) → P .top ≤ t → P .check t ≡ freeCheck
+  pub last : (t : ℕ) → P .top ≡ suc t → P .check t ≢ freeCheck
   pub blank : (t : ℕ) → P .check t ≡ freeCheck → P .base t ≡ pos 0
 
 -- ---- what it says of slots
@@ -306,6 +307,18 @@ module _ {order : ℕ} {all done : List Node} {P : Placed} (I : Inv order all do
       go (kept q f) = q ∙ I .past t (omega (arith, reach-top (P .top) d ws .0))
       go (given w h p q) = absurd (omega (arith, reach-child (P .top) d ws w h))
 
+  last-more : (t : ℕ) → P′ .top ≡ suc t → P′ .check t ≢ freeCheck
+  unfolding settle
+  last-more t e = go (reach-highest (P .top) d ws t e)
+    where
+      go : Highest (P .top) d ws t → P′ .check t ≢ freeCheck
+      go (of-before q) z = I .last t q (sym (check-stays t (I .last t q)) ∙ z)
+      go (of-marker q) z =
+          let free : negsuc (n .cost) ≡ freeCheck = sym check-d ∙ ap (P′ .check) (sym q) ∙ z in
+          let c : n .cost ≡ 2147483647 = cc in
+          absurd (omega (arith, N .used))
+      go (of-child w h q) z = pos-ne-negsuc _ _ (sym (check-child w h) ∙ ap (P′ .check) (sym q) ∙ z)
+
   -- a free slot was free, and is no node's
   blank-more : (t : ℕ) → P′ .check t ≡ freeCheck → P′ .base t ≡ pos 0
   blank-more t e = go (ℕ-discrete t d)
@@ -330,5 +343,6 @@ module _ {order : ℕ} {all done : List Node} {P : Placed} (I : Inv order all do
     lies = by-cases {X = Lies all P′} done-lies n-lies;
     holds = holds-more;
     past = past-more;
+    last = last-more;
     blank = blank-more;
   }

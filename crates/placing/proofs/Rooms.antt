@@ -2,9 +2,9 @@
 use mathlib.Core.Path.{_≡_, refl, ap, _∙_}
 use mathlib.Core.Logic.{_≢_}
 use mathlib.Core.List.{List, [], _∷_, List·Memᴰ, List·Memᴰ·head, List·Memᴰ·tail, List·Memᴰ·not-nil}
-use Prim.Native.Nat.{ℕ, _≤_, _<_}
+use Prim.Native.Nat.{ℕ, suc, _≤_, _<_}
 use native.Mathlib.Omega.{arith}
-use native.Mathlib.Decide.{ℕ-discrete}
+use native.Mathlib.Decide.{ℕ-discrete, decLt}
 use borrow.Author.Tests.{eq-eqb, ne-eqb}
 use lib.IntN.{ℤ, pos}
 use Rattle.double_array.specs.DoubleArray.{childSlot}
@@ -56,3 +56,27 @@ pub reach-within : (top d : ℕ) (ws : List ℕ) (N : ℕ) → top ≤ N → d <
 unfolding reach
 reach-within top d [] N t h f = omega arith
 reach-within top d (w ∷ ws) N t h f = omega (arith, f w (List·Memᴰ·head refl), reach-within top d ws N t h (λ v m. f v (List·Memᴰ·tail m)))
+
+-- the highest slot used is the highest of before, the marker's or a child's
+pub data Highest (top d : ℕ) (ws : List ℕ) (t : ℕ) : Type 0 where
+  of-before : top ≡ suc t → Highest top d ws t
+  of-marker : t ≡ d → Highest top d ws t
+  of-child : (w : ℕ) → List·Memᴰ w ws → t ≡ childSlot d w → Highest top d ws t
+
+pub reach-highest : (top d : ℕ) (ws : List ℕ) (t : ℕ) → reach top d ws ≡ suc t → Highest top d ws t
+unfolding reach
+reach-highest top d [] t e = go (decLt d top)
+  where
+    go : Dec (d < top) → Highest top d [] t
+    go (yes l) = of-before (omega arith)
+    go (no l) = of-marker (omega arith)
+reach-highest top d (w ∷ ws) t e = go (decLt (childSlot d w) (reach top d ws)) (reach-highest top d ws t)
+  where
+    more : Highest top d ws t → Highest top d (w ∷ ws) t
+    more (of-before q) = of-before q
+    more (of-marker q) = of-marker q
+    more (of-child v m q) = of-child v (List·Memᴰ·tail m) q
+
+    go : Dec (childSlot d w < reach top d ws) → (reach top d ws ≡ suc t → Highest top d ws t) → Highest top d (w ∷ ws) t
+    go (yes l) rest = more (rest (omega arith))
+    go (no l) rest = of-child w (List·Memᴰ·head refl) (omega arith)

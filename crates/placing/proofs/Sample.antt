@@ -12,9 +12,9 @@ use lib.IntN.{pos, negsuc, negℤ}
 use lib.ListN.{length, getD}
 use Rattle.integer.proofs.Ranges.{and-left, and-right}
 use Rattle.backoff.specs.Words.{sameWords, isWord, areWords}
-use Rattle.double_array.specs.DoubleArray.{markerBase}
+use Rattle.double_array.specs.DoubleArray.{freeCheck, markerBase}
 use Rattle.placing.specs.Trie.{Node, children, nodeAt, HasParent, Ready}
-use Rattle.placing.specs.Placing.{Placed, isFree, update, allFree, fits, search, firstFit, own, reach, give, settle, place, placeAll, unplaced, placing, slots}
+use Rattle.placing.specs.Placing.{Placed, isFree, update, allFree, fits, search, firstFit, own, reach, give, settle, place, placeAll, unplaced, placing, slots, usedSlots}
 use Rattle.backoff.proofs.Words.{same-eq, same-refl}
 
 -- a row's node, from its words, −p, −b, e and f
@@ -58,6 +58,15 @@ sample-check = refl
 sample-slots : map (λ m. placing 3 sampleNodes .slot (m .words)) sampleNodes ≡ 0 ∷ 2 ∷ 3 ∷ 4 ∷ 5 ∷ 6 ∷ 14 ∷ 12 ∷ 15 ∷ 19 ∷ []
 unfolding samplePlaced
 sample-slots = refl
+
+-- Of 25 slots 20 are used; a free slot that a used one follows counts, which the sample has no case of.
+sample-used : usedSlots (slots 25 (placing 3 sampleNodes .check)) ≡ 20
+unfolding samplePlaced usedSlots
+sample-used = refl
+
+used-past-free : usedSlots (pos 0 ∷ freeCheck ∷ pos 0 ∷ freeCheck ∷ []) ≡ 3
+unfolding isFree usedSlots
+used-past-free = refl
 
 -- A d is passed over for a child's sake, which the sample has no case of: slot 3 is free, and slot 3 + 3 is taken by the root's child 5.
 passed-over : placing 2 (row [] 0 0 false false ∷ row (1 ∷ []) 0 0 true false ∷ row (5 ∷ []) 0 0 false false ∷ row (3 ∷ 1 ∷ []) 0 0 false false ∷ []) .base 2 ≡ pos 4

@@ -1,15 +1,19 @@
 -- A room's first slots as a list, and what stores on the list are in the room. Assumes nothing.
-use mathlib.Core.Path.{_≡_, refl, sym, ap, _∙_, fun-ext}
+use mathlib.Core.Path.{_≡_, refl, sym, ap, ap₂, _∙_, fun-ext}
+use mathlib.Core.Logic.{_≢_}
+use mathlib.Core.Bool.{Bool, true, false, cond, _&&_}
 use mathlib.Core.List.{List, [], _∷_, _++_}
-use Prim.Native.Nat.{ℕ, zero, suc, _≤_, _<_}
+use Prim.Native.Nat.{ℕ, zero, suc, _-_, _≤_, _<_}
 use native.Mathlib.Omega.{arith}
 use native.Mathlib.Decide.{ℕ-discrete, decLt}
+use borrow.Author.Tests.{ne-eqb}
 use lib.IntN.{ℤ, pos, negsuc}
-use lib.ListN.{length, getD, set, length-set, List·getD-eq-default}
+use lib.ListN.{length, getD, set, take, replicate, length-set, List·getD-eq-default}
 use lib.Seq.{ext-getD, getD-set-same, getD-set-other}
 use Rattle.double_array.specs.DoubleArray.{freeCheck, childSlot}
 use Rattle.placing.specs.Trie.{Node}
-use Rattle.placing.specs.Placing.{Room, Placed, roomOf, slots, update, own, ownIn, settle}
+use Rattle.placing.specs.Placing.{Room, Placed, roomOf, slots, usedSlots, isFree, update, own, ownIn, settle}
+use Rattle.placing.proofs.FirstFit.{isFree-yes, isFree-no}
 use Rattle.placing.proofs.Rooms.{update-same, update-other}
 
 pub length-slots : (n : ℕ) (f : Room) → length (slots n f) ≡ n
@@ -45,6 +49,43 @@ roomOf-slots n top c past l = fun-ext (λ t. go t (decLt t n))
     go : (t : ℕ) → Dec (t < n) → getD (slots n c) t freeCheck ≡ c t
     go t (yes h) = getD-slots n c t freeCheck h
     go t (no h) = List·getD-eq-default (slots n c) freeCheck (omega (arith, length-slots n c)) ∙ sym (past t (omega arith))
+
+-- the first N of the first M slots
+pub take-slots : (N M : ℕ) (f : Room) → N ≤ M → take N (slots M f) ≡ slots N f
+unfolding slots
+take-slots zero M f h = refl
+take-slots (suc N) zero f h = absurd (omega arith)
+take-slots (suc N) (suc M) f h = ap (λ (l : List ℤ). f 0 ∷ l) (take-slots N M (λ t. f (suc t)) (omega arith))
+
+-- a room that holds one number everywhere,
+pub slots-alike : (n : ℕ) (f : Room) (v : ℤ) → ((t : ℕ) → f t ≡ v) → slots n f ≡ replicate n v
+unfolding slots
+slots-alike zero f v h = refl
+slots-alike (suc n) f v h = ap₂ (λ (x : ℤ) (l : List ℤ). x ∷ l) (h 0) (slots-alike n (λ t. f (suc t)) v (λ t. h (suc t)))
+
+-- and one that holds it from slot N on
+pub slots-past : (N M : ℕ) (f : Room) (v : ℤ) → ((t : ℕ) → N ≤ t → f t ≡ v) → N ≤ M → slots M f ≡ slots N f ++ replicate (M - N) v
+unfolding slots
+slots-past zero M f v h l = let e : M - 0 ≡ M = omega arith in rw e (slots-alike M f v (λ t. h t (omega arith)))
+slots-past (suc N) zero f v h l = absurd (omega arith)
+slots-past (suc N) (suc M) f v h l =
+    let e : suc M - suc N ≡ M - N = omega arith in
+    rw e (ap (λ (r : List ℤ). f 0 ∷ r) (slots-past N M (λ t. f (suc t)) v (λ t k. h (suc t) (omega arith)) (omega arith)))
+
+-- a list that reaches as far as the room is used tells how far that is
+pub usedSlots-slots : (n top : ℕ) (c : Room) → ((t : ℕ) → top ≤ t → c t ≡ freeCheck) → ((t : ℕ) → top ≡ suc t → c t ≢ freeCheck) → top ≤ n → usedSlots (slots n c) ≡ top
+unfolding usedSlots slots
+usedSlots-slots zero top c past last l = omega arith
+usedSlots-slots (suc n) zero c past last l =
+    rw (isFree-yes (c 0) (past 0 (omega arith)), usedSlots-slots n 0 (λ t. c (suc t)) (λ t h. past (suc t) (omega arith)) (λ t e. absurd (omega arith)) (omega arith))
+usedSlots-slots (suc n) (suc zero) c past last l =
+    rw (isFree-no (c 0) (last 0 refl), usedSlots-slots n 0 (λ t. c (suc t)) (λ t h. past (suc t) (omega arith)) (λ t e. absurd (omega arith)) (omega arith))
+usedSlots-slots (suc n) (suc (suc top)) c past last l =
+    rw (usedSlots-slots n (suc top) (λ t. c (suc t)) (λ t h. past (suc t) (omega arith)) (λ t e. last (suc t) (omega arith)) (omega arith), ne-eqb (suc top) 0 (λ e. absurd (omega arith))) (go (isFree (c 0)))
+  where
+    go : (b : Bool) → cond (b && false) 0 (suc (suc top)) ≡ suc (suc top)
+    go true = refl
+    go false = refl
 
 -- ---- the children's slots
 

@@ -96,6 +96,11 @@ slots (suc n) f = f 0 ∷ slots n (λ t. f (suc t))
 abbrev pub roomOf : List ℤ → Room
 roomOf check t = getD check t freeCheck
 
+-- one more than the last slot of a CHECK slice that is not free; 0 where all are free
+unfoldable pub usedSlots : List ℤ → ℕ
+usedSlots [] = 0
+usedSlots (c ∷ check) = cond (isFree c && eqb (usedSlots check) 0) 0 (suc (usedSlots check))
+
 -- what `own` stores, on a lent CHECK slice
 unfoldable pub ownIn : ℕ → ℕ → List ℕ → List ℤ → List ℤ
 ownIn d s [] check = check
