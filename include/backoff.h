@@ -1,4 +1,5 @@
-/* backoff.h: back-off scoring over a double array, for C99 and C++. Link target/staticlib/libgrader.a.
+/* backoff.h: back-off scoring over a double array, for C99 and C++: cc prog.c $(pkg-config --cflags --libs backoff)
+ * The rule that scores a word is in docs/back-off.md.
  *
  * Lists. A point is 1/10,000 of a base-10 logarithm. A list has eight numbers to a row: m, five words oldest first
  * (unused ones 0), log-probability p, back-off b. Words are 1 to 65,535: 1 is the unknown word, 2 is <s>, 3 is </s>.
@@ -7,21 +8,37 @@
  * its last word.
  *
  * Slices. A slice is a pointer, then the number of its items (not of its bytes). The pointer is to that many items,
- * aligned for their type; a slice of no items is neither read nor written, and its pointer may be NULL. A slice that the
- * call writes must not overlap any other slice of the call. A const slice is never written, and nothing outside the
- * slices is read or written.
+ * aligned for their type; a slice of no items is neither read nor written, and its pointer may be NULL. The caller lends
+ * it until the call returns. A slice that the call writes must not overlap any other slice of the call. A const slice is
+ * not written, and nothing outside the slices is read or written.
  *
  * Answers. Every call takes any numbers in slices of any lengths. Its answer has a number and a place: 0 and 0 where the
  * call accepts, else those of the first check that fails, in the order that stands at the call. "Untouched" means that
  * every item is as it was before the call; the call may have written the same number there, so the memory is writable.
  *
  * Ownership. The caller owns all memory. A call keeps no pointer, allocates nothing and has no memory of its own. The
- * array is what base and check hold: plain numbers, which may be copied and saved. An array that was saved before
- * markers told of left extension has its order in check[0], not the order + 8; it gives 11 and must be built anew from
- * its list. An array must stay unchanged while states over it are in use. A state is nine plain numbers, which may be
- * copied too. It belongs to the array that it came from, or a copy of it; check 16 does not notice a state of another
- * array. Two readings with equal states over one array get the same points whatever follows, so the one with the lower
- * total can be dropped.
+ * array is what base and check hold: plain numbers, which may be copied and saved. It must stay unchanged while states
+ * over it are in use. A state is nine plain numbers, which may be copied too. It belongs to the array that it came from,
+ * or a copy of it; check 16 does not notice a state of another array. Two readings with equal states over one array get
+ * the same points whatever follows, so the one with the lower total can be dropped.
+ *
+ * Arrays. Each row of a list has a node, which is reached from the root in slot 0 by the words of the row, newest first:
+ * that is the walk. A node in slot s with base[s] = d has its marker in slot d, which holds p and b of the row, and its
+ * child for word w in slot d + w, where check is s. docs/double-array.svg is a picture of an array and a walk.
+ *
+ * Slots. base and check have the same length, the number of slots. A list needs at least 2 * rows + 2 slots, and at least
+ * its largest word + 2; often it needs more. What a build writes does not depend on how many slots it is lent: the array
+ * in the fewest slots is the beginning of the array in more slots, and all slots after it are free. So one build into
+ * BACKOFF_SLOT_LIMIT slots is enough: cut it after the last slot that is not free (backoff_array_fewest_slots), and the
+ * part before the cut answers and unloads as the whole does. Words that are numbered without gaps usually need the fewest
+ * slots. An accepted list may need more than BACKOFF_SLOT_LIMIT slots; then 10 is final for these word numbers.
+ *
+ * Saved arrays. Write the number of slots, base, check, and a checksum of them; each number as four bytes, lowest first,
+ * so that every machine reads the file. After loading compare the checksum, then call backoff_unload. Its 0 proves that
+ * the array holds an accepted list; only the checksum says that it is the list which you saved. check[0] says which
+ * releases read the array: it is the order + 8 in all releases with this BACKOFF_VERSION_MAJOR. Every other number there
+ * gives 11, also the order itself, which arrays had before there were versions: build such an array anew from its list.
+ * The program's `backoff build` writes such a file; docs/command-line.md has its form, and examples/saved.c follows it.
  *
  * Threads. Calls may run at the same time if no slice that one of them writes is lent to another. So threads may share
  * one array for lookups, starts, runs, batches, fragments and unloading, each with its own slices to be written. */
@@ -36,13 +53,20 @@
 extern "C" {
 #endif
 
+/* The version. All releases with the same major number have the calls, structs and numbers that stand here, and read each
+ * other's arrays. A higher minor number means further calls or numbers. Where a call or a struct changes, or arrays get
+ * another head (check[0]), the major number changes. */
+#define BACKOFF_VERSION_MAJOR 1
+#define BACKOFF_VERSION_MINOR 0
+#define BACKOFF_VERSION_PATCH 0
+
 /* The numbers of refusals. The place is the row for 3 to 8, the word (from 1) for 12 in a run or a fragment, the
  * sentence (from 1) for 20 and for 12 in a batch, 1 or 2 for the first or second fragment for 21, the line (from 1) for
  * 17 to 19 and, where an ARPA text is read, for 15; otherwise it is 0. */
 enum backoff_number {
     BACKOFF_ACCEPTED = 0,
-    BACKOFF_TABLE_LENGTH = 1,    /* the table has no items, no multiple of 8 items, or more than 65,535 rows; filling:
-                                    the complete list has more than these */
+    BACKOFF_TABLE_LENGTH = 1,    /* the table has no items, a number of items that 8 does not divide, or more than
+                                    65,535 rows; filling: the complete list has more than 65,535 rows */
     BACKOFF_ARRAY_LENGTH = 2,    /* base and check differ in length, have fewer than 2 or more than 1,048,576 slots,
                                     or work is shorter than the rows */
     BACKOFF_ROW_LENGTH = 3,      /* m is outside 1..5 */
@@ -54,21 +78,20 @@ enum backoff_number {
                                     the row without its last word, or the row of its last word alone */
     BACKOFF_RESERVED_WORD = 9,   /* word 1, 2 or 3 has no row of one word */
     BACKOFF_NO_ROOM = 10,        /* the array of the list needs more slots than base and check have */
-    BACKOFF_ARRAY_HEAD = 11,     /* base and check have lengths as in 2, or slots 0 and 1 are not as a build writes them;
-                                    check[0] is the order + 8, and every other head gives 11, also that of an array
-                                    which an older library built, with the order itself: build it anew */
+    BACKOFF_ARRAY_HEAD = 11,     /* base and check have lengths that 2 refuses, or slots 0 and 1 are not as a build writes
+                                    them: see "Saved arrays" above */
     BACKOFF_BROKEN_NODE = 12,    /* a node on the walk has no p and b in range, or there is no word 1 where a word is
-                                    replaced by it; unload: the array holds no accepted list, or a marker tells wrongly
-                                    which rows there are on either side of its row */
+                                    replaced by it; unload: the array holds no accepted list, or a marker's e or f
+                                    (at backoff_build) is wrong */
     BACKOFF_TEXT_LINE = 13,      /* a text line is not in form; only the totals program gives this */
     BACKOFF_WORD_COUNT = 14,     /* a lookup has no or more than 5 words; a run, a fragment or a join has more than
                                     65,535; a batch has more than 65,535 words or sentences */
     BACKOFF_SHORT_SLICE = 15,    /* a slice to be written is too short */
-    BACKOFF_BAD_STATE = 16,      /* the state has not nine numbers, its count is outside 0..n-1, an unused number is
+    BACKOFF_BAD_STATE = 16,      /* the length of the state is not 9, its count is outside 0..n-1, an unused number is
                                     not 0, a word is outside 1..65,535, or a back-off is out of range */
-    BACKOFF_ARPA_LINE = 17,      /* a line of an ARPA text is not in form, or missing at its end */
+    BACKOFF_ARPA_LINE = 17,      /* a line of an ARPA text is not in form, or a line is missing at its end */
     BACKOFF_ARPA_WORD = 18,      /* a word of an ARPA text has no line among the rows of one word */
-    BACKOFF_ARPA_COUNT = 19,     /* a section of an ARPA text has not as many lines as its count says */
+    BACKOFF_ARPA_COUNT = 19,     /* a section of an ARPA text has more or fewer lines than its count says */
     BACKOFF_SENTENCE_ENDS = 20,  /* the end of a sentence of a batch is below the one before it, or past the words */
     BACKOFF_BAD_FRAGMENT = 21    /* kept is not the smaller of n-1 and count, the state is one that 16 refuses, or total is
                                     further from 0 than count * n * 990,000 */
@@ -124,8 +147,7 @@ struct backoff_total {
 struct backoff_status backoff_check(const int32_t *table, size_t table_len);
 
 /* Fills base and check with the double array of a list, and work with the slots of the nodes of its rows. base and check
- * have the same length, the number of slots: at least 2 * rows + 2, and at least the largest word + 2. Often more are
- * needed; 10 tells. work has at least one item for each row.
+ * have the same length ("Slots" above says which); work has at least one item for each row.
  * Refusals: 1; 2; then row by row 3, 4, 5, 6, 7, 8; then 9; 10.
  * Accepted: every slot of base and check is written; work[i - 1] is the slot of row i, and work is untouched past the
  * rows. The marker of row i is in slot base[work[i - 1]]: its check is p - 1, its base is 4 * b + 2 * e + f, where e is 1
@@ -143,9 +165,11 @@ struct backoff_status backoff_build(const int32_t *table, size_t table_len, int3
 struct backoff_found backoff_lookup(const int32_t *base, size_t base_len, const int32_t *check, size_t check_len,
                                     const uint32_t *words, size_t words_len);
 
-/* Writes the state after <s>, with which a sentence begins; behind a 3 a run goes on from it by itself. The state of no
+/* Writes the state after <s>, with which a sentence begins; after a 3 a run goes on from it by itself. The state of no
  * context is nine zeros and needs no call. A state has count, four words newest first, and four back-offs (of the newest
- * word, of the newest two, ..); unused ones are 0. What stood in the slice before is not read.
+ * word, of the newest two, ..); unused ones are 0. What stood in the slice before is not read. Every accepted list has
+ * <s>. Over an array without a row for it, which no build wrote, <s> is replaced by 1 like any word: the state is the one
+ * after word 1, and 12 where there is no word 1 either.
  * Refusals: 16, where state_len is not 9; 11; 12.
  * Accepted: state is the state after <s>.
  * After 16: state is untouched.
@@ -155,13 +179,14 @@ struct backoff_status backoff_start(const int32_t *base, size_t base_len, const 
 
 /* Scores words one after another from a state, and leaves the state after them in its place. A word without a row of one
  * word is scored as word 1, so is a word outside 1..65,535. A word given as 3 ends a sentence: it is scored after the
- * words before it, and behind it the state is what backoff_start gives, so that the next word is scored after <s> alone.
+ * words before it, and after it the state is what backoff_start gives, so that the next word is scored after <s> alone.
  * So all sentences of a reading may go through one run, or through several, each sentence closed with a 3. points and
  * lengths have at least one item for each word. A length byte is the matched length, the number of words in the row
  * whose p was used, plus 8 if the word was scored as 1, plus 16 if some row puts a further word in front of that row;
  * over an array that backoff_build did not write, 16 is as the e of the row's marker says. So byte & 7 is the matched
- * length, byte & BACKOFF_UNKNOWN_LENGTH tells an unknown word, and byte & BACKOFF_EXTENDED_LENGTH a row that can grow to
- * the left. A run of no words is accepted; its total is 0 and its state stays.
+ * length, byte & BACKOFF_UNKNOWN_LENGTH is not 0 for an unknown word, a word given as 1 too, and byte &
+ * BACKOFF_EXTENDED_LENGTH is not 0 where the row can grow to the left. A run of no words is accepted; its total is 0 and
+ * its state stays.
  * Refusals: 16, where state_len is not 9; 11; 16 for the numbers of the state; 14; 15; 12, at the word that met it. Where
  * backoff_start gives 12, it is met at the first 3, also where that is the last word.
  * Accepted: points and lengths have the answer of each word, and are untouched past the words; state is the state after
@@ -186,7 +211,7 @@ struct backoff_sheet {
     uint32_t matched[5];
 };
 
-/* Scores many sentences, each from <s> and closed with a 3. The words of all sentences lie in words, one sentence behind the
+/* Scores many sentences, each from <s> and closed with a 3. The words of all sentences lie in words, one sentence after the
  * other; ends has, for each sentence, the number of words up to its end. Words after the last end belong to no sentence. A
  * sentence may have no words. Points and length bytes of each word are written at the word's own place, as a run over the
  * sentence from the state after <s> writes them; the closing 3 has no place there, but counts in the sheet. points and
@@ -239,7 +264,7 @@ struct backoff_joined backoff_join_fragments(const int32_t *base, size_t base_le
                                              struct backoff_fragment one, struct backoff_fragment two);
 
 /* Scores words from the list alone, after <s> or with no context: points, length bytes and total are those of a run over
- * the array of the list; a 3 ends a sentence here too. Each call checks the list anew.
+ * the array of the list; a 3 ends a sentence here too. Each call checks the list again.
  * Refusals: 1; then row by row 3, 4, 5, 6, 7, 8; then 9; 14; 15.
  * Accepted: points and lengths have the answer of each word, and are untouched past the words.
  * Refused: points and lengths are untouched. */
@@ -308,6 +333,128 @@ struct backoff_rows backoff_arpa(const uint8_t *text, size_t text_len, bool to_b
  * Accepted: filled has the complete list, and is untouched past its rows.
  * Refused: filled is untouched. */
 struct backoff_rows backoff_fill(const int32_t *table, size_t table_len, int32_t *filled, size_t filled_len);
+
+/* Base and check in one struct, so that they cannot be swapped. Each backoff_array_ form is the call of that name over
+ * array->base and array->check, both of array->slots items; all that stands at the call holds. This program
+ *
+ *     #include "backoff.h"
+ *     #include <stdio.h>
+ *
+ *     static const int32_t list[] = {1, 1, 0, 0, 0, 0, -20000, 0, 1, 2, 0, 0, 0, 0, -990000, -3000,
+ *                                    1, 3, 0, 0, 0, 0, -10000, 0, 1, 4, 0, 0, 0, 0, -6000, -2000,
+ *                                    2, 2, 4, 0, 0, 0, -4000, 0};
+ *     static int32_t base[BACKOFF_SLOT_LIMIT], check[BACKOFF_SLOT_LIMIT];
+ *
+ *     int main(void) {
+ *         struct backoff_array array = {base, check, BACKOFF_SLOT_LIMIT};
+ *         uint32_t work[5], words[] = {4, 3};
+ *         int32_t state[9], points[2];
+ *         uint8_t lengths[2];
+ *         struct backoff_status built = backoff_array_build(&array, list, 40, work, 5);
+ *         if (built.number != BACKOFF_ACCEPTED) {
+ *             printf("row %u: %s\n", (unsigned)built.place, backoff_reason(built.number));
+ *             return 1;
+ *         }
+ *         array.slots = backoff_array_fewest_slots(&array);
+ *         backoff_array_start(&array, state, 9);
+ *         struct backoff_total run = backoff_array_run(&array, state, 9, words, 2, points, 2, lengths, 2);
+ *         printf("%u slots, %d and %d points\n", (unsigned)array.slots, (int)points[0], (int)points[1]);
+ *         return run.number != BACKOFF_ACCEPTED;
+ *     }
+ *
+ * prints
+ *
+ *     12 slots, -4000 and -12000 points
+ */
+struct backoff_array {
+    int32_t *base;
+    int32_t *check;
+    size_t slots;
+};
+
+/* The slots up to the last one that is not free, 0 where all are free: the fewest into which backoff_build can build the
+ * same list. */
+static inline size_t backoff_array_fewest_slots(const struct backoff_array *array) {
+    size_t slots = array->slots;
+    while (slots > 0 && array->check[slots - 1] == INT32_MIN)
+        slots--;
+    return slots;
+}
+
+static inline struct backoff_status backoff_array_build(const struct backoff_array *array, const int32_t *table,
+                                                        size_t table_len, uint32_t *work, size_t work_len) {
+    return backoff_build(table, table_len, array->base, array->slots, array->check, array->slots, work, work_len);
+}
+
+static inline struct backoff_found backoff_array_lookup(const struct backoff_array *array, const uint32_t *words,
+                                                        size_t words_len) {
+    return backoff_lookup(array->base, array->slots, array->check, array->slots, words, words_len);
+}
+
+static inline struct backoff_status backoff_array_start(const struct backoff_array *array, int32_t *state,
+                                                        size_t state_len) {
+    return backoff_start(array->base, array->slots, array->check, array->slots, state, state_len);
+}
+
+static inline struct backoff_total backoff_array_run(const struct backoff_array *array, int32_t *state, size_t state_len,
+                                                     const uint32_t *words, size_t words_len, int32_t *points,
+                                                     size_t points_len, uint8_t *lengths, size_t lengths_len) {
+    return backoff_run(array->base, array->slots, array->check, array->slots, state, state_len, words, words_len, points,
+                       points_len, lengths, lengths_len);
+}
+
+static inline struct backoff_sheet backoff_array_batch(const struct backoff_array *array, const uint32_t *words,
+                                                       size_t words_len, const uint32_t *ends, size_t ends_len,
+                                                       int32_t *points, size_t points_len, uint8_t *lengths,
+                                                       size_t lengths_len) {
+    return backoff_batch(array->base, array->slots, array->check, array->slots, words, words_len, ends, ends_len, points,
+                         points_len, lengths, lengths_len);
+}
+
+static inline struct backoff_joined backoff_array_score_fragment(const struct backoff_array *array, const uint32_t *words,
+                                                                 size_t words_len) {
+    return backoff_score_fragment(array->base, array->slots, array->check, array->slots, words, words_len);
+}
+
+static inline struct backoff_joined backoff_array_join_fragments(const struct backoff_array *array,
+                                                                 struct backoff_fragment one,
+                                                                 struct backoff_fragment two) {
+    return backoff_join_fragments(array->base, array->slots, array->check, array->slots, one, two);
+}
+
+static inline struct backoff_status backoff_array_unload(const struct backoff_array *array, int32_t *table,
+                                                         size_t table_len, uint32_t *work, size_t work_len) {
+    return backoff_unload(array->base, array->slots, array->check, array->slots, table, table_len, work, work_len);
+}
+
+/* What a refusal number means, in a sentence; for a number that no call gives, too. */
+static inline const char *backoff_reason(uint32_t number) {
+    static const char *const reasons[] = {
+        "Nothing is refused.",
+        "The table is empty, its length is not a multiple of 8, or there are more than 65,535 rows.",
+        "base and check differ in length, have fewer than 2 or more than 1,048,576 slots, or work is too short.",
+        "The row's m is not between 1 and 5.",
+        "A word of the row is not between 1 and 65,535, or an unused place is not 0.",
+        "The row's log-probability is not between -990,000 and 0.",
+        "The row's back-off is not between -990,000 and 990,000, or the row is of the longest and has one.",
+        "The row does not come after the row before it in list order.",
+        "The row without this row's first word, or the one without its last word, is missing.",
+        "Word 1, 2 or 3 has no row of one word.",
+        "The list needs more slots than base and check have.",
+        "base and check do not begin like an array of this version.",
+        "The array is damaged: a node has no p and b in range, or the rows are not an accepted list.",
+        "A line of LIST or TEXT is not in form.",
+        "There are too many words or sentences, or a lookup has no words.",
+        "A slice to be written is too short.",
+        "The state is not nine numbers long, or not a state over an array of this order.",
+        "A line of the ARPA text is not in form, or a line is missing at its end.",
+        "A word of the ARPA text has no line in the section of one word.",
+        "A section of the ARPA text has more or fewer lines than its count says.",
+        "The end of a sentence is below the one before it, or past the words.",
+        "The fragment's kept words, state or total cannot come from an array of this order.",
+    };
+    return number < sizeof reasons / sizeof reasons[0] ? reasons[number] : "No call refuses by this number.";
+}
 
 #ifdef __cplusplus
 }

@@ -117,7 +117,7 @@ const ROUNDS: usize = 9;
 /// Sheets of the most words, scored by one thread and by two over one array.
 pub fn print_threads(list: &List) {
     println!("\n## More than one core\n\nWords that {SHEETS} sheets of 65,535 words in sentences of 20 score in a second by the clock, over one array. The threads share the");
-    println!("array and take the sheets in turn; nothing else is shared. README.md says how a sheet is split.\n");
+    println!("array and take the sheets in turn; nothing else is shared. docs/scoring.md says how a sheet is split.\n");
     println!("| threads | million words a second | times as fast as one |\n|--:|--:|--:|");
     let words = list.unseen_text();
     let ends = ends(words.len(), 20);

@@ -2,6 +2,9 @@
 //! refusals and the limits; and two functions over the texts that reading an ARPA file leaves; the refusals in words; the [`limits`] and the refusals' [`number`]s. Slices may have any lengths and hold any numbers: a call that does not accept them says so by a number and a place.
 //! No call allocates, panics or keeps anything; an array may be shared by threads while nobody writes it.
 //!
+//! The archive that is linked is `target/staticlib/libgrader.a` of the repository, which `rt staticlib grader` writes. Where the archive lies elsewhere, set the environment
+//! variable `BACKOFF_LIB_DIR` to the folder that has `libbackoff.a` or `libgrader.a`: `BACKOFF_LIB_DIR=/usr/local/lib cargo build`.
+//!
 //! ```
 //! // m, five words oldest first (unused ones 0), log-probability, back-off. Word 1 is the unknown word, 2 is <s>, 3 is </s>.
 //! let list = [

@@ -14,7 +14,10 @@ int main() {
     const backoff_fragment empty{};
     const backoff_joined no_fragment = backoff_join_fragments(nullptr, 0, nullptr, 0, empty, empty);
     const backoff_rows no_list = backoff_fill(nullptr, 0, nullptr, 0);
+    const backoff_array no_array{nullptr, nullptr, 0};
+    const backoff_found not_found = backoff_array_lookup(&no_array, nullptr, 0);
+    const bool formed = not_found.number == BACKOFF_ARRAY_HEAD && backoff_reason(not_found.number) != backoff_reason(0);
     const bool holds = missing.number == BACKOFF_RESERVED_WORD && none.number == BACKOFF_ARRAY_HEAD && state[0] == 0;
     const bool refused = no_sheet.number == BACKOFF_ARRAY_HEAD && no_fragment.number == BACKOFF_ARRAY_HEAD;
-    return holds && refused && no_text.number == BACKOFF_ARPA_LINE && no_list.number == BACKOFF_TABLE_LENGTH ? 0 : 1;
+    return holds && refused && formed && no_text.number == BACKOFF_ARPA_LINE && no_list.number == BACKOFF_TABLE_LENGTH ? 0 : 1;
 }

@@ -9,8 +9,6 @@ use tests::random::Random;
 use tests::reference::arpa::{Answer, LONGEST_TEXT, RECORD};
 use tests::reference::list::{Row, LARGEST_WORD, MOST_ROWS};
 
-const README: &str = include_str!("../../README.md");
-
 /// The store of these texts, for the words from 1.
 fn store_of(texts: &[Vec<u8>], length: usize) -> Vec<u8> {
     let mut store = vec![0; length];
@@ -80,27 +78,11 @@ fn pruned_texts() {
     assert_eq!((told(&without("</s>", 1), true), told(&without("</s>", 1), false)), (18, 18));
 }
 
-/// The README's text becomes the rows and texts that it shows, and its line for irstlm's files is the one that the tests use.
+/// The line for irstlm's files that docs/lists.md shows is the one that the tests use.
 #[test]
-fn readme() {
-    let blocks: Vec<&str> = README.split("\n```").collect();
-    let text = blocks.iter().position(|block| block.starts_with("\n\\data\\")).unwrap();
-    // What follows the text and a sentence: eight numbers to a line and, where there is one, a word with its text.
-    let lines = blocks[text + 2].lines().skip(1).map(|line| line.split_whitespace().collect::<Vec<&str>>());
-    let (rows, words): (Vec<Vec<i32>>, Vec<Vec<u8>>) = lines
-        .map(|fields| {
-            (
-                fields[..8].iter().map(|number| number.parse().unwrap()).collect(),
-                fields.get(9).map_or(vec![], |text| text.as_bytes().to_vec()),
-            )
-        })
-        .unzip();
-    let texts: Vec<Vec<u8>> = words.into_iter().filter(|text| !text.is_empty()).collect();
-    let found = read(format!("{}\n", &blocks[text][1..]).as_bytes(), fitting(rows.len(), texts.len()));
-    assert_eq!(found.answer, Answer { number: 0, rows: rows.len() as u32, place: 0 });
-    assert!(rows.len() == 5 && found.table == rows.concat() && found.store == store_of(&texts, RECORD * 5));
+fn line_for_irstlm() {
     let in_form = include_str!("../irstlm/in-form").lines().find_map(|line| line.strip_prefix("exec ")).unwrap();
-    assert!(README.contains(&format!("\n{in_form}\n")));
+    assert!(include_str!("../../docs/lists.md").contains(&format!("\n{in_form} <irstlm.arpa ")));
 }
 
 /// A printed list reads back as that list and those texts, whatever the spelling, in buffers that just hold it or are larger.

@@ -12,15 +12,15 @@ fn page() -> String {
     file("docs/back-off.md")
 }
 
-/// The page's fenced parts, each with the file that the text before it names last.
+/// The page's fenced parts that are printed from a file, each with the file that the text before it names last.
 fn printed(page: &str) -> Vec<(String, String)> {
     let parts: Vec<&str> = page.split("\n```").collect();
     parts
         .chunks_exact(2)
-        .map(|pair| {
-            let named = pair[0].rsplit('`').find(|word| word.starts_with("crates/")).expect("a file before a printed part");
-            let (_, code) = pair[1].split_once('\n').expect("a fence on a line of its own");
-            (named.to_string(), code.to_string())
+        .filter_map(|pair| {
+            let (kind, code) = pair[1].split_once('\n').expect("a fence on a line of its own");
+            let named = || pair[0].rsplit('`').find(|word| word.starts_with("crates/")).expect("a file before a printed part");
+            ["rust", "text"].contains(&kind).then(|| (named().to_string(), code.to_string()))
         })
         .collect()
 }
@@ -52,7 +52,7 @@ fn printed_parts_stand_in_their_files() {
 fn lines_beside_the_rule_are_the_functions() {
     let page = page();
     let (_, function) = &printed(&page)[0];
-    let rows = rows_of(&page, "| document 000 |");
+    let rows = rows_of(&page, "| the thesis |");
     let lines: Vec<&str> = rows.iter().filter_map(|cells| cells.last()?.strip_prefix('`')?.strip_suffix('`')).collect();
     assert_eq!(lines.len(), 9);
     let mut rest = function.lines();

@@ -88,6 +88,7 @@ const SUBCOMMANDS: [Subcommand; 5] = [
 ];
 
 const HELP: &str = include_str!("help/backoff.txt");
+const VERSION: &str = concat!("backoff ", env!("CARGO_PKG_VERSION"), "\n");
 
 /// The most threads that may be asked for.
 const THREAD_LIMIT: usize = 256;
@@ -131,6 +132,9 @@ pub fn parse(mut arguments: impl Iterator<Item = OsString>) -> Result<Command, F
     let name = first.to_string_lossy();
     if name == "--help" || name == "-h" || name == "help" {
         return Ok(Command::Help(HELP));
+    }
+    if name == "--version" {
+        return Ok(Command::Help(VERSION));
     }
     let Some(subcommand) = SUBCOMMANDS.iter().find(|subcommand| subcommand.name == name) else {
         return Err(Failure::Told(format!("there is no subcommand '{name}': see backoff --help")));
