@@ -8,7 +8,8 @@ use std::io::{Read, Write};
 use std::os::fd::{AsRawFd, FromRawFd};
 use std::os::unix::ffi::OsStrExt;
 use std::process::{Command, Stdio};
-use std::time::Duration;
+use std::sync::mpsc::channel;
+use std::time::{Duration, Instant};
 use support::{Folder, Texted, PROGRAM, SAMPLE};
 use tests::arpa::{self, damage_bytes, damage_lines};
 use tests::lists;
@@ -209,36 +210,42 @@ fn terminal() -> (File, File) {
     (shown, OpenOptions::new().read(true).write(true).open(name).unwrap())
 }
 
-/// What a terminal at standard error shows of a query whose text comes to its end after so long.
-fn shown_after(wait: Duration) -> String {
+/// Nothing in the first second; then a line, which is taken away at the end.
+#[test]
+fn progress() {
     let folder = Folder::new();
     folder.put("m", SAMPLE);
     let (mut shown, written) = terminal();
-    let mut child = Command::new(PROGRAM)
-        .args(["query", "m"])
-        .current_dir(folder.path("."))
-        .stdin(Stdio::piped())
-        .stdout(Stdio::null())
-        .stderr(written)
-        .spawn()
-        .unwrap();
+    let mut query = Command::new(PROGRAM);
+    query.arg("query").arg(folder.path("m")).stdin(Stdio::piped()).stdout(Stdio::null()).stderr(written);
+    let started = Instant::now();
+    let mut child = query.spawn().unwrap();
+    // The terminal ends with its last writer.
+    drop(query);
     let mut typed = child.stdin.take().unwrap();
     typed.write_all(b"four five\n").unwrap();
-    std::thread::sleep(wait);
+    let (sender, receiver) = channel();
+    let reader = std::thread::spawn(move || {
+        let mut bytes = [0; 100];
+        while let Ok(read) = shown.read(&mut bytes) {
+            sender.send(String::from_utf8_lossy(&bytes[..read]).into_owned()).unwrap();
+        }
+    });
+    let mut text = receiver.recv_timeout(Duration::from_secs(20)).expect("progress");
+    assert!(started.elapsed() >= Duration::from_secs(1));
+    while !text.contains("\r\x1b[Kscoring: 3 words") {
+        text += &receiver.recv_timeout(Duration::from_secs(20)).expect("the words");
+    }
     drop(typed);
     assert!(child.wait().unwrap().success());
-    let mut text = Vec::new();
-    // The end of a terminal that nobody writes to is an error.
-    let _ = shown.read_to_end(&mut text);
-    String::from_utf8(text).unwrap()
+    reader.join().unwrap();
+    text.extend(receiver);
+    assert!(text.ends_with("\r\x1b[K"), "{text:?}");
 }
 
-/// Nothing in the first second; then a line, which is taken away at the end. Where standard error is no terminal there is nothing.
+/// Where standard error is no terminal, nothing tells of long work.
 #[test]
-fn progress() {
-    assert_eq!(shown_after(Duration::from_millis(100)), "");
-    let shown = shown_after(Duration::from_millis(1_600));
-    assert!(shown.starts_with("\r\x1b[Kscoring: 3 words") && shown.ends_with("\r\x1b[K"), "{shown:?}");
+fn no_progress() {
     let folder = Folder::new();
     folder.put("m", SAMPLE);
     folder.shell("{ sleep 1.2; echo four; } | backoff query m").printed();

@@ -3,6 +3,7 @@
 mod support;
 
 use support::{Folder, Texted, SAMPLE};
+use tests::arpa;
 use tests::lists;
 use tests::random::Random;
 use tests::reference::arpa::MARKS;
@@ -181,6 +182,26 @@ fn rows_out_of_range_or_twice() {
   to mend it: take one of the two away
 ";
     assert_eq!(refused(sample_with("five </s>", "four five")), twice);
+}
+
+/// Rows of two and more words may come in any order: the number is that in list order, and the line is the row's own.
+#[test]
+fn rows_in_any_order() {
+    for seed in 0..20 {
+        let random = &mut Random::new(seed);
+        let rows = lists::natural(random, 3, 40, 200);
+        let mut list = Texted::new(random, &rows);
+        let bad = list.rows.len() - 1 - random.below(150);
+        list.rows[bad].p = 1;
+        let mut printed = arpa::print(&list.rows, &list.texts);
+        printed.sections[1..].iter_mut().for_each(|section| arpa::shuffle(random, section));
+        let lines = printed.lines();
+        let line = lines.iter().position(|line| line.starts_with(b"0.0001\t")).unwrap();
+        let told = refused(arpa::bytes(&lines));
+        let text = String::from_utf8_lossy(&lines[line]).replace('\t', "\\t").replace('\u{7f}', "\\u{7f}");
+        let expected = format!("row {} in list order, line {}: {text}", bad + 1, line + 1);
+        assert_eq!(told.lines().nth(1), Some(&format!("  {expected}")[..]), "seed {seed}");
+    }
 }
 
 /// 8 names the row that is missing, and `--fill` where it helps.
