@@ -14,7 +14,7 @@ use Rattle.backoff.specs.Limits.{largestBackoff, textLimit}
 use Rattle.backoff.specs.Words.{sameWords}
 use Rattle.backoff.proofs.Words.{same-refl}
 use Rattle.totals_text.specs.Columns.{digits, allDigits, valueFrom}
-use Rattle.totals_text.proofs.Digits.{digits-lead, digits-le, value-digits, digits-natural, natural-all, digit-range}
+use Rattle.totals_text.proofs.Digits.{digits-lead, digits-le, digits-all, value-digits, digit-range}
 use Rattle.arpa_text.specs.Parts.{parts, before}
 use Rattle.arpa_text.specs.Logs.{digitsUpTo, fraction, unsigned, readLog, nearest, roundLog, readPoints}
 use Rattle.arpa_text.specs.Lines.{countHead, isCountHead, countIn, readCount, allAbove, isText, areTexts, listedIn, readRow}
@@ -102,9 +102,6 @@ texts-lack c (text ∷ texts) l e = (
 
 digits-some : (n : ℕ) → length (digits n) ≡ 0 → ⊥
 digits-some n e = let h = digits-lead n in let f = ap length (h .is) in omega arith
-
-digits-all : (n : ℕ) → allDigits (digits n) ≡ true
-digits-all n = natural-all (digits n) (digits-natural n)
 
 digits-within : (k n : ℕ) → n < 10 ^ suc k → digitsUpTo (suc k) (digits n) ≡ true
 digits-within k n h = few-enough (suc k) (digits n) (digits-some n) (digits-le k n h) ∙ digits-all n

@@ -23,16 +23,12 @@ use Rattle.backoff.proofs.NineNumbers.{stateOk-bounded, nine-stateIn, runEnd-ok
 use Rattle.backoff.proofs.Sizes.{runPoints-size}
 use Rattle.backoff.proofs.Store.{modelRan, runOver-cases}
 use Rattle.score.specs.Answers.{Summed, summed}
-use Rattle.score.proofs.Running.{beforeAll}
+use Rattle.score.proofs.Running.{beforeAll, before-none}
 
 -- the same words, numbered from a further on
 abbrev shifted : ℕ → Ran → Ran
 shifted a (ran ps bs t) = ran ps bs t
 shifted a (refusedAt k) = refusedAt (a + k)
-
-before-none : (r : Ran) → r ≡ beforeAll [] [] r
-before-none (ran ps bs t) = refl
-before-none (refusedAt j) = refl
 
 module _ (S : Store) where
   pub run-shifted : (a : ℕ) (ws : List ℕ) (s : Carried) (k : ℕ) → runOver S ws s (a + k) ≡ shifted a (runOver S ws s k)

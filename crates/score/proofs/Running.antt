@@ -32,6 +32,10 @@ abbrev pub beforeAll : List ℤ → List ℕ → Ran → Ran
 beforeAll ps bs (ran qs cs t) = ran (ps ++ qs) (bs ++ cs) t
 beforeAll ps bs (refusedAt k) = refusedAt k
 
+pub before-none : (r : Ran) → r ≡ beforeAll [] [] r
+before-none (ran ps bs t) = refl
+before-none (refusedAt k) = refl
+
 before-one : (ps : List ℤ) (bs : List ℕ) (x : ℤ) (y : ℕ) (r : Ran) → beforeAll ps bs (before x y r) ≡ beforeAll (ps ++ (x ∷ [])) (bs ++ (y ∷ [])) r
 before-one ps bs x y (ran qs cs t) = ap₂ (λ (p : List ℤ) (b : List ℕ). ran p b t) (sym (append-assoc ps (x ∷ []) qs)) (sym (append-assoc bs (y ∷ []) cs))
 before-one ps bs x y (refusedAt k) = refl
@@ -79,7 +83,7 @@ module _ (S : Store) (s : Carried) (ws : List ℕ) (points₀ : List ℤ) (lengt
   pub running-begins : (carried : Carried) → carried ≡ s → Running S s ws points₀ lengths₀ carried (pos 0) 0 points₀ lengths₀
   running-begins carried e = record {
     at = omega arith;
-    rest = rw e (all-left (runOver S ws s 1));
+    rest = rw e (before-none (runOver S ws s 1));
     points-past = refl;
     lengths-past = refl;
     points-long = refl;
@@ -87,10 +91,6 @@ module _ (S : Store) (s : Carried) (ws : List ℕ) (points₀ : List ℤ) (lengt
     total-is = refl;
     total-small = omega arith;
   }
-    where
-      all-left : (r : Ran) → r ≡ beforeAll [] [] r
-      all-left (ran qs cs t) = refl
-      all-left (refusedAt k) = refl
 
   module _ (carried : Carried) (total : ℤ) (i : ℕ) (points : List ℤ) (lengths : List ℕ) (r : Running S s ws points₀ lengths₀ carried total i points lengths) where
     -- the next word

@@ -116,7 +116,7 @@ one-digit : (d : ℕ) → d < 10 → allDigits ((48 + d) ∷ []) ≡ true
 unfolding allDigits
 one-digit d h = rw (le-leb 48 (48 + d) (omega arith), le-leb (48 + d) 57 (omega arith))
 
-digits-all : (n : ℕ) → allDigits (digits n) ≡ true
+pub digits-all : (n : ℕ) → allDigits (digits n) ≡ true
 digits-all =
     by-digits (λ (n : ℕ). allDigits (digits n) ≡ true)
     (λ n h. rw (digits-one n h) (one-digit n h))
