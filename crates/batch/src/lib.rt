@@ -225,18 +225,19 @@ fn score_sentence(
 fn score_sentences(
     base: &[i32],
     check: &[i32],
+    started: Started,
     words: &[u32],
     ends: &[u32],
     points: &mut [i32],
     lengths: &mut [u8],
     counts: &mut [u32; 9],
 ) -> Scored
+    requires { ⌜ startedOf started ≡ startOutcome (opened (now base) (now check)) nineZeros ⌝ }
     requires { ⌜ badEnd (length (now words)) 1 0 (now ends) ≡ 0 ⌝ }
     requires { ⌜ (length (now ends) ≤ runLimit) × ((lastEnd 0 (now ends) ≤ length (now points)) × (lastEnd 0 (now ends) ≤ length (now lengths))) ⌝ }
     requires { ⌜ Tallied [] [] (now counts) ⌝ }
     ensures { λ r. ⌜ ScoredAs (opened (now (base .entry)) (now (check .entry))) (now (ends .entry)) (record { words = now (words .entry); points = now (points .entry); lengths = now (lengths .entry) }) r (now (points .exit)) (now (lengths .exit)) (now (counts .exit)) ⌝ }
 {
-    let started = score::start(base, check);
     let mut sum: i64 = 0;
     let mut a = 0;
     let mut i = 0;
@@ -313,8 +314,18 @@ fn score_sheet(
     requires { ⌜ met (opened (now base) (now check)) (now ends) (record { words = now words; points = now points; lengths = now lengths }) .number ≡ 0 ⌝ }
     ensures { λ r. ⌜ record { sheet = r; points = now (points .exit); lengths = now (lengths .exit) } ≡ scoredSheet (opened (now (base .entry)) (now (check .entry))) (now (ends .entry)) (record { words = now (words .entry); points = now (points .entry); lengths = now (lengths .entry) }) ⌝ }
 {
+    let started = score::start(base, check);
     let mut counts = [0u32; 9];
-    let scored = score_sentences(base, check, words, ends, points, lengths, &mut counts);
+    let scored = score_sentences(
+        base,
+        check,
+        started,
+        words,
+        ends,
+        points,
+        lengths,
+        &mut counts,
+    );
     match scored {
         Scored::All(total) => full_sheet(ends, lengths, total, counts),
         Scored::Refused(k) => broken_sheet(ends, points, lengths, k),

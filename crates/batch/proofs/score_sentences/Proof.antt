@@ -18,24 +18,21 @@ use Rattle.batch.proofs.score_sentences.Statement.{statement}
 use Rattle.batch.proofs.score_sentences.Tie as tie
 
 abbrev Inv-loop : tie.InvT-loop
-Inv-loop base check words ends points₀ lengths₀ counts₀ started sum₀ a₀ i₀ points lengths counts sum a i =
+Inv-loop base check started words ends points₀ lengths₀ counts₀ sum₀ a₀ i₀ points lengths counts sum a i =
     Batching (opened base check) ends (record { words = words; points = points₀; lengths = lengths₀ }) a i (toZ w64 sum) points lengths counts
 
 abbrev μ-loop : tie.MeasureT-loop
-μ-loop base check words ends points₀ lengths₀ counts₀ started sum₀ a₀ i₀ points lengths counts sum a i =
+μ-loop base check started words ends points₀ lengths₀ counts₀ sum₀ a₀ i₀ points lengths counts sum a i =
     length ends - i
 
 -- the sheet that is asked for
 abbrev asked : tie.Start Inv-loop μ-loop → Run
 asked s = record { words = s .args .words .now; points = s .args .points .now; lengths = s .args .lengths .now }
 
-start-requires : tie.Need-start-requires Inv-loop μ-loop
-start-requires c κs = search needs
-
 loop-holds : tie.Need-loop-holds Inv-loop μ-loop
 loop-holds c =
-    let s = c .before .before .before .before in
-    batching-begins (opened (s .args .base .now) (s .args .check .now)) (s .args .ends .now) (asked s) (s .args .counts .now) (s .pre .1 .1)
+    let s = c .before .before .before in
+    batching-begins (opened (s .args .base .now) (s .args .check .now)) (s .args .ends .now) (asked s) (s .args .counts .now) (s .pre .1 .1 .1)
 
 mul-words-before : tie.Need-mul-words-before Inv-loop μ-loop
 mul-words-before c = search needs
@@ -51,7 +48,7 @@ abbrev turn : tie.After-words-before Inv-loop μ-loop → tie.In-loop Inv-loop �
 turn w = w .before .before
 
 abbrev start : tie.In-loop Inv-loop μ-loop → tie.Start Inv-loop μ-loop
-start n = n .before .before .before .before .before .before
+start n = n .before .before .before .before .before
 
 next-end : (n : tie.In-loop Inv-loop μ-loop) → n .before .loop .i < length (start n .args .ends .now)
 next-end n = search needs
@@ -61,7 +58,7 @@ within w =
     let n = turn w in
     let l = n .before .loop in
     let s = start n in
-    next-within (s .args .base .now) (s .args .check .now) (s .args .ends .now) (asked s) (l .a) (l .i) (toZ w64 (l .sum)) (l .points) (l .lengths) (l .counts) (l .inv) (next-end n) (s .pre .0) (s .pre .1 .0 .1 .0) (s .pre .1 .0 .1 .1) (w .words-before .result) (w .words-before .ensures)
+    next-within (s .args .base .now) (s .args .check .now) (s .args .ends .now) (asked s) (l .a) (l .i) (toZ w64 (l .sum)) (l .points) (l .lengths) (l .counts) (l .inv) (next-end n) (s .pre .1 .0) (s .pre .1 .1 .0 .1 .0) (s .pre .1 .1 .0 .1 .1) (w .words-before .result) (w .words-before .ensures)
 
 mul-score-sentence : tie.Need-mul-score-sentence Inv-loop μ-loop
 mul-score-sentence c = omega (arith, within c)
@@ -97,7 +94,7 @@ part-score-sentence-end-3 : tie.Need-part-score-sentence-end-3 Inv-loop μ-loop
 part-score-sentence-end-3 c = omega (arith, within (c .before .before))
 
 score-sentence-requires : tie.Need-score-sentence-requires Inv-loop μ-loop
-score-sentence-requires c κs = turn (c .before .before .before) .before .before .start .ensures .0
+score-sentence-requires c κs = start (turn (c .before .before .before)) .pre .0
 
 -- the sentence's end when `score_sentence` was called, and the stretches as it left them
 abbrev ended : tie.After-score-sentence Inv-loop μ-loop → tie.After-words-before Inv-loop μ-loop
@@ -144,11 +141,11 @@ returns c =
     let n = turn w in
     let l = n .before .loop in
     let s = start n in
-    turn-refused (s .args .base .now) (s .args .check .now) (s .args .ends .now) (asked s) (l .a) (l .i) (toZ w64 (l .sum)) (l .points) (l .lengths) (l .counts) (l .inv) (next-end n) (s .pre .0) (s .pre .1 .0 .1 .0) (s .pre .1 .0 .1 .1) (w .words-before .result) (w .words-before .ensures)
+    turn-refused (s .args .base .now) (s .args .check .now) (s .args .ends .now) (asked s) (l .a) (l .i) (toZ w64 (l .sum)) (l .points) (l .lengths) (l .counts) (l .inv) (next-end n) (s .pre .1 .0) (s .pre .1 .1 .0 .1 .0) (s .pre .1 .1 .0 .1 .1) (w .words-before .result) (w .words-before .ensures)
     (d .score-sentence .result) (points d) (lengths d) (points-long d) (lengths-long d) (d .score-sentence .ensures) (c .enum-told .given .1)
 
 few : (n : tie.In-loop Inv-loop μ-loop) → n .before .loop .i ≤ runLimit
-few n = omega (arith, n .before .loop .inv .at, start n .pre .1 .0 .0)
+few n = omega (arith, n .before .loop .inv .at, start n .pre .1 .1 .0 .0)
 
 -- no counter is full
 room : (n : tie.In-loop Inv-loop μ-loop) (k : ℕ) → getD (n .before .loop .counts) k 0 < 4294967295
@@ -168,7 +165,7 @@ total-small c =
     let n = turn w in
     let l = n .before .loop in
     let s = start n in
-    turn-total (s .args .base .now) (s .args .check .now) (s .args .ends .now) (asked s) (l .a) (l .i) (toZ w64 (l .sum)) (l .points) (l .lengths) (l .counts) (l .inv) (next-end n) (s .pre .0) (s .pre .1 .0 .1 .0) (s .pre .1 .0 .1 .1) (w .words-before .result) (w .words-before .ensures)
+    turn-total (s .args .base .now) (s .args .check .now) (s .args .ends .now) (asked s) (l .a) (l .i) (toZ w64 (l .sum)) (l .points) (l .lengths) (l .counts) (l .inv) (next-end n) (s .pre .1 .0) (s .pre .1 .1 .0 .1 .0) (s .pre .1 .1 .0 .1 .1) (w .words-before .result) (w .words-before .ensures)
     (d .score-sentence .result) (points d) (lengths d) (points-long d) (lengths-long d) (d .score-sentence .ensures) _ _ (c .before .before .before .scored .given .1)
 
 add-sum : tie.Need-add-sum Inv-loop μ-loop
@@ -189,7 +186,7 @@ loop-again c =
     let s = start n in
     let v = c .before .before .before .scored in
     rw (c .count-byte .ensures, next-added (l .i) (few n) (toZ w64 (l .sum)) (v .given .0 .0) (l .inv .total-small) (total-small c))
-    (turn-on (s .args .base .now) (s .args .check .now) (s .args .ends .now) (asked s) (l .a) (l .i) (toZ w64 (l .sum)) (l .points) (l .lengths) (l .counts) (l .inv) (next-end n) (s .pre .0) (s .pre .1 .0 .1 .0) (s .pre .1 .0 .1 .1) (w .words-before .result) (w .words-before .ensures)
+    (turn-on (s .args .base .now) (s .args .check .now) (s .args .ends .now) (asked s) (l .a) (l .i) (toZ w64 (l .sum)) (l .points) (l .lengths) (l .counts) (l .inv) (next-end n) (s .pre .1 .0) (s .pre .1 .1 .0 .1 .0) (s .pre .1 .1 .0 .1 .1) (w .words-before .result) (w .words-before .ensures)
     (d .score-sentence .result) (points d) (lengths d) (points-long d) (lengths-long d) (d .score-sentence .ensures) (v .given .0 .0) (v .given .0 .1 .0) (v .given .1))
 
 same-length-3 : tie.Need-same-length-3 Inv-loop μ-loop
@@ -201,7 +198,7 @@ same-length-4 c = c .before .loop .inv .lengths-done .long
 returns-2 : tie.Need-returns-2 Inv-loop μ-loop
 returns-2 c =
     let l = c .before .loop in
-    let s = c .before .before .before .before .before .before in
+    let s = c .before .before .before .before .before in
     batching-ends (opened (s .args .base .now) (s .args .check .now)) (s .args .ends .now) (asked s) (l .a) (l .i) (toZ w64 (l .sum)) (l .points) (l .lengths) (l .counts) (l .inv) (search needs)
 
 pub score-sentences-spec : {M : Type 1} → statement M
@@ -210,7 +207,6 @@ score-sentences-spec =
     (tie.spec
     Inv-loop
     μ-loop
-    start-requires
     loop-holds
     mul-words-before
     shared-slice-read-words-before

@@ -40,21 +40,27 @@ reach s = omega (arith, last-within (s .args .base .now) (s .args .check .now) (
 long : (s : tie.Start) → length (wordBytes (array s) (sentences 0 (ends s) (asked s))) ≡ lastEnd 0 (ends s)
 long s = bytes-long (array s) (asked s) (ends s) (fit s .ends-good) (fit s .sizes .lengths-reach)
 
+start-requires : tie.Need-start-requires
+start-requires c κs = search needs
+
 score-sentences-requires : tie.Need-score-sentences-requires
-score-sentences-requires c κs = let p = fit (c .before .before .before .before .before .before) in (p .ends-good, ((p .sizes .few-ends, (p .sizes .points-reach, p .sizes .lengths-reach)), tallied-none))
+score-sentences-requires c κs =
+    let b = c .before .before .before in
+    let p = fit (b .before .before .before .before) in
+    (b .start .ensures .0, (p .ends-good, ((p .sizes .few-ends, (p .sizes .points-reach, p .sizes .lengths-reach)), tallied-none)))
 
 -- the function's start, and what `score_sentences` left
 abbrev start : tie.After-score-sentences → tie.Start
-start d = d .before .before .before .before .before .before .before
+start d = d .before .before .before .before .before .before .before .before
 
 abbrev points : tie.After-score-sentences → List ℤ
-points d = d .score-sentences .last .1 .1 .1 .1 .0
+points d = d .score-sentences .last .1 .1 .1 .1 .1 .0
 
 abbrev lengths : tie.After-score-sentences → List ℕ
-lengths d = d .score-sentences .last .1 .1 .1 .1 .1 .0
+lengths d = d .score-sentences .last .1 .1 .1 .1 .1 .1 .0
 
 abbrev counts : tie.After-score-sentences → List ℕ
-counts d = d .score-sentences .last .1 .1 .1 .1 .1 .1 .0
+counts d = d .score-sentences .last .1 .1 .1 .1 .1 .1 .1 .0
 
 -- all sentences are scored
 abbrev scoredFrom : tie.After-scored → tie.After-score-sentences
@@ -131,6 +137,7 @@ pub score-sheet-spec : {M : Type 1} → statement M
 score-sheet-spec =
     tie.close
     (tie.spec
+    start-requires
     score-sentences-requires
     enum-known-scored
     full-sheet-requires
