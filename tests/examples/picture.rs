@@ -2,6 +2,7 @@
 //!
 //! `cargo run --release --offline -p tests --example picture > docs/double-array.svg`
 
+use ::tests::drawing::{Drawing, STYLE};
 use ::tests::lists::{sample, table};
 use ::tests::reference::list::Row;
 
@@ -19,39 +20,26 @@ fn picture() -> String {
     let array = Array::build(sample());
     let walk = array.walk(&LOOKED_UP);
     let title = format!("The sample's double array, and the lookup of {}", spaced(&LOOKED_UP));
-    let mut drawing = Drawing(format!(
-        "<svg xmlns=\"http://www.w3.org/2000/svg\" viewBox=\"0 0 {WIDTH} {HEIGHT}\" role=\"img\">\n<title>{title}</title>\n{STYLE}\n\
-         <rect class=\"panel\" x=\"1\" y=\"1\" width=\"{}\" height=\"{}\" rx=\"12\"/>\n",
-        WIDTH - 2,
-        HEIGHT - 2
-    ));
-    drawing.text("title", 28, 40, &title);
+    let mut drawing = Drawing::new(WIDTH, HEIGHT, &title, &format!("<style>\n{STYLE}{OWN_STYLE}</style>\n{TIP}"));
     draw_trie(&mut drawing, &array, &walk);
     draw_steps(&mut drawing, &array, &walk);
     draw_slots(&mut drawing, &array, &walk);
     draw_jumps(&mut drawing, &array, &walk);
     draw_legend(&mut drawing);
-    drawing.0 + "</svg>\n"
+    drawing.finish()
 }
 
-const STYLE: &str = "<style>
-  text { font-family: Helvetica, Arial, sans-serif; font-size: 13px; fill: #1f2933 }
-  .panel { fill: #fcfcfa; stroke: #c5ccd3 }
-  .title { font-size: 19px; font-weight: bold }
-  .small { font-size: 11px; fill: #52606d }
-  .number { font-family: Menlo, Consolas, 'DejaVu Sans Mono', monospace; font-size: 10.5px }
-  .middle { text-anchor: middle }
-  .end { text-anchor: end }
-  .word { font-weight: bold }
-  .on-line { paint-order: stroke; stroke: #fcfcfa; stroke-width: 5px; text-anchor: middle }
+const OWN_STYLE: &str = "  .on-line { paint-order: stroke; stroke: #fcfcfa; stroke-width: 5px; text-anchor: middle }
   .walked { fill: #b91c1c; font-weight: bold }
   .node { fill: #dbeafe; stroke: #3b6ea5 }
   .marker { fill: #fdf0d0; stroke: #a87b24 }
   .edge { fill: none; stroke: #7b8794; stroke-width: 1.3 }
   .step { fill: none; stroke: #b91c1c; stroke-width: 2.2 }
   .tip { fill: #b91c1c }
-</style>
-<defs><marker id=\"tip\" viewBox=\"0 0 8 8\" refX=\"7\" refY=\"4\" markerWidth=\"5\" markerHeight=\"5\" orient=\"auto\"><path class=\"tip\" d=\"M0 0 L8 4 L0 8 Z\"/></marker></defs>";
+";
+
+/// The end of an arrow.
+const TIP: &str = "<defs><marker id=\"tip\" viewBox=\"0 0 8 8\" refX=\"7\" refY=\"4\" markerWidth=\"5\" markerHeight=\"5\" orient=\"auto\"><path class=\"tip\" d=\"M0 0 L8 4 L0 8 Z\"/></marker></defs>";
 
 /// A list and the double array that `backoff::build` leaves, in as few slots as it accepts.
 struct Array {
@@ -118,22 +106,9 @@ impl Array {
     }
 }
 
-/// An SVG text that grows.
-struct Drawing(String);
-
-impl Drawing {
-    fn text(&mut self, class: &str, x: usize, y: usize, text: &str) {
-        self.0 += &format!("<text class=\"{class}\" x=\"{x}\" y=\"{y}\">{text}</text>\n");
-    }
-
-    fn rectangle(&mut self, class: &str, x: usize, y: usize, width: usize, height: usize) {
-        self.0 += &format!("<rect class=\"{class}\" x=\"{x}\" y=\"{y}\" width=\"{width}\" height=\"{height}\"/>\n");
-    }
-
-    fn path(&mut self, class: &str, path: &str) {
-        let tip = if class == "step" { " marker-end=\"url(#tip)\"" } else { "" };
-        self.0 += &format!("<path class=\"{class}\" d=\"{path}\"{tip}/>\n");
-    }
+/// A step of the walk.
+fn arrow(drawing: &mut Drawing, path: &str) {
+    drawing.add(&format!("<path class=\"step\" d=\"{path}\" marker-end=\"url(#tip)\"/>"));
 }
 
 /// The trie: a circle with its slot for each node, its word beside the line that leads to it.
@@ -144,7 +119,12 @@ fn draw_trie(drawing: &mut Drawing, array: &Array, walk: &[usize]) {
         let (slot, parent) = (node as usize, array.check[node as usize] as usize);
         let ((x, y), (from_x, from_y)) = (places[slot], places[parent]);
         let walked = walk.contains(&slot);
-        drawing.path(if walked { "step" } else { "edge" }, &format!("M{from_x} {} L{x} {}", from_y + 15, y - 17));
+        let path = format!("M{from_x} {} L{x} {}", from_y + 15, y - 17);
+        if walked {
+            arrow(drawing, &path);
+        } else {
+            drawing.path("edge", &path);
+        }
         let class = if walked { "word on-line walked" } else { "word on-line" };
         drawing.text(class, (x + from_x) / 2, (y + from_y) / 2 + 3, &row.words[0].to_string());
     }
@@ -152,7 +132,7 @@ fn draw_trie(drawing: &mut Drawing, array: &Array, walk: &[usize]) {
         if let Held::Node(_) = array.held(slot) {
             let (x, y) = places[slot];
             let walked = if walk.contains(&slot) { " style=\"stroke:#b91c1c;stroke-width:2.2\"" } else { "" };
-            drawing.0 += &format!("<circle class=\"node\" cx=\"{x}\" cy=\"{y}\" r=\"15\"{walked}/>\n");
+            drawing.add(&format!("<circle class=\"node\" cx=\"{x}\" cy=\"{y}\" r=\"15\"{walked}/>"));
             drawing.text("number middle", x, y + 4, &slot.to_string());
         }
     }
@@ -247,13 +227,13 @@ fn draw_jumps(drawing: &mut Drawing, array: &Array, walk: &[usize]) {
     for (step, word) in walk.windows(2).zip(LOOKED_UP.iter().rev()) {
         let (from, to) = (middle(step[0]), middle(step[1]));
         let top = edge - 30 - from.abs_diff(to) / 8;
-        drawing.path("step", &format!("M{from} {edge} C{from} {top} {to} {top} {to} {edge}"));
+        arrow(drawing, &format!("M{from} {edge} C{from} {top} {to} {top} {to} {edge}"));
         drawing.text("walked middle", (from + to) / 2, edge - 3 * (edge - top) / 4 - 6, &format!("word {word}"));
     }
     let node = walk[walk.len() - 1];
     let (from, to) = (middle(node), middle(array.base[node] as usize));
     let (edge, low) = (TOP + 2 * CELL + 41, TOP + 2 * CELL + 78);
-    drawing.path("step", &format!("M{from} {edge} C{from} {low} {to} {low} {to} {edge}"));
+    arrow(drawing, &format!("M{from} {edge} C{from} {low} {to} {low} {to} {edge}"));
     drawing.text("walked middle", (from + to) / 2, low + 6, "marker");
 }
 
