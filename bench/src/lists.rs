@@ -10,29 +10,60 @@ use tests::reference::list::Row;
 
 pub const SHORT: usize = 1_000;
 
-/// Two lists of one kind, of 1,000 and of 65,535 rows.
+/// The rows of the lists of each kind.
+pub const SIZES: [usize; 4] = [SHORT, 4_000, 16_000, MOST_ROWS];
+
+/// Lists of one kind, one for each of `SIZES`.
 pub struct Kind {
     pub name: &'static str,
-    short: fn(&mut Random) -> Vec<Row>,
-    long: fn(&mut Random) -> Vec<Row>,
+    /// What is particular to it.
+    pub note: &'static str,
+    /// Draws a list of so many words and rows.
+    draw: fn(&mut Random, i32, usize) -> Vec<Row>,
+    words: [i32; SIZES.len()],
 }
 
 /// Words like a text's, words all equally frequent, and the hardest case for placing: many nodes with many children.
 pub const KINDS: [Kind; 3] = [
-    Kind { name: "natural", short: |random| natural(random, 5, 1_000, SHORT), long: |random| natural(random, 5, 30_000, MOST_ROWS) },
-    Kind { name: "uniform", short: |random| uniform(random, 5, 300, SHORT), long: |random| uniform(random, 5, 20_000, MOST_ROWS) },
-    Kind { name: "order 2", short: |random| uniform(random, 2, 50, SHORT), long: |random| uniform(random, 2, 3_000, MOST_ROWS) },
+    Kind {
+        name: "natural",
+        note: "order 5, words as frequent as a text's",
+        draw: |random, words, rows| natural(random, 5, words, rows),
+        words: [1_000, 3_000, 10_000, 30_000],
+    },
+    Kind {
+        name: "uniform",
+        note: "order 5, words equally frequent",
+        draw: |random, words, rows| uniform(random, 5, words, rows),
+        words: [300, 1_200, 5_000, 20_000],
+    },
+    Kind {
+        name: "order 2",
+        note: "few words, many children to a node",
+        draw: |random, words, rows| uniform(random, 2, words, rows),
+        words: [50, 200, 750, 3_000],
+    },
 ];
 
 impl Kind {
-    /// In an array of as many slots as the list needs.
-    pub fn short(&self) -> List {
-        List::new((self.short)(&mut Random::new(1)))
+    /// All lists, each in an array of as many slots as it needs.
+    pub fn lists(&self) -> [List; SIZES.len()] {
+        std::array::from_fn(|size| self.list(size))
     }
 
-    /// The same.
+    /// The list of 1,000 rows.
+    pub fn short(&self) -> List {
+        self.list(0)
+    }
+
+    /// The list of 65,535 rows.
     pub fn long(&self) -> List {
-        List::new((self.long)(&mut Random::new(2)))
+        self.list(SIZES.len() - 1)
+    }
+
+    fn list(&self, size: usize) -> List {
+        let seed = if SIZES[size] == SHORT { 1 } else { 2 };
+        List::new((self.draw)(&mut Random::new(seed), self.words[size], SIZES[size]))
     }
 }
 

@@ -91,14 +91,14 @@ fn start(list: &List) -> [Measured; 2] {
 
 /// What a scorer leaves behind.
 #[derive(PartialEq)]
-struct Scores {
-    points: Vec<i32>,
-    lengths: Vec<u8>,
-    total: i64,
+pub struct Scores {
+    pub points: Vec<i32>,
+    pub lengths: Vec<u8>,
+    pub total: i64,
 }
 
 impl Scores {
-    fn new(words: usize) -> Scores {
+    pub fn new(words: usize) -> Scores {
         Scores { points: vec![0; words], lengths: vec![0; words], total: 0 }
     }
 }

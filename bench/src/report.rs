@@ -101,7 +101,7 @@ fn print_seconds(kind: &str, slots: usize, rows: usize, measured: &Measured) {
 }
 
 /// A number below a thousand million with commas.
-fn thousands(number: usize) -> String {
+pub fn thousands(number: usize) -> String {
     match (number / 1_000_000, number / 1_000 % 1_000, number % 1_000) {
         (0, 0, ones) => ones.to_string(),
         (0, thousands, ones) => format!("{thousands},{ones:03}"),

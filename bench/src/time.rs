@@ -9,22 +9,32 @@ pub struct Compared {
     pub ratio: f64,
 }
 
-/// Times two calls in turns, for a second of processor time and at least five rounds. A short call is repeated until it takes a
-/// millisecond. Before each time comes a call that is not timed, so that none finds the cache as the other left it. The ratio is taken
-/// round by round, since the two calls of a round meet the same mood of the machine.
+/// Times two calls in turns, for a second of processor time.
 pub fn compare(ours: &mut dyn FnMut(), rust: &mut dyn FnMut()) -> Compared {
-    let repetitions = |call: &mut dyn FnMut()| 1 + (1e-3 / time(call, 1)) as usize;
-    let (ours_repeated, rust_repeated) = (repetitions(ours), repetitions(rust));
+    let rounds = in_turns(1, [ours, rust]);
+    let median_of = |part: fn(&[f64; 2]) -> f64| median(rounds.iter().map(part).collect());
+    Compared { ours: median_of(|round| round[0]), rust: median_of(|round| round[1]), ratio: median_of(|round| round[0] / round[1]) }
+}
+
+/// The seconds of each call in the round in which it was fastest: what other processes take from it is least there.
+pub fn fastest<const N: usize>(seconds: u64, calls: [&mut dyn FnMut(); N]) -> [f64; N] {
+    in_turns(seconds, calls).into_iter().reduce(|best, round| std::array::from_fn(|i| best[i].min(round[i]))).expect("a round")
+}
+
+/// Times calls in turns, for so many seconds of processor time and at least five rounds: the seconds of each call in each round. A short call
+/// is repeated until it takes a millisecond. Before each time comes a call that is not timed, so that none finds the cache as the other left
+/// it. What is to be compared is compared round by round, since the calls of a round meet the same mood of the machine.
+fn in_turns<const N: usize>(seconds: u64, calls: [&mut dyn FnMut(); N]) -> Vec<[f64; N]> {
+    let mut repeated = calls.map(|call| (1 + (1e-3 / time(call, 1)) as usize, call));
     let mut rounds = Vec::new();
     let begin = processor_time();
-    while rounds.len() < 5 || processor_time() - begin < Duration::from_secs(1) {
-        ours();
-        let first = time(ours, ours_repeated);
-        rust();
-        rounds.push((first, time(rust, rust_repeated)));
+    while rounds.len() < 5 || processor_time() - begin < Duration::from_secs(seconds) {
+        rounds.push(repeated.each_mut().map(|(repetitions, call)| {
+            call();
+            time(call, *repetitions)
+        }));
     }
-    let median_of = |part: fn(&(f64, f64)) -> f64| median(rounds.iter().map(part).collect());
-    Compared { ours: median_of(|round| round.0), rust: median_of(|round| round.1), ratio: median_of(|round| round.0 / round.1) }
+    rounds
 }
 
 /// The seconds of one call, and what it answers.
