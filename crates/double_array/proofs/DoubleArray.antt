@@ -177,6 +177,18 @@ module _ (base check : List ℤ) (s w : ℕ) (p b : ℤ) (e f : Bool) (sound : m
           let k : childSlot (natAbs d) w ≡ natAbs d = omega arith in
           rw (k, lt-ltb (natAbs d) (length check) (m .inside), marker-unowned)
 
+-- likewise of the root, whose marker is in slot 1
+pub root-owned : (check : List ℤ) (w : ℕ) → getD check 1 freeCheck ≡ negsuc 0 → w ≤ wordLimit → rootChild check w ≡ ownedBy check 0 (childSlot 1 w)
+unfolding isWord
+root-owned check w m small = go (leb 1 w) refl
+  where
+    go : (t : Bool) → leb 1 w ≡ t → cond ((t && leb w wordLimit) && (ltb (childSlot 1 w) (length check) && eqZ (getD check (childSlot 1 w) freeCheck) (pos 0))) (At (childSlot 1 w)) Nothing ≡ ownedBy check 0 (childSlot 1 w)
+    go true h = rw (le-leb w wordLimit small)
+    go false h =
+        let z = leb-false 1 w h in
+        let k : childSlot 1 w ≡ 1 = omega arith in
+        rw (k, m) (elim (ltb 1 (length check)) as (λ b. Nothing ≡ cond (b && false) (At 1) Nothing) [ true ↦ refl | false ↦ refl ])
+
 -- a slot has one CHECK, so it is the child of one node for one word
 pub child-unique : (base check : List ℤ) (s w r v t : ℕ) → childAt base check s w ≡ At t → childAt base check r v ≡ At t → (s ≡ r) × (w ≡ v)
 child-unique base check s w r v t h k =

@@ -3,10 +3,11 @@ ghost use mathlib.Core.Path.{_≡_};
 ghost use mathlib.Core.Bool.{true};
 ghost use mathlib.Core.List.{reverse};
 ghost use Prim.Native.Nat.{ℕ, _≤_, _<_};
-ghost use lib.ListN.{length, replicate};
+ghost use lib.ListN.{length, getD, replicate};
+ghost use lib.IntN.{negsuc};
 ghost use Rattle.backoff.specs.Limits.{orderLimit, slotLimit};
 ghost use Rattle.backoff.specs.Model.{inProbability, inBackoff};
-ghost use Rattle.double_array.specs.DoubleArray.{headCheck, markerCheck, markerBase, markerOf, markerAt, ownedBy, childAt, rootChild, lookFrom, sizesOk, orderOk, headOk, isArray, orderIn};
+ghost use Rattle.double_array.specs.DoubleArray.{freeCheck, headCheck, markerCheck, markerBase, markerOf, markerAt, ownedBy, childAt, rootChild, lookFrom, sizesOk, orderOk, headOk, isArray, orderIn};
 ghost use Rattle.double_array.specs.Lookup.{lookupOf, lookupOutcome, numberOf, placeOf, foundOf, pOf, bOf, leftOf, LookupMeans};
 
 // CHECK of a free slot; its BASE is 0.
@@ -134,11 +135,12 @@ pub fn find_child(base: &[i32], check: &[i32], s: usize, w: u32) -> Child
     owned_by(check, s, d as usize + w as usize)
 }
 
-// The root's child for word w, without a look at BASE[0], which is 1 in every array.
+// The root's child for word w, without a look at BASE[0], which is 1 in every array. There is none for 0, since slot 1 is the root's own marker.
 pub fn root_child(check: &[i32], w: u32) -> Child
+    requires { ⌜ getD (now check) 1 freeCheck ≡ negsuc 0 ⌝ }
     ensures { λ r. ⌜ r ≡ rootChild (now (check .entry)) w ⌝ }
 {
-    if !((1 <= w) & (w <= backoff::WORD_LIMIT as u32)) {
+    if w > backoff::WORD_LIMIT as u32 {
         return Child::Nothing;
     }
     owned_by(check, 0, 1 + w as usize)

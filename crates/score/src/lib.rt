@@ -7,7 +7,7 @@ ghost use mathlib.Core.List.{[], _∷_, _++_, map};
 ghost use Prim.Native.Nat.{ℕ, _+_, _%_, _≤_, _<_};
 ghost use lib.Dec.{eqb};
 ghost use lib.ListN.{length, take, getD, set, replicate};
-ghost use lib.IntN.{pos, natAbs};
+ghost use lib.IntN.{pos, negsuc, natAbs};
 ghost use lib.Signed.{_≤ℤ_};
 ghost use Rattle.integer.specs.Integer.{between, sum};
 ghost use Rattle.backoff.specs.Limits.{unknownWord, startWord, endWord, wordLimit, slotLimit, runLimit};
@@ -19,7 +19,7 @@ ghost use Rattle.backoff.specs.State.{empty as emptyState};
 ghost use Rattle.backoff.specs.Run.{Run, written, sizeRefusal};
 ghost use Rattle.backoff.specs.NineNumbers.{all, padded, nine, nineZeros, stateIn, stateOk};
 ghost use Rattle.backoff.specs.Store.{isBroken, wordStep, runOver, ranAnswer, runOutcome, refusedStart, startStep, startOutcome};
-ghost use Rattle.double_array.specs.DoubleArray.{markerAt, lookMarker, childAt, rootChild, isArray, orderIn, storeIn, opened};
+ghost use Rattle.double_array.specs.DoubleArray.{freeCheck, markerAt, lookMarker, childAt, rootChild, isArray, orderIn, storeIn, opened};
 ghost use Rattle.score.specs.Answers.{numbersOf, kindByte, byteOf, answerOf, startedOf, summedOf, summed};
 ghost use Rattle.score.specs.Meaning.{StartMeans, RunMeans};
 ghost use Rattle.score.specs.Inner.{partOk, firstOf, packedAs, heldIn, Carries, longestLive, WalkedOver, ScoredAs, SteppedTo, earlyRefusal};
@@ -161,6 +161,7 @@ pub fn state_ok(state: State, order: usize) -> bool
 
 // The root's child for the word or, where there is none, for word 1 in its place.
 fn first_node(check: &[i32], w: u32) -> First
+    requires { ⌜ getD (now check) 1 freeCheck ≡ negsuc 0 ⌝ }
     ensures { λ r. ⌜ r ≡ firstOf w (rootChild (now (check .entry)) w) (rootChild (now (check .entry)) unknownWord) ⌝ }
 {
     if let Child::At(slot) = double_array::root_child(check, w) {

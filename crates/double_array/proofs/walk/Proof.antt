@@ -20,7 +20,7 @@ use Rattle.double_array.specs.declared.Child.{Child}
 use Rattle.double_array.specs.declared.Child.the-variants.{At, Nothing}
 use Rattle.double_array.specs.declared.Marker.{Marker}
 use Rattle.double_array.specs.declared.Marker.the-variants.{Sound, Broken}
-use Rattle.double_array.proofs.DoubleArray.{Sizes, opened-sizes, root-sound, root-child, child-inside, look-here, look-down, look-broken}
+use Rattle.double_array.proofs.DoubleArray.{Sizes, opened-sizes, opened-head, root-sound, root-child, child-inside, look-here, look-down, look-broken}
 use Rattle.double_array.proofs.LookupMeaning.{reverse-take}
 use Rattle.double_array.proofs.walk.Statement.{statement}
 use Rattle.double_array.proofs.walk.Tie as tie
@@ -67,7 +67,7 @@ shared-slice-read-root-child : tie.Need-shared-slice-read-root-child Inv-loop μ
 shared-slice-read-root-child c = search needs
 
 root-child-requires : tie.Need-root-child-requires Inv-loop μ-loop
-root-child-requires c κs = search needs
+root-child-requires c κs = let s = c .before .before in opened-head (s .args .base .now) (s .args .check .now) (s .pre .0) .root-check
 
 enum-known-first : tie.Need-enum-known-first Inv-loop μ-loop
 enum-known-first c = search needs

@@ -12,7 +12,7 @@ use mir.Facts.{toZ-ofZ}
 use Rattle.backoff.specs.Limits.{unknownWord}
 use Rattle.double_array.specs.DoubleArray.{childAt, rootChild, orderIn, storeIn}
 use Rattle.double_array.specs.declared.Child.the-variants.{At}
-use Rattle.double_array.proofs.DoubleArray.{opened-sizes, child-inside}
+use Rattle.double_array.proofs.DoubleArray.{opened-sizes, opened-head, child-inside}
 use Rattle.score.specs.declared.First.{First}
 use Rattle.score.specs.declared.First.the-variants.{From}
 use Rattle.score.specs.declared.Kept.{Kept}
@@ -24,7 +24,7 @@ use Rattle.score.proofs.step.Statement.{statement}
 use Rattle.score.proofs.step.Tie as tie
 
 first-node-requires : tie.Need-first-node-requires
-first-node-requires c κs = search needs
+first-node-requires c κs = opened-head (c .args .base .now) (c .args .check .now) (c .pre .0) .root-check
 
 enum-known-slot : tie.Need-enum-known-slot
 enum-known-slot c = search needs
