@@ -85,7 +85,7 @@ struct NextRow {
 
 // The first row whose key is not below k: by binary search, or from `near` on where that is a row behind the first.
 fn first_from(table: &[i32], k: Key, near: usize) -> usize
-    requires { ⌜ Good (now table) (rowsOf (now table)) × (0 < rowsOf (now table)) ⌝ }
+    requires { ⌜ Good (now table) (rowsOf (now table)) ⌝ }
     ensures { λ r. ⌜ Bracket (now (table .entry)) (keyOf (k .high) (k .low)) r r ⌝ }
 {
     if near == 0 {
@@ -98,7 +98,7 @@ fn first_from(table: &[i32], k: Key, near: usize) -> usize
 // The first row of k words or more whose last m words, if it has k, are not below the floor. From floor to floor it only moves on, so `near` has
 // for each k where it stood last, 0 where it is not known: hints, on which no answer depends.
 fn bound_of(table: &[i32], m: usize, k: usize, floor: Key, near: &mut [usize; 6]) -> usize
-    requires { ⌜ Good (now table) (rowsOf (now table)) × (0 < rowsOf (now table)) × (m ≤ k) × (k ≤ orderLimit) × (keyOf (floor .high) (floor .low) ≤ power m) ⌝ }
+    requires { ⌜ Good (now table) (rowsOf (now table)) × (m ≤ k) × (k ≤ orderLimit) × (keyOf (floor .high) (floor .low) ≤ power m) ⌝ }
     ensures { λ r. ⌜ Bracket (now (table .entry)) (zeros (k - m) (keyOf (floor .high) (floor .low))) r r ⌝ }
 {
     let bound = with_zeros(floor, k - m);
@@ -116,7 +116,7 @@ fn better(
     best: NextRow,
     near: &mut [usize; 6],
 ) -> NextRow
-    requires { ⌜ Good (now table) (rowsOf (now table)) × (0 < m) × (m ≤ k) × (k ≤ orderLimit) × (power (m - 1) ≤ keyOf (floor .high) (floor .low)) × (keyOf (floor .high) (floor .low) ≤ power m) × Best (now table) m (keyOf (floor .high) (floor .low)) k (best .row) (best .key .high) (best .key .low) × (0 < rowsOf (now table)) ⌝ }
+    requires { ⌜ Good (now table) (rowsOf (now table)) × (0 < m) × (m ≤ k) × (k ≤ orderLimit) × (power (m - 1) ≤ keyOf (floor .high) (floor .low)) × (keyOf (floor .high) (floor .low) ≤ power m) × Best (now table) m (keyOf (floor .high) (floor .low)) k (best .row) (best .key .high) (best .key .low) ⌝ }
     ensures { λ r. ⌜ Best (now (table .entry)) m (keyOf (floor .high) (floor .low)) (suc k) (r .row) (r .key .high) (r .key .low) ⌝ }
 {
     let rows = table.len() / 8;
@@ -138,7 +138,7 @@ fn better(
 
 // Of the last m words of all rows of m to n words, the least whose key is not below the floor.
 fn next_row(table: &[i32], m: usize, n: usize, floor: Key, near: &mut [usize; 6]) -> NextRow
-    requires { ⌜ Good (now table) (rowsOf (now table)) × (0 < m) × (m ≤ n) × (n ≤ orderLimit) × (power (m - 1) ≤ keyOf (floor .high) (floor .low)) × (keyOf (floor .high) (floor .low) ≤ power m) × (0 < rowsOf (now table)) ⌝ }
+    requires { ⌜ Good (now table) (rowsOf (now table)) × (0 < m) × (m ≤ n) × (n ≤ orderLimit) × (power (m - 1) ≤ keyOf (floor .high) (floor .low)) × (keyOf (floor .high) (floor .low) ≤ power m) ⌝ }
     ensures { λ r. ⌜ Best (now (table .entry)) m (keyOf (floor .high) (floor .low)) (suc n) (r .row) (r .key .high) (r .key .low) ⌝ }
 {
     let rows = table.len() / 8;

@@ -8,7 +8,7 @@ sub-with-zeros : tie.Need-sub-with-zeros
 sub-with-zeros c = search needs
 
 with-zeros-requires : tie.Need-with-zeros-requires
-with-zeros-requires c κs = let p = c .pre in bound-room _ _ _ (p .2) (p .3) (p .4)
+with-zeros-requires c κs = let p = c .pre in bound-room _ _ _ (p .1) (p .2) (p .3)
 
 mul-first-from : tie.Need-mul-first-from
 mul-first-from c = search needs

@@ -40,7 +40,7 @@ next-row-requires : tie.Need-next-row-requires Inv-loop μ-loop
 next-row-requires c κs =
     let v = c .before .before .loop .inv in
     let a = filling-asks _ (v .checked) _ _ _ _ _ (v .filling) (c .before .loop-test .taken) in
-    (checked-good true _ (v .checked), a .0, a .1, a .2, a .3, a .4, checked-size true _ (v .checked) .0)
+    (checked-good true _ (v .checked), a .0, a .1, a .2, a .3, a .4)
 
 -- where a row was found
 abbrev start : tie.After-next-row Inv-loop μ-loop → tie.Start Inv-loop μ-loop

@@ -34,7 +34,7 @@ better-requires : tie.Need-better-requires Inv-loop μ-loop
 better-requires c κs =
     let v = c .before .before .loop .inv in
     let p = c .before .before .before .pre in
-    (p .0, p .1, v .from, omega arith, p .4, p .5, v .best, p .6)
+    (p .0, p .1, v .from, omega arith, p .4, p .5, v .best)
 
 add-k : tie.Need-add-k Inv-loop μ-loop
 add-k c = omega arith

@@ -11,7 +11,7 @@ use Rattle.backoff.specs.declared.Verdict.the-variants.{Accepted}
 use Rattle.list.specs.Table.{rowsOf, words}
 use Rattle.list.specs.Check.{verdictFor}
 use Rattle.list.proofs.Table.{row-in}
-use Rattle.list.proofs.Check.{checked-good, checked-size}
+use Rattle.list.proofs.Check.{checked-good}
 use Rattle.filling.specs.Filled.{filledRow, filledTable}
 use Rattle.filling.specs.Next.{lastWords}
 use Rattle.filling.proofs.Next.{filling-asks, filling-row, filling-high, filling-on, filling-longer, zeros-room}
@@ -40,7 +40,7 @@ next-row-requires : tie.Need-next-row-requires Inv-loop μ-loop
 next-row-requires c κs =
     let v = c .before .before .loop .inv in
     let a = filling-asks _ (v .checked) _ _ _ _ _ (v .writing .filling) (c .before .loop-test .taken) in
-    (checked-good true _ (v .checked), a .0, a .1, a .2, a .3, a .4, checked-size true _ (v .checked) .0)
+    (checked-good true _ (v .checked), a .0, a .1, a .2, a .3, a .4)
 
 -- where a row was found
 inside : (c : tie.Then1 Inv-loop μ-loop) → c .before .before .next-row .result .row < rowsOf (c .before .before .before .before .before .before .args .table .now)
