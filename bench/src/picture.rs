@@ -37,7 +37,7 @@ const DRAWN: [(&str, &str); 4] =
 /// The picture of a page; nothing where the page lacks a figure.
 pub fn draw(page: &str) -> Option<String> {
     let (words, growth) = (Table::read(page, SCORER)?, Table::read(page, CALL)?);
-    let description = format!("Million words a second: {}. Milliseconds: {}.", told(&words), told(&growth));
+    let description = format!("Million words a second: {}. Milliseconds for so many rows: {}.", told(&words), told(&growth));
     let head = format!("<desc>{description}</desc>\n<style>\n{STYLE}{OWN_STYLE}</style>");
     let mut drawing = Drawing::new(WIDTH, HEIGHT, TITLE, &head);
     draw_words(&mut drawing, &words)?;
@@ -48,7 +48,7 @@ pub fn draw(page: &str) -> Option<String> {
 /// A table in words.
 fn told(table: &Table) -> String {
     let line = |(name, figures): &(String, Vec<f64>)| {
-        let figures: Vec<String> = table.columns.iter().zip(figures).map(|(column, figure)| format!("{column} {figure}")).collect();
+        let figures: Vec<String> = table.columns.iter().zip(figures).map(|(column, figure)| format!("{figure} for {column}")).collect();
         format!("{name}: {}", figures.join(", "))
     };
     table.lines.iter().map(line).collect::<Vec<_>>().join("; ")
