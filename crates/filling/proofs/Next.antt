@@ -8,9 +8,10 @@ use native.Mathlib.Omega.{arith}
 use lib.ListN.{length, take, drop, length-append, length-drop, take-append-drop}
 use lib.Dec.{ltb}
 use borrow.Author.Tests.{ltb-true, ltb-false}
-use lib.Seq.{drop-at, drop-drop, take-nil}
+use lib.Seq.{drop-at, drop-drop}
 use lib.IntN.{ℤ}
 use Rattle.integer.proofs.Ranges.{lt-or-ge}
+use Rattle.integer.proofs.Parts.{drop-take}
 use Rattle.backoff.specs.Limits.{orderLimit}
 use Rattle.backoff.specs.Words.{areWords, radix, key}
 use Rattle.backoff.specs.declared.Verdict.the-variants.{Accepted}
@@ -129,12 +130,6 @@ short-enough m [] e l = omega arith
 short-enough m (w ∷ ws) e l = ⊎-elim (λ p. p) (λ (p : m ≤ length ws). absurd (let a = key-above w ws e in let b = power-le m (length ws) p in omega arith)) (lt-or-ge (length ws) m)
 
 -- ---- the last words of a row in the table
-
-pub drop-take : {A : Type 0} (j n : ℕ) (l : List A) → drop j (take n l) ≡ take (n - j) (drop j l)
-drop-take zero n l = let e : n - 0 ≡ n = omega arith in rw e refl
-drop-take (suc j) zero l = let e : 0 - suc j ≡ 0 = omega arith in rw e refl
-drop-take (suc j) (suc n) [] = rw (take-nil (suc n - suc j))
-drop-take (suc j) (suc n) (x ∷ l) = let e : suc n - suc j ≡ n - j = omega arith in rw e (drop-take j n l)
 
 pub drop-wordsOf : (j : ℕ) (zs : List ℤ) → drop j (wordsOf zs) ≡ wordsOf (drop j zs)
 unfolding wordsOf

@@ -20,6 +20,7 @@ use Rattle.backoff.proofs.Rule.{take-map}
 use Rattle.backoff.specs.Model.{inProbability, inBackoff}
 use Rattle.backoff.specs.declared.Verdict.the-variants.{Accepted}
 use Rattle.integer.specs.Integer.{between}
+use Rattle.integer.proofs.Parts.{drop-take}
 use Rattle.list.specs.Table.{rowsOf, probabilityAt, backoffAt, orderOf, wordOf, wordsOf}
 use Rattle.list.specs.Search.{findIn, isAt}
 use Rattle.list.specs.Check.{verdictFor}
@@ -31,7 +32,7 @@ use Rattle.list.proofs.Check.{checked-row, backoff-in}
 use Rattle.filling.specs.Filled.{filledBackoff}
 use Rattle.filling.specs.Points.{wordsFrom, pointsBy, placePoints, rowProbability, IsRow}
 use Rattle.filling.proofs.WithoutFirstWords.{areWords-behind}
-use Rattle.filling.proofs.Next.{drop-take, drop-wordsOf}
+use Rattle.filling.proofs.Next.{drop-wordsOf}
 
 -- ---- one row
 

@@ -10,7 +10,8 @@ use borrow.Author.Tests.{eqb-true, ne-eqb}
 use lib.Dec.{eqb, leb}
 use lib.IntN.{ℤ}
 use lib.ListN.{length, take, drop, length-take}
-use lib.Seq.{take-take, take-nil, length-take-le}
+use lib.Seq.{take-take, length-take-le}
+use Rattle.integer.proofs.Parts.{drop-take}
 use Rattle.bytes.specs.Bytes.{indexOf, indexAfter}
 use Rattle.backoff.specs.Refusal.{textLine}
 use Rattle.backoff.specs.Model.{Model}
@@ -86,12 +87,6 @@ line-513 c text = go (eqb c 10) (linesOf text)
     go false [] = refl
     go false (ended l ∷ ls) = refl
     go false (unended l ∷ ls) = refl
-
-drop-take : {A : Type 0} (j n : ℕ) (l : List A) → drop j (take n l) ≡ take (n - j) (drop j l)
-drop-take zero n l = let e : n - 0 ≡ n = omega arith in rw e refl
-drop-take (suc j) zero l = let e : 0 - suc j ≡ 0 = omega arith in rw e refl
-drop-take (suc j) (suc n) [] = sym (take-nil (suc n - suc j))
-drop-take (suc j) (suc n) (x ∷ l) = let e : suc n - suc j ≡ n - j = omega arith in rw e (drop-take j n l)
 
 -- the lines from number i + 1 on, where j more may follow: the first 65 × j + 1 characters decide
 Decided : ℕ → Type 0
