@@ -1,8 +1,15 @@
 // Links the archive of the proved library: libbackoff.a or libgrader.a, in the folder that BACKOFF_LIB_DIR names, else where `rt staticlib grader` writes it.
+// Takes the sentences for the refusals from the header.
 use std::env::var_os;
+use std::fs;
 use std::path::PathBuf;
 
 fn main() {
+    link_archive();
+    write_reasons();
+}
+
+fn link_archive() {
     println!("cargo:rerun-if-env-changed=BACKOFF_LIB_DIR");
     let folder = var_os("BACKOFF_LIB_DIR").map_or_else(own_folder, PathBuf::from);
     let name = ["backoff", "grader"].into_iter().find(|name| folder.join(format!("lib{name}.a")).is_file());
@@ -17,7 +24,21 @@ fn main() {
     println!("cargo:rustc-link-lib=static={name}");
 }
 
-// Asked when the script runs, so that a copy of the repository links its own archive.
+// The lines between the braces of `backoff_reason` are string literals, in Rust as in C.
+fn write_reasons() {
+    let header = repository().join("include/backoff.h");
+    println!("cargo:rerun-if-changed={}", header.display());
+    let text = fs::read_to_string(&header).unwrap_or_else(|error| panic!("{}: {error}", header.display()));
+    let reasons = text.split_once("reasons[] = {").and_then(|(_, rest)| rest.split_once("};")).expect("the header has backoff_reason").0;
+    let out = PathBuf::from(var_os("OUT_DIR").expect("cargo sets OUT_DIR"));
+    fs::write(out.join("reasons.rs"), format!("&[{reasons}]")).expect("OUT_DIR can be written");
+}
+
 fn own_folder() -> PathBuf {
-    PathBuf::from(var_os("CARGO_MANIFEST_DIR").expect("cargo sets CARGO_MANIFEST_DIR")).join("../target/staticlib")
+    repository().join("target/staticlib")
+}
+
+// Asked when the script runs, so that a copy of the repository has its own archive and header.
+fn repository() -> PathBuf {
+    PathBuf::from(var_os("CARGO_MANIFEST_DIR").expect("cargo sets CARGO_MANIFEST_DIR")).join("..")
 }

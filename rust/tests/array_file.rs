@@ -271,8 +271,8 @@ fn damaged_arrays() {
             refusals[number as usize] += 1;
             let told = match number {
                 0 => continue,
-                11 => "refused by 11: the first two slots of the array are not as a build writes them",
-                12 => "refused by 12: the array is broken: what it holds is not what a build writes",
+                11 => "refused by 11: base and check do not begin like an array of this version.",
+                12 => "refused by 12: The array is damaged: a node has no p and b in range, or the rows are not an accepted list.",
                 _ => "the head says ",
             };
             assert!(refused(&closed(&bytes)).starts_with(told), "seed {seed}, slot {slot}, {number}");

@@ -87,7 +87,7 @@ fn random_lists() {
 /// 17: the line, its text, what is wrong with it and what mends it.
 #[test]
 fn lines_not_in_form() {
-    let not_in_form = "refused by 17: a line of the ARPA text is not in form, or missing at its end\n  ";
+    let not_in_form = "refused by 17: A line of the ARPA text is not in form, or a line is missing at its end.\n  ";
     let cases = [
         (sample_with("-0.6\tfour", "-0.6 four"), "line 10: -0.6 four\\t-0.2\n  wrong: `-0.6 four` is no logarithm in form"),
         (sample_with("-0.6\tfour", "-6e-1\tfour"), "line 10: -6e-1\\tfour\\t-0.2\n  wrong: `-6e-1` is no logarithm in form"),
@@ -147,13 +147,13 @@ fn lines_that_may_come() {
 /// 18 and 19 name the word and both counts.
 #[test]
 fn words_and_counts() {
-    let unlisted = "refused by 18: a word has no line among the rows of one word
+    let unlisted = "refused by 18: A word of the ARPA text has no line in the section of one word.
   line 16: -0.15\\tfive six
   wrong: no line of the section `\\1-grams:` has `six`
   to mend it: add such a line and count it, or take this row away
 ";
     assert_eq!(refused(sample_with("five </s>", "five six")), unlisted);
-    let miscounted = "refused by 19: a section has not as many rows as its count says
+    let miscounted = "refused by 19: A section of the ARPA text has more or fewer lines than its count says.
   line 18: \\3-grams:
   wrong: the number of rows before it is 3, but `ngram 2=4` stands above
   to mend it: write `ngram 2=3`, if no row is lost
@@ -166,17 +166,17 @@ fn words_and_counts() {
 /// 5, 6 and 7 name the row in list order, and its line in the file.
 #[test]
 fn rows_out_of_range_or_twice() {
-    let probability = "refused by 5: the log-probability is above 0 or below -99
+    let probability = "refused by 5: The row's log-probability is not between -990,000 and 0.
   row 4 in list order, line 10: 0.6\\tfour\\t-0.2
   to mend it: give the row a log-probability from -99 to 0
 ";
     assert_eq!(refused(sample_with("-0.6\tfour", "0.6\tfour")), probability);
-    let backoff = "refused by 6: the back-off is further from 0 than 99, or a row of the order has one
+    let backoff = "refused by 6: The row's back-off is not between -990,000 and 990,000, or the row is of the longest and has one.
   row 9 in list order, line 19: -0.1\\t<s> four five\\t-0.2
   to mend it: give the row a back-off from -99 to 99, and none where no row is longer
 ";
     assert_eq!(refused(sample_with("<s> four five", "<s> four five\t-0.2")), backoff);
-    let twice = "refused by 7: the row does not come after the row before it
+    let twice = "refused by 7: The row does not come after the row before it in list order.
   row 8 in list order, line 16: -0.15\\tfour five
   wrong: line 14 has the same words
   to mend it: take one of the two away
@@ -209,7 +209,7 @@ fn rows_in_any_order() {
 fn missing_rows() {
     let told = |missing: &str, mend: &str| {
         format!(
-            "refused by 8: a shorter row that this row needs is missing
+            "refused by 8: The row without this row's first word, or the one without its last word, is missing.
   row 8 in list order, line 18: -0.1\\t<s> four five
   wrong: there is no row `{missing}`
   to mend it: {mend}
@@ -227,7 +227,7 @@ fn missing_rows() {
 /// 9 says which lines are to be added.
 #[test]
 fn missing_marks() {
-    let told = "refused by 9: <unk>, <s> or </s> has no row of one word
+    let told = "refused by 9: Word 1, 2 or 3 has no row of one word.
   to mend it: add `-99<tab><unk>` to the section `\\1-grams:` and count it
 ";
     assert_eq!(refused(sample_with("<unk>", "<UNK>")), told);
@@ -247,13 +247,14 @@ fn too_many_rows() {
     let folder = Folder::new();
     folder.put("m", one_word_rows(65_535));
     assert!(folder.run("check m").text().contains("rows             65,535\n"));
-    let reason = "refused by 1: the list has no rows, or more than 65,535\n  wrong: the text has";
+    let reason =
+        "refused by 1: The table is empty, its length is not a multiple of 8, or there are more than 65,535 rows.\n  wrong: the text has";
     let prune = "  to mend it: prune the model, or train one of a lower order\n";
     assert_eq!(refused(one_word_rows(65_536)), format!("{reason} 65536 rows\n{prune}"));
     assert_eq!(refused(one_word_rows(0)), format!("{reason} 0 rows\n"));
     let told = refused(one_word_rows(70_000));
     let line = "  line 65541: -1.0000\\tw65537\n  wrong: there are more rows than the 65,535 that a list may have\n";
-    assert_eq!(told, format!("refused by 15: there is no room for what is to be written\n{line}{prune}"));
+    assert_eq!(told, format!("refused by 15: A slice to be written is too short.\n{line}{prune}"));
 }
 
 /// 10 is final: the words before each of 36 words lie so that no two of their nodes fit into each other, and all of them need more slots than there may be.
@@ -266,7 +267,7 @@ fn too_many_slots() {
     let two = (4..40).flat_map(|last| apart.clone().map(move |first| Row { words: vec![first, last], p: -1, b: 0 }));
     let rows: Vec<Row> = one.chain(two).collect();
     let told = refused(Texted { rows, texts: numbered_texts(words) }.arpa());
-    let expected = "refused by 10: the array of the list needs more slots than there are
+    let expected = "refused by 10: The list needs more slots than base and check have.
   wrong: the list is accepted, but its array needs more than 1,048,576 slots, the most there may be
   to mend it: prune the model, or train one of a lower order
 ";
@@ -277,7 +278,7 @@ fn too_many_slots() {
 #[test]
 fn refused_filling() {
     let text = without("four five", 2).replace("-0.9\tfive\t-0.1", "-99\tfive\t-0.1");
-    let told = "refused by 5: the log-probability is above 0 or below -99
+    let told = "refused by 5: The row's log-probability is not between -990,000 and 0.
   row 8 in list order, line 18: -0.1\\t<s> four five
   wrong: a row that it needs is missing, and the points that the list gives it are above 0 or below -99
   to mend it: add that row, or take this one away
@@ -291,7 +292,7 @@ fn refused_filling() {
     let five = (4..=words).map(|word| vec![4, 4, 4, 4, word]);
     let rows: Vec<Row> = one.chain(first).chain(five).map(|words| Row { words, p: -1, b: 0 }).collect();
     let told = format!(
-        "refused by 1: the list has no rows, or more than 65,535
+        "refused by 1: The table is empty, its length is not a multiple of 8, or there are more than 65,535 rows.
   wrong: the text has {} rows, and with those that filling adds there are more than 65,535
   to mend it: prune the model, or train one of a lower order
 ",
