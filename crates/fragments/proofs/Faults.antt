@@ -6,7 +6,7 @@ use mathlib.Core.Option.{Option, none, some}
 use Prim.Native.Nat.{ℕ, _+_}
 use native.Mathlib.Omega.{arith}
 use lib.IntN.{ℤ}
-use lib.Dec.{ltb}
+use lib.Dec.{eqb, ltb}
 use borrow.Author.Tests.{ltb-false}
 use Rattle.backoff.specs.Limits.{runLimit}
 use Rattle.backoff.specs.Refusal.{arrayHead, wordCount, badFragment}
@@ -30,20 +30,11 @@ module _ (a b : Fragment (List ℤ)) where
   ruled-fault : (S : Store) → joinedIn (some S) a b ≡ ruled (joinedAs (S .order) a b (runOver S (b .first) empty 1) (runOver S (b .first) (stateIn (a .end)) 1)) (joinFault (some S) a b)
   ruled-fault S = go (fragmentOk (S .order) a) (fragmentOk (S .order) b) (ltb runLimit (a .count + b .count)) (joinedAs (S .order) a b (runOver S (b .first) empty 1) (runOver S (b .first) (stateIn (a .end)) 1))
     where
-      go : (p q k : Bool) (r : Reply) → cond p (cond q (cond k (refusedBy wordCount 0) r) (refusedBy badFragment 2)) (refusedBy badFragment 1) ≡ ruled r (cond p (cond q (cond k (Refused wordCount 0) Accepted) (Refused badFragment 2)) (Refused badFragment 1))
+      go : (p q k : Bool) (r : Reply) → cond p (cond q (cond k (refusedBy wordCount 0) r) (refusedBy badFragment 2)) (refusedBy badFragment 1) ≡ ruled r (cond (eqb (cond p (cond q 0 2) 1) 0) (cond k (Refused wordCount 0) Accepted) (Refused badFragment (cond p (cond q 0 2) 1)))
       go true true true r = refl
       go true true false r = refl
       go true false k r = refl
       go false q k r = refl
-
-  -- 21 and then 14, as the code has them
-  pub pair-joins : (S : Store) → pairFault (firstBad (S .order) a b) (a .count + b .count) ≡ joinFault (some S) a b
-  pair-joins S = go (fragmentOk (S .order) a) (fragmentOk (S .order) b)
-    where
-      go : (p q : Bool) → pairFault (cond p (cond q 0 2) 1) (a .count + b .count) ≡ cond p (cond q (cond (ltb runLimit (a .count + b .count)) (Refused wordCount 0) Accepted) (Refused badFragment 2)) (Refused badFragment 1)
-      go true true = refl
-      go true false = refl
-      go false q = refl
 
   pub fault-refuses : (o : Option Store) (number place : ℕ) → joinFault o a b ≡ Refused number place → joinedIn o a b ≡ refusedBy number place
   fault-refuses none number place e = let x : arrayHead ≡ number = cc in let y : _≡_ {A = ℕ} 0 place = cc in rw (← x, ← y)
@@ -63,7 +54,7 @@ module _ (a b : Fragment (List ℤ)) where
     pub fault-passed : Passed (orderIn check) a b
     fault-passed = go (fragmentOk (orderIn check) a) refl (fragmentOk (orderIn check) b) refl (ltb runLimit (a .count + b .count)) refl (unfold storeIn in none-meets)
       where
-        go : (p : Bool) → fragmentOk (orderIn check) a ≡ p → (q : Bool) → fragmentOk (orderIn check) b ≡ q → (k : Bool) → ltb runLimit (a .count + b .count) ≡ k → cond (fragmentOk (orderIn check) a) (cond (fragmentOk (orderIn check) b) (cond (ltb runLimit (a .count + b .count)) (Refused wordCount 0) Accepted) (Refused badFragment 2)) (Refused badFragment 1) ≡ Accepted → Passed (orderIn check) a b
+        go : (p : Bool) → fragmentOk (orderIn check) a ≡ p → (q : Bool) → fragmentOk (orderIn check) b ≡ q → (k : Bool) → ltb runLimit (a .count + b .count) ≡ k → pairFault (firstBad (orderIn check) a b) (a .count + b .count) ≡ Accepted → Passed (orderIn check) a b
         go true p true q false k f = record { first = p; second = q; few = ltb-false runLimit (a .count + b .count) k }
         go true p true q true k f = let z : Refused wordCount 0 ≡ Accepted = rw (p, q, k) at f in let w : _≡_ {A = ℕ} 0 1 = cc in absurd (omega arith)
         go true p false q u k f = let z : Refused badFragment 2 ≡ Accepted = rw (p, q) at f in let w : _≡_ {A = ℕ} 0 1 = cc in absurd (omega arith)

@@ -32,10 +32,7 @@ pairFault bad words = cond (eqb bad 0) (cond (ltb runLimit words) (Refused wordC
 -- what meets two fragments before any word is scored: 11, 21, 14
 abbrev pub joinFault : Option Store → Fragment (List ℤ) → Fragment (List ℤ) → Verdict
 joinFault none a b = Refused arrayHead 0
-joinFault (some S) a b =
-    cond (fragmentOk (S .order) a)
-    (cond (fragmentOk (S .order) b) (cond (ltb runLimit (a .count + b .count)) (Refused wordCount 0) Accepted) (Refused badFragment 2))
-    (Refused badFragment 1)
+joinFault (some S) a b = pairFault (firstBad (S .order) a b) (a .count + b .count)
 
 -- what holds where nothing does, and the order is n
 pub record Passed (n : ℕ) (a b : Fragment (List ℤ)) : Type 0 where

@@ -5,8 +5,6 @@ use borrow.Author.Needs.{needs}
 use borrow.Author.Tests.{not-true, not-false}
 use Rattle.double_array.specs.DoubleArray.{isArray, storeIn}
 use Rattle.double_array.proofs.DoubleArray.{opened-head, opened-order, opened-some, opened-none}
-use Rattle.fragments.specs.Outcome.{fragmentIn}
-use Rattle.fragments.proofs.Faults.{pair-joins}
 use Rattle.fragments.proofs.join_fault.Statement.{statement}
 use Rattle.fragments.proofs.join_fault.Tie as tie
 
@@ -41,7 +39,6 @@ returns-2 c =
     let s = o .before .before .before in
     c .pair-fault .ensures
     ∙ rw (k .first-bad .ensures, o .order-of .ensures, opened-some (s .args .base .now) (s .args .check .now) (array (o .before)))
-    (pair-joins (fragmentIn (s .args .one)) (fragmentIn (s .args .two)) (storeIn (s .args .base .now) (s .args .check .now)))
 
 pub join-fault-spec : {M : Type 1} → statement M
 join-fault-spec =
