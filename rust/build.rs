@@ -15,7 +15,7 @@ fn link_archive() {
     let name = ["backoff", "grader"].into_iter().find(|name| folder.join(format!("lib{name}.a")).is_file());
     let Some(name) = name else {
         panic!(
-            "no libbackoff.a and no libgrader.a in {}: run `rt staticlib grader` first, or set BACKOFF_LIB_DIR to the folder that has one of them",
+            "no libbackoff.a and no libgrader.a in {}: run `./setup archive` first, or set BACKOFF_LIB_DIR to the folder that has one of them",
             folder.display()
         );
     };
