@@ -5,18 +5,19 @@ use crate::score::LONGEST_RUN;
 use backoff::Total;
 use std::collections::HashMap;
 
-/// The rows of a list, to be found by their words: one number of 80 bits, the newest word in the lowest 16.
+/// The rows of a list. Words are in one number of 80 bits, the newest in the lowest 16.
 pub trait Rows {
-    /// A row that was found.
-    type Found: Copy;
-
     fn order(&self) -> usize;
 
-    /// p and b of a row of m words.
-    fn find(&self, m: usize, words: u128) -> Option<(i32, i32, Self::Found)>;
+    fn has_word(&self, word: u32) -> bool;
 
-    /// Whether some row puts a further word in front of it.
-    fn extended(&self, found: Self::Found) -> bool;
+    /// The points of a word after the newest `count` words of the history, the matched length, and whether some row puts a further word in front of the matched one.
+    fn back_off(&self, history: u128, count: usize, word: u128) -> (i32, usize, bool);
+}
+
+/// The newest words of a history, so many.
+fn newest(history: u128, count: usize) -> u128 {
+    history & ((1 << (16 * count)) - 1)
 }
 
 /// An accepted table, where the rows of m words stand from starts[m - 1] to starts[m].
@@ -34,6 +35,21 @@ impl Table<'_> {
         }
         Table { rows, starts }
     }
+
+    /// The row of m words with this key.
+    #[inline]
+    fn find(&self, m: usize, words: u128) -> Option<&Row> {
+        let rows = &self.rows[self.starts[m - 1]..self.starts[m]];
+        Some(&rows[rows.binary_search_by_key(&words, key).ok()?])
+    }
+
+    /// Whether some row puts a further word in front of the row of m words with this key.
+    #[inline]
+    fn extended(&self, m: usize, words: u128) -> bool {
+        let longer = if m < 5 { &self.rows[self.starts[m]..self.starts[m + 1]] } else { &[] };
+        let at = longer.partition_point(|row| key(row) >> 16 < words);
+        longer.get(at).is_some_and(|row| key(row) >> 16 == words)
+    }
 }
 
 /// The words in one number: the oldest word comes first in a row and lowest in its key.
@@ -42,26 +58,31 @@ fn key(row: &Row) -> u128 {
 }
 
 impl Rows for Table<'_> {
-    /// m and the key.
-    type Found = (usize, u128);
-
     fn order(&self) -> usize {
         self.rows[self.rows.len() - 1][0] as usize
     }
 
     #[inline]
-    fn find(&self, m: usize, words: u128) -> Option<(i32, i32, (usize, u128))> {
-        let rows = &self.rows[self.starts[m - 1]..self.starts[m]];
-        let wanted = (0..m).fold(0, |wanted, i| wanted << 16 | (words >> (16 * i) & 0xFFFF));
-        let at = rows.binary_search_by_key(&wanted, key).ok()?;
-        Some((rows[at][6], rows[at][7], (m, wanted)))
+    fn has_word(&self, word: u32) -> bool {
+        self.find(1, word as u128).is_some()
     }
 
+    /// The rule step by step: history and word together, else the history's back-off and the history without its oldest word.
     #[inline]
-    fn extended(&self, (m, words): (usize, u128)) -> bool {
-        let longer = if m < 5 { &self.rows[self.starts[m]..self.starts[m + 1]] } else { &[] };
-        let at = longer.partition_point(|row| key(row) >> 16 < words);
-        longer.get(at).is_some_and(|row| key(row) >> 16 == words)
+    fn back_off(&self, history: u128, count: usize, word: u128) -> (i32, usize, bool) {
+        // The key of what is left of the history: its oldest word is lowest and goes first.
+        let mut left = (0..count).fold(0, |key, i| key << 16 | (history >> (16 * i) & 0xFFFF));
+        let mut back_offs = 0;
+        for length in (1..=count).rev() {
+            let both = word << (16 * length) | left;
+            if let Some(row) = self.find(length + 1, both) {
+                return (back_offs + row[6], length + 1, self.extended(length + 1, both));
+            }
+            back_offs += self.find(length, left).map_or(0, |row| row[7]);
+            left >>= 16;
+        }
+        let row = self.find(1, word).expect("a word that has a row");
+        (back_offs + row[6], 1, self.extended(1, word))
     }
 }
 
@@ -91,18 +112,27 @@ impl Map {
 }
 
 impl Rows for Map {
-    type Found = bool;
-
     fn order(&self) -> usize {
         self.order
     }
 
-    fn find(&self, m: usize, words: u128) -> Option<(i32, i32, bool)> {
-        self.rows.get(&(m, words)).copied()
+    fn has_word(&self, word: u32) -> bool {
+        self.rows.contains_key(&(1, word as u128))
     }
 
-    fn extended(&self, found: bool) -> bool {
-        found
+    /// From the word alone up, as far as rows are there: the longest row, then the back-offs of the histories that are too long for it.
+    #[inline]
+    fn back_off(&self, history: u128, count: usize, word: u128) -> (i32, usize, bool) {
+        let (mut points, mut matched, mut extended) = (0, 0, false);
+        while matched <= count {
+            let Some(&(p, _, further)) = self.rows.get(&(matched + 1, newest(history, matched) << 16 | word)) else { break };
+            (points, matched, extended) = (p, matched + 1, further);
+        }
+        for length in matched..=count {
+            let Some((_, b, _)) = self.rows.get(&(length, newest(history, length))) else { break };
+            points += b;
+        }
+        (points, matched, extended)
     }
 }
 
@@ -129,9 +159,9 @@ pub fn score(rows: &impl Rows, after_start: bool, words: &[u32], points: &mut [i
     let mut count = most.min(after_start as usize);
     let mut total = 0;
     for i in 0..words.len() {
-        let known = (2..=LARGEST_WORD as u32).contains(&words[i]) && rows.find(1, words[i] as u128).is_some();
+        let known = (2..=LARGEST_WORD as u32).contains(&words[i]) && rows.has_word(words[i]);
         let word = if known { words[i] as u128 } else { 1 };
-        let (word_points, matched, extended) = back_off(rows, history, count, word);
+        let (word_points, matched, extended) = rows.back_off(history, count, word);
         points[i] = word_points;
         lengths[i] = matched as u8 + if known { 0 } else { 8 } + if extended { 16 } else { 0 };
         total += word_points as i64;
@@ -139,26 +169,6 @@ pub fn score(rows: &impl Rows, after_start: bool, words: &[u32], points: &mut [i
         (history, count) = if words[i] == 3 { (2, most.min(1)) } else { (history << 16 | word, most.min(count + 1)) };
     }
     total
-}
-
-/// The longest row of history and word, whether it is extended, and the back-offs of the histories that are too long for it.
-#[inline]
-fn back_off(rows: &impl Rows, history: u128, count: usize, word: u128) -> (i32, usize, bool) {
-    let newest = |length: usize| history & ((1 << (16 * length)) - 1);
-    let mut points = 0;
-    let mut matched = 0;
-    let mut longest = None;
-    while matched <= count {
-        let Some((p, _, found)) = rows.find(matched + 1, newest(matched) << 16 | word) else { break };
-        points = p;
-        longest = Some(found);
-        matched += 1;
-    }
-    for length in matched..=count {
-        let Some((_, b, _)) = rows.find(length, newest(length)) else { break };
-        points += b;
-    }
-    (points, matched, longest.is_some_and(|found| rows.extended(found)))
 }
 
 #[cfg(test)]

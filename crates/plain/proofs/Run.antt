@@ -11,14 +11,14 @@ use lib.IntN.{ℤ, pos, _+ℤ_}
 use mir.Syntax.{w32, w64}
 use mir.Val.{SFits}
 use Rattle.integer.specs.Integer.{sum}
-use Rattle.backoff.specs.Limits.{orderLimit, runLimit}
-use Rattle.backoff.specs.Model.{Model, AcceptedModel}
+use Rattle.backoff.specs.Limits.{runLimit}
+use Rattle.backoff.specs.Model.{Model, AcceptedModel, reach}
 use Rattle.backoff.specs.Rule.{Score, grow, rule, ruleByte, rulePoints, ruleBytes}
 use Rattle.backoff.specs.Run.{front, written}
 use Rattle.plain.specs.declared.Recent.{Recent}
 use Rattle.plain.specs.declared.Next.{Next}
 use Rattle.plain.specs.Held.{IsNext, begun}
-use Rattle.plain.proofs.Preceding.{Holds, Enough, begun-holds, begun-enough, begun-few, rule-held, byte-held, kept-holds, kept-enough, kept-few}
+use Rattle.plain.proofs.Preceding.{Holds, begun-holds, rule-held, pushed-holds}
 use Rattle.plain.proofs.Progress.{Progress, progress-none, progress-more, progress-length, progress-end, Summed, summed-none, summed-more, summed-end, total-fits}
 
 -- the rule over the words that are left
@@ -44,19 +44,15 @@ pub record Scoring (M : Model) (b : Bool) (ws : List ℕ) (points₀ : List ℤ)
   pub within : i ≤ length ws
   pub before : List ℕ
   pub holds : Holds M recent before
-  pub enough : Enough M recent before
-  pub few : recent .count ≤ orderLimit
   pub points-left : Progress (rulePoints M (front b) ws) (rulePoints M before (drop i ws)) points₀ points i
   pub lengths-left : Progress (ruleBytes M (front b) ws) (ruleBytes M before (drop i ws)) lengths₀ lengths i
   pub total-left : Summed (rulePoints M (front b) ws) (rulePoints M before (drop i ws)) total i
 
-pub scoring-none : {M : Model} → AcceptedModel M → (b : Bool) (ws : List ℕ) (points : List ℤ) (lengths : List ℕ) → Scoring M b ws points lengths points lengths (begun b) (pos 0) 0
+pub scoring-none : {M : Model} → AcceptedModel M → (b : Bool) (ws : List ℕ) (points : List ℤ) (lengths : List ℕ) → Scoring M b ws points lengths points lengths (begun (reach M) b) (pos 0) 0
 scoring-none A b ws points lengths = record {
   within = omega arith;
   before = front b;
   holds = begun-holds A b;
-  enough = begun-enough A b;
-  few = begun-few b;
   points-left = progress-none _ _;
   lengths-left = progress-none _ _;
   total-left = summed-none _;
@@ -77,14 +73,14 @@ module _ {M : Model} {b : Bool} {ws : List ℕ} {points₀ : List ℤ} {lengths�
   lengths-length h = progress-length (s .lengths-left) (omega (arith, s .within))
 
   -- one word more
-  module _ {n : ℕ} (A : AcceptedModel M) (order : n ≡ M .order) (l : i < length ws) {r : Next} (k : IsNext M n recent (getD ws i 0) r) (f : SFits w32 (r .points)) where
+  module _ (A : AcceptedModel M) (l : i < length ws) {r : Next} (k : IsNext M (reach M) recent (getD ws i 0) r) (f : SFits w32 (r .points)) where
     points-rest : rulePoints M (s .before) (drop i ws) ≡ r .points ∷ rulePoints M (grow M (s .before) (getD ws i 0)) (drop (i + 1) ws)
     points-rest =
-        rw (k .points-are ∙ ap (λ (q : Score). q .points) (rule-held A order (s .holds) (s .enough) (getD ws i 0))) (points-step M (s .before) ws i l)
+        rw (k .points-are ∙ ap (λ (q : Score). q .points) (rule-held A (s .holds) (getD ws i 0))) (points-step M (s .before) ws i l)
 
     bytes-rest : ruleBytes M (s .before) (drop i ws) ≡ r .byte ∷ ruleBytes M (grow M (s .before) (getD ws i 0)) (drop (i + 1) ws)
-    bytes-rest =
-        rw (k .byte-is ∙ byte-held A order (s .holds) (s .enough) (getD ws i 0)) (bytes-step M (s .before) ws i l)
+    unfolding ruleByte
+    bytes-rest = rw (k .byte-is, rule-held A (s .holds) (getD ws i 0)) (bytes-step M (s .before) ws i l)
 
     pub scoring-more : length ws ≤ length points₀ → length ws ≤ length lengths₀ → Scoring M b ws points₀ lengths₀ (set points i (r .points)) (set lengths i (r .byte)) (r .recent) (total +ℤ r .points) (i + 1)
     scoring-more room space =
@@ -92,9 +88,7 @@ module _ {M : Model} {b : Bool} {ws : List ℕ} {points₀ : List ℤ} {lengths�
         (record {
           within = omega arith;
           before = grow M (s .before) (getD ws i 0);
-          holds = kept-holds A order (s .holds) (s .enough) (getD ws i 0);
-          enough = kept-enough A order (s .holds) (s .enough) (getD ws i 0);
-          few = kept-few A order (s .holds) (s .enough) (getD ws i 0);
+          holds = pushed-holds A (s .holds) (getD ws i 0);
           points-left = progress-more (rw points-rest at (s .points-left)) (omega arith);
           lengths-left = progress-more (rw bytes-rest at (s .lengths-left)) (omega arith);
           total-left = summed-more (rw points-rest at (s .total-left)) f;

@@ -41,6 +41,16 @@ module _ (M : Model) (v : ℕ) where
   text-shorter [] l e = absurd (omega arith)
   text-shorter (o ∷ h) l e = rw e
 
+  -- no more words are matched than the history and the word
+  pub text-matched : (h : List ℕ) → textRule M h v .matched ≤ length h + 1
+  unfolding textRule addPoints
+  text-matched [] = omega arith
+  text-matched (o ∷ h) = go (listed M (v ∷ reverse (o ∷ h))) (text-matched h)
+    where
+      go : (b : Bool) → textRule M h v .matched ≤ length h + 1 → cond b (rowScore M (v ∷ reverse (o ∷ h)) (suc (length (o ∷ h)))) (addPoints (backoff M (reverse (o ∷ h))) (textRule M h v)) .matched ≤ length (o ∷ h) + 1
+      go true l = omega arith
+      go false l = omega (arith, l)
+
 -- a history of n words or more has no back-off
 module _ {M : Model} (A : AcceptedModel M) where
   long-unlisted : (l : List ℕ) → M .order < length l → listed M l ≡ false

@@ -1,16 +1,16 @@
 -- How the code holds a row, a score and the newest words. Only private contracts cite it. Assumes nothing.
 use mathlib.Core.Path.{_≡_}
 use mathlib.Core.Bool.{Bool, true, false, cond}
-use mathlib.Core.List.{List, [], _∷_, _++_, reverse}
-use Prim.Native.Nat.{ℕ, _+_, _-_, _<_, min}
-use lib.ListN.{length, getD, take, drop}
+use mathlib.Core.List.{List, [], _∷_, _++_}
+use Prim.Native.Nat.{ℕ, _+_, _-_, _<_, _≤_, min}
+use lib.ListN.{length, drop}
 use lib.IntN.{ℤ, pos}
 use lib.Dec.{eqb}
-use Rattle.backoff.specs.Limits.{orderLimit, unknownWord, startWord, endWord}
+use Rattle.backoff.specs.Limits.{startWord, endWord}
 use Rattle.backoff.specs.Words.{areWords}
 use Rattle.backoff.specs.Model.{Model, listed, probability, backoff, extended}
 use Rattle.backoff.specs.Rule as rule
-use Rattle.list.specs.Table.{rowsOf, wordOf, wordsOf, words}
+use Rattle.list.specs.Table.{rowsOf, wordsOf, words}
 use Rattle.list.specs.ListModel.{extendedIn, modelOf}
 use Rattle.plain.specs.declared.Row.{Row}
 use Rattle.plain.specs.declared.Score.{Score}
@@ -44,39 +44,27 @@ pub record IsScore (t : List ℤ) (s : rule.Score) (r : Score) : Type 0 where
 pub record IsScored (s : rule.Score) (v : ℕ) (r : Scored) : Type 0 where
   pub points-are : r .points ≡ s .points
   pub byte-is : r .byte ≡ rule.lengthByte (s .matched) v (s .extended)
-  pub matched-is : r .matched ≡ s .matched
 
--- five places with words in them, oldest first
-pub record FiveWords (ws : List ℤ) : Type 0 where
-  pub five : length ws ≡ orderLimit
-  pub are-words : areWords (wordsOf ws) ≡ true
+-- four places with words in them
+pub record IsRecent (r : Recent) : Type 0 where
+  pub four : length (r .words) ≡ 4
+  pub are-words : areWords (wordsOf (r .words)) ≡ true
+  pub few : r .count ≤ 4
 
--- the word in the last place, and the words before it, newest first
-unfoldable pub lastWord : List ℤ → ℕ
-lastWord ws = wordOf (getD ws 4 (pos 0))
+-- the history, oldest word first
+unfoldable pub inUse : Recent → List ℕ
+inUse r = wordsOf (drop (4 - r .count) (r .words))
 
-unfoldable pub wordsBefore : List ℤ → List ℕ
-wordsBefore ws = reverse (wordsOf (take 4 ws))
+-- the history before any word is scored, of at most `most` words: `<s>` where b says so, else none
+unfoldable pub begun : ℕ → Bool → Recent
+begun most b = record { words = pos startWord ∷ pos startWord ∷ pos startWord ∷ pos startWord ∷ []; count = cond b (min most 1) 0 }
 
--- the last word's score after the others in use
-unfoldable pub lastScore : Model → Recent → rule.Score
-lastScore M r = rule.scoreAfter M (r .count - 1) (wordsBefore (r .words)) (lastWord (r .words))
+-- the history once the given word w is scored as the word z: after a 3 `<s>` alone, else with z behind it
+unfoldable pub pushed : ℕ → Recent → ℕ → ℤ → Recent
+pushed most r w z = cond (eqb w endWord) (begun most true) (record { words = drop 1 (r .words) ++ (z ∷ []); count = min most (r .count + 1) })
 
--- the newest words before any is scored: `<s>` where b says so, else none. The places before them hold the unknown word.
-unfoldable pub begun : Bool → Recent
-begun true = record { words = pos unknownWord ∷ pos unknownWord ∷ pos unknownWord ∷ pos unknownWord ∷ pos startWord ∷ []; count = 1 }
-begun false = record { words = pos unknownWord ∷ pos unknownWord ∷ pos unknownWord ∷ pos unknownWord ∷ pos unknownWord ∷ []; count = 0 }
-
--- the word w, replaced, behind them: at most n words are in use
-unfoldable pub pushed : Model → ℕ → Recent → ℕ → Recent
-pushed M n r w = record { words = drop 1 (r .words) ++ (pos (rule.replaced M w) ∷ []); count = min n (r .count + 1) }
-
--- once the given word w is scored by a row of so many words: after a 3 `<s>` alone, else as many are in use
-unfoldable pub kept : Recent → ℕ → ℕ → Recent
-kept r w matched = cond (eqb w endWord) (begun true) (record { words = r .words; count = matched })
-
--- the word w after the recent words r: its score and length byte, and what is kept
-pub record IsNext (M : Model) (n : ℕ) (r : Recent) (w : ℕ) (x : Next) : Type 0 where
-  pub points-are : x .points ≡ lastScore M (pushed M n r w) .points
-  pub byte-is : x .byte ≡ rule.lengthByte (lastScore M (pushed M n r w) .matched) (lastWord (pushed M n r w .words)) (lastScore M (pushed M n r w) .extended)
-  pub recent-is : x .recent ≡ kept (pushed M n r w) w (lastScore M (pushed M n r w) .matched)
+-- the word w after the history r: its points and length byte, and the history of the word after it
+pub record IsNext (M : Model) (most : ℕ) (r : Recent) (w : ℕ) (x : Next) : Type 0 where
+  pub points-are : x .points ≡ rule.textRule M (inUse r) (rule.replaced M w) .points
+  pub byte-is : x .byte ≡ rule.lengthByte (rule.textRule M (inUse r) (rule.replaced M w) .matched) (rule.replaced M w) (rule.textRule M (inUse r) (rule.replaced M w) .extended)
+  pub recent-is : x .recent ≡ pushed most r w (pos (rule.replaced M w))

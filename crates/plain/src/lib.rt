@@ -16,7 +16,7 @@ ghost use Rattle.list.specs.Table.{rowsOf, orderOf, wordOf, wordsOf, words};
 ghost use Rattle.list.specs.Check.{verdict};
 ghost use Rattle.list.specs.ListModel.{extendedIn, modelOf};
 ghost use Rattle.plain.specs.Plain.{runOf, plainOutcome, Answers, PlainMeans};
-ghost use Rattle.plain.specs.Held.{noRow, IsRow, IsScore, IsScored, IsNext, FiveWords, lastWord, lastScore, begun, pushed, kept};
+ghost use Rattle.plain.specs.Held.{noRow, IsRow, IsScore, IsScored, IsRecent, inUse, begun, pushed, IsNext};
 use backoff::Verdict;
 use backoff::WORD_LIMIT;
 use list::Found;
@@ -242,62 +242,38 @@ fn length_byte(matched: u8, word: i32, extended: bool) -> u8
     byte
 }
 
-// The newest words, each replaced, oldest first: the last `count` places. The places before them hold some word and take no part.
+// The history: the newest words, each replaced, oldest first, in the last `count` places. The places before them hold some word and take no part.
 struct Recent {
-    words: [i32; 5],
+    words: [i32; 4],
     count: usize,
 }
 
-// The newest words before the run's first.
-fn begin(after_start: bool) -> Recent
-    ensures { λ r. ⌜ r ≡ begun «after_start» ⌝ }
+// The history of the run's first word, where a history has at most `most` words.
+fn begin(most: usize, after_start: bool) -> Recent
+    ensures { λ r. ⌜ r ≡ begun most «after_start» ⌝ }
 {
+    let words = [START_WORD; 4];
     if after_start {
         return Recent {
-            words: [
-                UNKNOWN_WORD,
-                UNKNOWN_WORD,
-                UNKNOWN_WORD,
-                UNKNOWN_WORD,
-                START_WORD,
-            ],
-            count: 1,
+            words,
+            count: smaller(most, 1),
         };
     }
-    Recent {
-        words: [UNKNOWN_WORD; 5],
-        count: 0,
-    }
+    Recent { words, count: 0 }
 }
 
-// The word, replaced, behind the recent ones, of which at most n are in use.
-fn push(table: &[i32], starts: &[usize; 8], n: usize, recent: Recent, word: u32) -> Recent
-    requires { ⌜ (verdict (now table) ≡ Accepted) × (recent .count ≤ orderLimit) ⌝ }
-    ensures { λ r. ⌜ r ≡ pushed (modelOf (now (table .entry))) n recent word ⌝ }
-{
-    let old = recent.words;
-    let words = [
-        old[1],
-        old[2],
-        old[3],
-        old[4],
-        replaced(table, starts, word),
-    ];
-    let count = smaller(n, recent.count + 1);
-    Recent { words, count }
-}
-
-// The newest words once the given word is scored: after a 3 `<s>` alone, else as many as were matched. With more of them no row is listed.
-fn keep(recent: Recent, word: u32, matched: u8) -> Recent
-    ensures { λ r. ⌜ r ≡ kept recent word matched ⌝ }
+// The history once the given word is scored as `known`: after a 3 `<s>` alone, else that word too.
+fn push(most: usize, recent: Recent, word: u32, known: i32) -> Recent
+    requires { ⌜ recent .count ≤ 4 ⌝ }
+    ensures { λ r. ⌜ r ≡ pushed most recent word known ⌝ }
 {
     if word == backoff::END_WORD {
-        return begin(true);
+        return begin(most, true);
     }
-    let words = recent.words;
+    let old = recent.words;
     Recent {
-        words,
-        count: matched as usize,
+        words: [old[1], old[2], old[3], known],
+        count: smaller(most, recent.count + 1),
     }
 }
 
@@ -314,43 +290,40 @@ fn byte_of(table: &[i32], starts: &[usize; 8], score: Score, word: i32) -> u8
 struct Scored {
     points: i32,
     byte: u8,
-    matched: u8,
 }
 
-// The last recent word after the others in use.
-fn score_last(table: &[i32], starts: &[usize; 8], recent: Recent) -> Scored
-    requires { ⌜ (verdict (now table) ≡ Accepted) × FiveWords (recent .words) × (0 < recent .count) × (recent .count ≤ orderLimit) × (listed (modelOf (now table)) (lastWord (recent .words) ∷ []) ≡ true) ⌝ }
-    ensures { λ r. ⌜ IsScored (lastScore (modelOf (now (table .entry))) recent) (lastWord (recent .words)) r ⌝ }
+// The word, which has a one-word row, after the whole history.
+fn score_word(table: &[i32], starts: &[usize; 8], recent: Recent, word: i32) -> Scored
+    requires { ⌜ (verdict (now table) ≡ Accepted) × IsRecent recent × (listed (modelOf (now table)) (wordOf word ∷ []) ≡ true) ⌝ }
+    ensures { λ r. ⌜ IsScored (textRule (modelOf (now (table .entry))) (inUse recent) (wordOf word)) (wordOf word) r ⌝ }
 {
     let words = recent.words;
-    let word = words[4];
-    let oldest = 5 - recent.count;
-    let score = score_after(table, starts, &words[oldest..4], word);
+    let oldest = 4 - recent.count;
+    let score = score_after(table, starts, &words[oldest..], word);
     Scored {
         points: score.points,
         byte: byte_of(table, starts, score, word),
-        matched: score.matched,
     }
 }
 
-// A word's points and length byte, and the newest words once it is scored.
+// A word's points and length byte, and the history of the word after it.
 struct Next {
     points: i32,
     byte: u8,
     recent: Recent,
 }
 
-// The word after the recent ones.
-fn score_next(table: &[i32], starts: &[usize; 8], n: usize, recent: Recent, word: u32) -> Next
-    requires { ⌜ (verdict (now table) ≡ Accepted) × (n ≡ orderOf (now table)) × FiveWords (recent .words) × (recent .count ≤ orderLimit) ⌝ }
-    ensures { λ r. ⌜ IsNext (modelOf (now (table .entry))) n recent word r ⌝ }
+// The given word after the history.
+fn score_next(table: &[i32], starts: &[usize; 8], most: usize, recent: Recent, word: u32) -> Next
+    requires { ⌜ (verdict (now table) ≡ Accepted) × IsRecent recent ⌝ }
+    ensures { λ r. ⌜ IsNext (modelOf (now (table .entry))) most recent word r ⌝ }
 {
-    let newest = push(table, starts, n, recent, word);
-    let scored = score_last(table, starts, newest);
+    let known = replaced(table, starts, word);
+    let scored = score_word(table, starts, recent, known);
     Next {
         points: scored.points,
         byte: scored.byte,
-        recent: keep(newest, word, scored.matched),
+        recent: push(most, recent, word, known),
     }
 }
 
@@ -369,10 +342,11 @@ fn score_words(
     ensures lengths { λ _. ⌜ now (lengths .exit) ≡ written (ruleBytes (modelOf (now (table .entry))) (front «after_start») (now (words .entry))) (now (lengths .entry)) ⌝ }
 {
     let starts = find_starts(table);
-    let mut recent = begin(after_start);
+    let most = n - 1;
+    let mut recent = begin(most, after_start);
     let mut total: i64 = 0;
     for i in 0..words.len() {
-        let next = score_next(table, &starts, n, recent, words[i]);
+        let next = score_next(table, &starts, most, recent, words[i]);
         let p = next.points;
         points[i] = p;
         lengths[i] = next.byte;

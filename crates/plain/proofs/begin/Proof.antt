@@ -1,15 +1,19 @@
 -- `plain::begin` meets its contract. Assumes nothing.
+use borrow.Author.Needs.{needs}
 use Rattle.plain.specs.Held.{begun}
 use Rattle.plain.proofs.begin.Statement.{statement}
 use Rattle.plain.proofs.begin.Tie as tie
 
+smaller-requires : tie.Need-smaller-requires
+smaller-requires c κs = search needs
+
 returns : tie.Need-returns
 unfolding begun
-returns c = rw (c .if1 .taken)
+returns c = rw (c .before .if1 .taken, c .smaller .ensures)
 
 returns-2 : tie.Need-returns-2
 unfolding begun
 returns-2 c = rw (c .if1 .left)
 
 pub begin-spec : {M : Type 1} → statement M
-begin-spec = tie.close (tie.spec returns returns-2)
+begin-spec = tie.close (tie.spec smaller-requires returns returns-2)

@@ -8,7 +8,7 @@ use mir.Val.{SFits, toZ}
 use mir.Facts.{toZ-ofZ}
 use borrow.Author.Needs.{needs, sfits-of}
 use Rattle.integer.proofs.Arithmetic.{to-wide}
-use Rattle.backoff.specs.Model.{Model, AcceptedModel}
+use Rattle.backoff.specs.Model.{Model, AcceptedModel, reach}
 use Rattle.list.specs.ListModel.{modelOf}
 use Rattle.list.proofs.ListModel.{accepted-model}
 use Rattle.plain.proofs.Run.{Scoring, scoring-none, scoring-more, total-added, points-length, lengths-length, scored-all}
@@ -16,25 +16,29 @@ use Rattle.plain.proofs.score_words.Statement.{statement}
 use Rattle.plain.proofs.score_words.Tie as tie
 
 abbrev Inv-loop : tie.InvT-loop
-Inv-loop table n after-start words points₀ lengths₀ starts recent₀ total₀ i₀ i-end points lengths recent total i =
+Inv-loop table n after-start words points₀ lengths₀ starts most recent₀ total₀ i₀ i-end points lengths recent total i =
     Scoring (modelOf table) after-start words points₀ lengths₀ points lengths recent (toZ w64 total) i
 
 abbrev μ-loop : tie.MeasureT-loop
-μ-loop table n after-start words points₀ lengths₀ starts recent₀ total₀ i₀ i-end points lengths recent total i =
+μ-loop table n after-start words points₀ lengths₀ starts most recent₀ total₀ i₀ i-end points lengths recent total i =
     i-end - i
 
 abbrev model : tie.Start Inv-loop μ-loop → Model
 model s = modelOf (now (s .args .table))
 
-order-is : (s : tie.Start Inv-loop μ-loop) → s .args .n ≡ model s .order
-unfolding modelOf
-order-is s = s .pre .1
-
 accepted : (s : tie.Start Inv-loop μ-loop) → AcceptedModel (model s)
 accepted s = accepted-model _ (s .pre .0)
 
+most-is : (s : tie.Start Inv-loop μ-loop) → s .args .n - 1 ≡ reach (model s)
+unfolding reach modelOf
+most-is s = rw (s .pre .1)
+
 find-starts-requires : tie.Need-find-starts-requires Inv-loop μ-loop
 find-starts-requires c κs = search needs
+
+sub-most : tie.Need-sub-most Inv-loop μ-loop
+unfolding modelOf
+sub-most c = let s = c .before .before .before in omega (arith, s .pre .1, accepted s .order-low)
 
 begin-requires : tie.Need-begin-requires Inv-loop μ-loop
 begin-requires c κs = search needs
@@ -42,7 +46,7 @@ begin-requires c κs = search needs
 loop-holds : tie.Need-loop-holds Inv-loop μ-loop
 loop-holds c =
     let s = c .before .before .before .before in
-    rw (c .begin .ensures) (scoring-none (accepted s) _ _ _ _)
+    rw (c .begin .ensures, most-is s) (scoring-none (accepted s) _ _ _ _)
 
 abbrev start : tie.At-loop Inv-loop μ-loop → tie.Start Inv-loop μ-loop
 start l = l .before .before .before .before .before
@@ -57,7 +61,7 @@ score-next-requires : tie.Need-score-next-requires Inv-loop μ-loop
 score-next-requires c κs =
     let l = c .before .before .before in
     let s = start l in
-    (s .pre .0, s .pre .1, l .loop .inv .holds .places, l .loop .inv .few)
+    (s .pre .0, l .loop .inv .holds .places)
 
 mul-p : tie.Need-mul-p Inv-loop μ-loop
 mul-p c = search needs
@@ -82,7 +86,7 @@ add-total c =
     let l = turn c in
     let s = start l in
     rw (toZ-ofZ (cast-total c) ∙ toZ-ofZ (points-fits c))
-    (total-added (l .loop .inv) (accepted s) (order-is s) (c .before .before .before .before .loop-test .taken) (c .before .score-next .ensures) (points-fits c) (s .pre .2))
+    (total-added (l .loop .inv) (accepted s) (c .before .before .before .before .loop-test .taken) (rw (most-is s) at (c .before .score-next .ensures)) (points-fits c) (s .pre .2))
 
 add-i : tie.Need-add-i Inv-loop μ-loop
 add-i c = search needs
@@ -96,7 +100,7 @@ loop-again c =
     let l = turn d in
     let s = start l in
     rw (toZ-ofZ (add-total d), toZ-ofZ (cast-total d), toZ-ofZ (points-fits d))
-    (scoring-more (l .loop .inv) (accepted s) (order-is s) (d .before .before .before .before .loop-test .taken) (d .before .score-next .ensures) (points-fits d) (s .pre .3) (s .pre .4))
+    (scoring-more (l .loop .inv) (accepted s) (d .before .before .before .before .loop-test .taken) (rw (most-is s) at (d .before .score-next .ensures)) (points-fits d) (s .pre .3) (s .pre .4))
 
 same-length : tie.Need-same-length Inv-loop μ-loop
 same-length c = points-length (c .before .loop .inv) (start (c .before) .pre .3)
@@ -114,6 +118,7 @@ score-words-spec =
     Inv-loop
     μ-loop
     find-starts-requires
+    sub-most
     begin-requires
     loop-holds
     mul-score-next
