@@ -1,32 +1,34 @@
-/* A scorer over Darts, the double-array trie of Debian's package darts, whose units are bytes. A key is a row's words, newest
- * first, two bytes to a word; its value is the place of its entry. The context is carried from word to word, no longer than it
- * can still count. */
+/* A scorer over Darts, the double-array trie of Debian's package darts. A key is a row's words, newest first, one item to a word; its
+ * value is the place of its entry. The context is carried from word to word, no longer than it can still count. */
 #include "peer.h"
-#include <algorithm>
-#include <cstring>
 #include <darts.h>
-#include <string>
+#include <map>
 #include <vector>
 
 namespace {
 
+typedef Darts::DoubleArrayImpl<uint16_t, uint16_t, int, unsigned int> trie;
+typedef std::vector<uint16_t> key;
+
+/* The units that Darts' builder has until the first key is in: where more are needed before that, it writes past them. */
+const int32_t FIRST_UNITS = 8192;
+
 struct entry {
     int32_t p, b;
-    bool extended;  /* some row puts a further word in front */
-    bool continued; /* some row goes on behind it */
+    uint8_t left; /* 16 if some row puts a further word in front */
+    bool live;    /* b is not 0, or some row goes on behind it */
 };
 
 struct scorer {
-    Darts::DoubleArray trie;
+    trie rows;
     std::vector<entry> entries;
-    size_t order;
 };
 
-/* The words, two bytes each, the newest in the lowest two, and the back-offs of the newest word, of the newest two, and so on. */
+/* The words, 16 bits each, the newest in the lowest, and the sums of the back-offs of the newest word, of the newest two, and so on. */
 struct context {
     uint64_t words;
     size_t count;
-    int32_t back_offs[MOST_WORDS];
+    int32_t sums[1 + MOST_WORDS];
 };
 
 struct scored {
@@ -34,102 +36,99 @@ struct scored {
     uint8_t length;
 };
 
-/* A word as it stands in a key: the higher byte comes first in memory. */
-uint64_t bytes_of(uint32_t word)
-{
-    return word >> 8 | (word & 255) << 8;
-}
-
 /* The key of a row's words from one place to another. */
-std::string key_of(const row &cells, size_t oldest, size_t newest)
+key key_of(const row &cells, size_t oldest, size_t newest)
 {
-    std::string key;
-    for (size_t i = newest; i >= oldest; i--) {
-        uint64_t bytes = bytes_of(cells[i]);
-        key.append(reinterpret_cast<const char *>(&bytes), 2);
-    }
-    return key;
+    key words;
+    for (size_t i = newest; i >= oldest; i--)
+        words.push_back(cells[i]);
+    return words;
 }
 
-entry &find(scorer &scorer, const std::string &key)
+entry &find(scorer &scorer, const key &words)
 {
-    return scorer.entries[scorer.trie.exactMatchSearch<int>(key.data(), key.size())];
+    return scorer.entries[scorer.rows.exactMatchSearch<int>(words.data(), words.size())];
+}
+
+/* Whether the children of the root and, behind them, those of the first word lie in the first units, whatever rows there are. */
+bool are_items(const row *rows, size_t count)
+{
+    int32_t largest = 0;
+    for (size_t i = 0; i < count && rows[i][0] == 1; i++)
+        largest = rows[i][1];
+    return 2 * (largest + 2) < FIRST_UNITS;
 }
 
 /* Fills trie and entries; false where Darts refuses. */
 bool build(scorer &scorer, const row *rows, size_t count)
 {
-    std::vector<std::pair<std::string, int>> keys;
+    std::map<key, int> places;
     for (size_t i = 0; i < count; i++) {
-        keys.emplace_back(key_of(rows[i], 1, rows[i][0]), i);
-        scorer.entries.push_back({rows[i][6], rows[i][7], false, false});
+        places[key_of(rows[i], 1, rows[i][0])] = i;
+        scorer.entries.push_back({rows[i][6], rows[i][7], 0, rows[i][7] != 0});
     }
-    std::sort(keys.begin(), keys.end());
-    std::vector<const char *> texts;
+    std::vector<const uint16_t *> keys;
     std::vector<size_t> lengths;
     std::vector<int> values;
-    for (const auto &key : keys) {
-        texts.push_back(key.first.data());
-        lengths.push_back(key.first.size());
-        values.push_back(key.second);
+    for (const auto &place : places) {
+        keys.push_back(place.first.data());
+        lengths.push_back(place.first.size());
+        values.push_back(place.second);
     }
-    return scorer.trie.build(count, texts.data(), lengths.data(), values.data()) == 0;
+    return scorer.rows.build(count, keys.data(), lengths.data(), values.data()) == 0;
 }
 
-/* The entry of the word alone, that of the unknown word where the list does not have it; node and at are left behind it. */
-inline int first_value(const scorer &scorer, char *key, uint32_t &word, size_t &node, size_t &at)
+/* The place of the entry behind the word, below 0 where there is none; node is moved on. */
+inline int child(const scorer &scorer, size_t &node, uint16_t word)
 {
-    uint64_t bytes = bytes_of(word);
-    std::memcpy(key, &bytes, 2);
+    size_t at = 0;
+    return scorer.rows.traverse(&word, node, at, 1);
+}
+
+/* The place of the word's own entry, and of the unknown word's where the list does not have it. */
+inline int first_child(const scorer &scorer, size_t &node, uint32_t &word)
+{
     if (word > UNKNOWN && word <= LARGEST_WORD) {
-        int value = scorer.trie.traverse(key, node, at, 2);
-        if (value >= 0)
-            return value;
+        int place = child(scorer, node, word);
+        if (place >= 0)
+            return place;
     }
     word = UNKNOWN;
-    bytes = bytes_of(word);
-    std::memcpy(key, &bytes, 2);
-    node = at = 0;
-    return scorer.trie.traverse(key, node, at, 2);
+    return child(scorer, node, word);
 }
 
-/* Scores a word and moves the context on. */
-inline scored step(const scorer &scorer, context &context, uint32_t word)
+/* Scores a word after one context and leaves the next. */
+inline scored step(const scorer &scorer, const context &before, context &after, uint32_t word)
 {
-    char key[2 * MOST_WORDS];
-    std::memcpy(key + 2, &context.words, 2 * (MOST_WORDS - 1));
-    size_t node = 0, at = 0, matched = 0, kept = 0;
-    int value = first_value(scorer, key, word, node, at);
-    int32_t back_offs[MOST_WORDS];
+    size_t node = 0, matched = 0;
+    int place = first_child(scorer, node, word);
     const entry *longest;
+    after.count = 0;
+    after.sums[0] = 0;
     do {
-        longest = &scorer.entries[value];
-        back_offs[matched++] = longest->b;
-        if (matched < scorer.order && (longest->b != 0 || longest->continued))
-            kept = matched;
-        value = matched <= context.count ? scorer.trie.traverse(key, node, at, 2 * (matched + 1)) : -1;
-    } while (value >= 0);
-    int32_t points = longest->p;
-    for (size_t i = matched - 1; i < context.count; i++)
-        points += context.back_offs[i];
-    context.words = context.words << 16 | bytes_of(word);
-    context.count = kept;
-    std::copy(back_offs, back_offs + kept, context.back_offs);
-    return {points, static_cast<uint8_t>(matched + (word == UNKNOWN ? 8 : 0) + (longest->extended ? 16 : 0))};
+        longest = &scorer.entries[place];
+        after.sums[matched + 1] = after.sums[matched] + longest->b;
+        matched++;
+        if (longest->live)
+            after.count = matched;
+        place = matched <= before.count ? child(scorer, node, before.words >> 16 * (matched - 1)) : -1;
+    } while (place >= 0);
+    int32_t points = longest->p + before.sums[before.count] - before.sums[matched - 1];
+    after.words = before.words << 16 | word;
+    return {points, static_cast<uint8_t>(matched + (word == UNKNOWN ? 8 : 0) + longest->left)};
 }
 }
 
 void *peer_open(const row *rows, size_t count)
 {
     scorer *opened = new scorer();
-    opened->order = rows[count - 1][0];
-    if (!build(*opened, rows, count))
+    if (!are_items(rows, count) || !build(*opened, rows, count))
         return nullptr;
     for (size_t i = 0; i < count; i++) {
         size_t length = rows[i][0];
         if (length > 1) {
-            find(*opened, key_of(rows[i], 2, length)).extended = true;
-            find(*opened, key_of(rows[i], 1, length - 1)).continued = true;
+            find(*opened, key_of(rows[i], 2, length)).left = 16;
+            find(*opened, key_of(rows[i], 1, length - 1)).live = true;
         }
     }
     return opened;
@@ -138,17 +137,18 @@ void *peer_open(const row *rows, size_t count)
 int64_t peer_score(void *peer, const uint32_t *words, size_t count, int32_t *points, uint8_t *lengths)
 {
     const scorer &opened = *static_cast<const scorer *>(peer);
-    context first = {};
-    step(opened, first, START);
-    context context = first;
+    context none = {}, start = {};
+    step(opened, none, start, START);
+    context turns[2] = {start, start};
     int64_t total = 0;
     for (size_t i = 0; i < count; i++) {
-        scored word = step(opened, context, words[i]);
+        context &after = turns[(i + 1) % 2];
+        scored word = step(opened, turns[i % 2], after, words[i]);
         points[i] = word.points;
         lengths[i] = word.length;
         total += word.points;
         if (words[i] == END)
-            context = first;
+            after = start;
     }
     return total;
 }

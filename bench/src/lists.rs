@@ -61,9 +61,18 @@ impl Kind {
         self.list(SIZES.len() - 1)
     }
 
+    /// A list of 65,535 rows whose words are no larger than `largest`.
+    pub fn long_within(&self, largest: i32) -> List {
+        self.drawn(SIZES.len() - 1, largest)
+    }
+
     fn list(&self, size: usize) -> List {
+        self.drawn(size, LARGEST_WORD)
+    }
+
+    fn drawn(&self, size: usize, largest: i32) -> List {
         let seed = if SIZES[size] == SHORT { 1 } else { 2 };
-        List::new((self.draw)(&mut Random::new(seed), self.words[size], SIZES[size]))
+        List::new((self.draw)(&mut Random::new(seed), self.words[size].min(largest), SIZES[size]))
     }
 }
 
