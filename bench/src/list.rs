@@ -1,4 +1,5 @@
-//! The list check as the team writes it in Rust: the shorter rows by binary search in the rows ahead, no memory of its own.
+//! The list check as the team writes it in Rust: the shorter rows among the rows of one length ahead, by keys of 64 bits, no memory of its own. The row without
+//! the first word only moves on from row to row; the row without the last word is searched by halves, but for a word that is the number of its own row.
 
 use backoff::Status;
 
@@ -34,19 +35,20 @@ pub type Row = [i32; 8];
 fn first_fault<const TO_BE_FILLED: bool>(rows: &[Row]) -> Option<(u32, usize)> {
     let order = rows[rows.len() - 1][0];
     let mut last = Key { high: 0, low: 0 };
-    // The rows of m words are those from starts[m] on.
-    let mut starts = [0; 6];
+    let mut ahead = Ahead { words: rows, shorter: &[], newest: 0, length: 0, start: 0 };
     for (i, row) in rows.iter().enumerate() {
         if let Some(number) = field_fault(row, order) {
             return Some((number, i));
         }
         let key = Key::of(row);
-        if i > 0 && key <= last {
+        if key <= last {
             return Some((7, i));
         }
         let m = row[0] as usize;
-        starts[last.length() + 1..=m].fill(i);
-        if m > 1 && !shorter_listed::<TO_BE_FILLED>(rows, &starts, m, key) {
+        if m != ahead.length {
+            ahead.begin(rows, i, m);
+        }
+        if m > 1 && !ahead.both_listed::<TO_BE_FILLED>(m, key) {
             return Some((8, i));
         }
         last = key;
@@ -59,10 +61,14 @@ fn field_fault(row: &Row, order: i32) -> Option<u32> {
     if !(1..=5).contains(&m) {
         return Some(3);
     }
-    let words = [w1, w2, w3, w4, w5];
-    let (used, unused) = words.split_at(m as usize);
-    if used.iter().any(|w| !(1..=LARGEST_WORD).contains(w)) || unused.iter().any(|&w| w != 0) {
-        return Some(4);
+    for (place, word) in (1..).zip([w1, w2, w3, w4, w5]) {
+        if place <= m {
+            if !(1..=LARGEST_WORD).contains(&word) {
+                return Some(4);
+            }
+        } else if word != 0 {
+            return Some(4);
+        }
     }
     if !(LOWEST_P..=0).contains(&p) {
         return Some(5);
@@ -84,10 +90,6 @@ impl Key {
     pub fn of(row: &Row) -> Key {
         Key { high: (row[0] as u32) << 16 | row[5] as u32, low: low(row) }
     }
-
-    fn length(self) -> usize {
-        (self.high >> 16) as usize
-    }
 }
 
 /// The first four words in one number; rows of the same m below 5 ascend by it.
@@ -95,17 +97,46 @@ pub fn low(row: &Row) -> u64 {
     row[1] as u64 | (row[2] as u64) << 16 | (row[3] as u64) << 32 | (row[4] as u64) << 48
 }
 
-/// Both shorter rows of a row of m words, among the rows of m - 1 words; or that without the last word, and the last word among the rows of one.
-fn shorter_listed<const TO_BE_FILLED: bool>(rows: &[Row], starts: &[usize; 6], m: usize, key: Key) -> bool {
-    let shorter = &rows[starts[m - 1]..starts[m]];
-    let without_first = key.low >> 16 | (key.high as u64 & 0xFFFF) << 48;
-    let without_last = key.low & (u64::MAX >> (64 - 16 * (m - 1)));
-    let newest = if TO_BE_FILLED { listed(&rows[..starts[2]], without_first >> (16 * (m - 2))) } else { listed(shorter, without_first) };
-    newest && listed(shorter, without_last)
+/// The rows ahead of the rows of one length, in which their shorter rows are searched.
+struct Ahead<'a> {
+    /// The rows of one word, once those of two begin.
+    words: &'a [Row],
+    /// The rows of one word fewer.
+    shorter: &'a [Row],
+    /// Where the row without the first word stood last, or that of the last word alone.
+    newest: usize,
+    /// The length, and the first row of it.
+    length: usize,
+    start: usize,
 }
 
+impl<'a> Ahead<'a> {
+    /// Rows of m words begin with row i.
+    fn begin(&mut self, rows: &'a [Row], i: usize, m: usize) {
+        self.shorter = if m == self.length + 1 { &rows[self.start..i] } else { &[] };
+        if m == 2 {
+            self.words = self.shorter;
+        }
+        (self.newest, self.length, self.start) = (0, m, i);
+    }
+
+    /// Both shorter rows of a row of m words; or that without the last word, and that of the last word alone.
+    fn both_listed<const TO_BE_FILLED: bool>(&mut self, m: usize, key: Key) -> bool {
+        let without_first = key.low >> 16 | (key.high as u64 & 0xFFFF) << 48;
+        let without_last = key.low & (u64::MAX >> (64 - 16 * (m - 1)));
+        let (rows, newest) = if TO_BE_FILLED { (self.words, without_first >> (16 * (m - 2))) } else { (self.shorter, without_first) };
+        self.newest += rows[self.newest..].iter().take_while(|&row| low(row) < newest).count();
+        has_key(rows, self.newest, newest) && listed(self.shorter, without_last)
+    }
+}
+
+/// Whether a row of so many rows of one length has this key.
 fn listed(rows: &[Row], key: u64) -> bool {
-    rows.binary_search_by_key(&key, low).is_ok()
+    has_key(rows, key as usize - 1, key) || has_key(rows, rows.partition_point(|row| low(row) < key), key)
+}
+
+fn has_key(rows: &[Row], i: usize, key: u64) -> bool {
+    rows.get(i).is_some_and(|row| low(row) == key)
 }
 
 /// The words 1, 2 and 3 are the first rows where they are listed at all.
