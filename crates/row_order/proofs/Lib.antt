@@ -4,9 +4,12 @@ pub mod Rows
 pub mod Exchanges
 pub mod Stores
 pub mod Heaps
+pub mod Slices
+pub mod Parts
 pub mod Tags
 pub mod ListOrder
 pub mod Sorted
 pub mod Before
+pub mod Codes
 pub mod Insertion
 pub mod Examples
