@@ -1,8 +1,7 @@
-//! Reading an ARPA text as the team writes it in Rust: texts in a HashMap, rows in a vector that is sorted, memory as it is needed.
+//! Reading an ARPA text as the team writes it in Rust: texts in a table of open addressing, rows in a vector that is sorted by keys made once, memory as it is needed.
 
 use crate::list::{self, Row, MOST_ROWS};
 use backoff::Rows;
-use std::collections::hash_map::{Entry, HashMap};
 
 const RECORD: usize = 64;
 const LONGEST_TEXT: usize = 63;
@@ -17,8 +16,7 @@ pub fn read_arpa(text: &[u8], table: &mut [i32], store: &mut [u8]) -> Rows {
         line: 1,
         room: (table.len(), store.len()),
         rows: Vec::new(),
-        words: HashMap::new(),
-        texts: Vec::new(),
+        words: Words { slots: vec![FREE; 16], texts: Vec::new() },
         next_word: 4,
     };
     let read = reader.read().and_then(|()| in_order(&mut reader.rows));
@@ -27,7 +25,7 @@ pub fn read_arpa(text: &[u8], table: &mut [i32], store: &mut [u8]) -> Rows {
     match read {
         Ok(()) => {
             table[..8 * reader.rows.len()].copy_from_slice(reader.rows.as_flattened());
-            for (word, text) in reader.texts {
+            for (word, text) in reader.words.texts {
                 let record = &mut store[RECORD * word as usize..][..RECORD];
                 record[0] = text.len() as u8;
                 record[1..=text.len()].copy_from_slice(text);
@@ -46,12 +44,18 @@ fn in_order(rows: &mut [Row]) -> Result<(), Refused> {
     if rows.len() > MOST_ROWS {
         return Err((1, 0));
     }
-    // 17 bits to a word: so many rows bring no word above 65,538.
-    rows.sort_by_key(|row| row[1..6].iter().rev().fold(row[0] as u128, |key, &word| key << 17 | word as u128));
+    if !rows.is_sorted_by_key(key) {
+        rows.sort_by_cached_key(key);
+    }
     match list::check(rows.as_flattened()) {
         status if status.number == 0 => Ok(()),
         status => Err((status.number, status.place as u64)),
     }
+}
+
+/// 17 bits to a word: so many rows bring no word above 65,538.
+fn key(row: &Row) -> u128 {
+    row[1..6].iter().rev().fold(row[0] as u128, |key, &word| key << 17 | word as u128)
 }
 
 struct Reader<'a> {
@@ -62,8 +66,7 @@ struct Reader<'a> {
     /// The lengths of table and store.
     room: (usize, usize),
     rows: Vec<Row>,
-    words: HashMap<&'a [u8], i32>,
-    texts: Vec<(i32, &'a [u8])>,
+    words: Words<'a>,
     /// The number of the next text that is no mark.
     next_word: i32,
 }
@@ -112,7 +115,7 @@ impl<'a> Reader<'a> {
             row[1] = self.number(texts[0]);
         } else {
             for i in 0..m {
-                row[1 + i] = *self.words.get(texts[i]).ok_or(18u32)?;
+                row[1 + i] = self.words.number(texts[i]).ok_or(18u32)?;
             }
         }
         let word_fits = m > 1 || RECORD * (row[1] as usize + 1) <= self.room.1;
@@ -140,20 +143,18 @@ impl<'a> Reader<'a> {
     }
 
     fn number(&mut self, text: &'a [u8]) -> i32 {
-        match self.words.entry(text) {
-            Entry::Occupied(word) => *word.get(),
-            Entry::Vacant(place) => {
-                let word = match text {
-                    b"<unk>" => 1,
-                    b"<s>" => 2,
-                    b"</s>" => 3,
-                    _ => self.next_word,
-                };
-                self.next_word += (word > 3) as i32;
-                self.texts.push((word, text));
-                *place.insert(word)
-            }
+        if let Some(word) = self.words.number(text) {
+            return word;
         }
+        let word = match text {
+            b"<unk>" => 1,
+            b"<s>" => 2,
+            b"</s>" => 3,
+            _ => self.next_word,
+        };
+        self.next_word += (word > 3) as i32;
+        self.words.add(word, text);
+        word
     }
 
     fn skip_empty(&mut self) {
@@ -222,6 +223,57 @@ impl<'a> Reader<'a> {
         self.rest = rest;
         (1..=LONGEST_TEXT).contains(&length).then_some(text)
     }
+}
+
+const FREE: u32 = u32::MAX;
+
+/// The texts with their numbers, and slots that have a text's place among them or are free: at least half of them are, and their number is a power of 2.
+struct Words<'a> {
+    slots: Vec<u32>,
+    texts: Vec<(i32, &'a [u8])>,
+}
+
+impl<'a> Words<'a> {
+    fn number(&self, text: &[u8]) -> Option<i32> {
+        let place = self.slots[self.slot(text)];
+        (place != FREE).then(|| self.texts[place as usize].0)
+    }
+
+    fn add(&mut self, word: i32, text: &'a [u8]) {
+        self.texts.push((word, text));
+        if 2 * self.texts.len() > self.slots.len() {
+            self.slots = vec![FREE; 2 * self.slots.len()];
+            for place in 0..self.texts.len() {
+                self.take_slot(place);
+            }
+        } else {
+            self.take_slot(self.texts.len() - 1);
+        }
+    }
+
+    fn take_slot(&mut self, place: usize) {
+        let slot = self.slot(self.texts[place].1);
+        self.slots[slot] = place as u32;
+    }
+
+    /// The slot that has the text, or that is free for it.
+    fn slot(&self, text: &[u8]) -> usize {
+        let mut slot = hash(text) as usize & (self.slots.len() - 1);
+        while self.slots[slot] != FREE && self.texts[self.slots[slot] as usize].1 != text {
+            slot = (slot + 1) & (self.slots.len() - 1);
+        }
+        slot
+    }
+}
+
+/// Eight bytes at a time.
+fn hash(text: &[u8]) -> u64 {
+    text.chunks(8).fold(text.len() as u64, |hash, chunk| {
+        let mut bytes = [0; 8];
+        bytes[..chunk.len()].copy_from_slice(chunk);
+        let product = (hash ^ u64::from_le_bytes(bytes)).wrapping_mul(0x9E37_79B9_7F4A_7C15);
+        product ^ product >> 32
+    })
 }
 
 #[cfg(test)]

@@ -5,7 +5,7 @@ pub mod Exchanges
 pub mod Stores
 pub mod Heaps
 pub mod Slices
-pub mod Parts
+pub mod Partitions
 pub mod Tags
 pub mod ListOrder
 pub mod Sorted
