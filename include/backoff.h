@@ -1,7 +1,7 @@
 /* backoff.h: back-off scoring over a double array, for C99 and C++: cc prog.c $(pkg-config --cflags --libs backoff)
  * The rule that scores a word is in docs/back-off.md.
  *
- * Lists. A point is 1/10,000 of a base-10 logarithm. A list has eight numbers to a row: m, five words oldest first
+ * Lists. A point is 1/1,000,000 of a base-10 logarithm. A list has eight numbers to a row: m, five words oldest first
  * (unused ones 0), log-probability p, back-off b. Words are 1 to 65,535: 1 is the unknown word, 2 is <s>, 3 is </s>.
  * Rows are numbered from 1. The order n is the m of the last row. Rows ascend strictly by m, then by last word, then by
  * the word before it, and so on. A row of two or more words needs the row without its first word and the row without
@@ -36,9 +36,10 @@
  * Saved arrays. Write the number of slots, base, check, and a checksum of them; each number as four bytes, lowest first,
  * so that every machine reads the file. After loading compare the checksum, then call backoff_unload. Its 0 proves that
  * the array holds an accepted list; only the checksum says that it is the list which you saved. check[0] says which
- * releases read the array: it is the order + 8 in all releases with this BACKOFF_VERSION_MAJOR. Every other number there
- * gives 11, also the order itself, which arrays had before there were versions: build such an array anew from its list.
- * The program's `backoff build` writes such a file; docs/command-line.md has its form, and examples/saved.c follows it.
+ * releases read the array: it is the order + 40 in all releases with this BACKOFF_VERSION_MAJOR. Every other number there
+ * gives 11, also the order + 8 of version 1 and the order itself, which arrays had before there were versions: build such
+ * an array anew from its list. The program's `backoff build` writes such a file; docs/command-line.md has its form, and
+ * examples/saved.c follows it.
  *
  * Threads. Calls may run at the same time if no slice that one of them writes is lent to another. So threads may share
  * one array for lookups, starts, runs, batches, fragments and unloading, each with its own slices to be written. */
@@ -54,9 +55,9 @@ extern "C" {
 #endif
 
 /* The version. All releases with the same major number have the calls, structs and numbers that stand here, and read each
- * other's arrays. A higher minor number means further calls or numbers. Where a call or a struct changes, or arrays get
- * another head (check[0]), the major number changes. */
-#define BACKOFF_VERSION_MAJOR 1
+ * other's lists and arrays. A higher minor number means further calls or numbers. Where a call or a struct changes, a
+ * point becomes another part of a logarithm, or arrays get another head (check[0]), the major number changes. */
+#define BACKOFF_VERSION_MAJOR 2
 #define BACKOFF_VERSION_MINOR 0
 #define BACKOFF_VERSION_PATCH 0
 
@@ -71,8 +72,8 @@ enum backoff_number {
                                     or work is shorter than the rows */
     BACKOFF_ROW_LENGTH = 3,      /* m is outside 1..5 */
     BACKOFF_ROW_WORDS = 4,       /* a used word is outside 1..65,535, or an unused one is not 0 */
-    BACKOFF_ROW_PROBABILITY = 5, /* p is outside -990,000..0; filling: that of a row that this row needs */
-    BACKOFF_ROW_BACKOFF = 6,     /* b is outside -990,000..990,000, or not 0 where m is the order */
+    BACKOFF_ROW_PROBABILITY = 5, /* p is outside -99,000,000..0; filling: that of a row that this row needs */
+    BACKOFF_ROW_BACKOFF = 6,     /* b is outside -99,000,000..99,000,000, or not 0 where m is the order */
     BACKOFF_ROW_ORDER = 7,       /* the row does not come after the row before it */
     BACKOFF_SHORTER_ROW = 8,     /* the row without its first or without its last word is missing; where filling follows:
                                     the row without its last word, or the row of its last word alone */
@@ -94,7 +95,7 @@ enum backoff_number {
     BACKOFF_ARPA_COUNT = 19,     /* a section of an ARPA text has more or fewer lines than its count says */
     BACKOFF_SENTENCE_ENDS = 20,  /* the end of a sentence of a batch is below the one before it, or past the words */
     BACKOFF_BAD_FRAGMENT = 21    /* kept is not the smaller of n-1 and count, the state is one that 16 refuses, or total is
-                                    further from 0 than count * n * 990,000 */
+                                    further from 0 than count * n * 99,000,000 */
 };
 
 /* Sizes and limits. */
@@ -108,9 +109,11 @@ enum backoff_limit {
     BACKOFF_SLOT_LIMIT = 1048576, /* the most slots of an array */
     BACKOFF_RECORD_BYTES = 64,    /* the bytes of a word's record in a store of texts */
     BACKOFF_TEXT_LIMIT = 63,      /* the most bytes of a word's text */
-    BACKOFF_LEAST_PROBABILITY = -990000,
-    BACKOFF_LEAST_BACKOFF = -990000,
-    BACKOFF_LARGEST_BACKOFF = 990000,
+    BACKOFF_LEAST_PROBABILITY = -99000000,
+    BACKOFF_LEAST_BACKOFF = -99000000,
+    BACKOFF_LARGEST_BACKOFF = 99000000,
+    BACKOFF_POINTS_PER_LOG = 1000000, /* the points of a base-10 logarithm of 1 */
+    BACKOFF_ORDER_HEAD = 40,          /* check[0] of an array is its order and this */
     BACKOFF_UNKNOWN_WORD = 1,
     BACKOFF_START_WORD = 2,      /* <s> */
     BACKOFF_END_WORD = 3,        /* </s> */
@@ -152,7 +155,7 @@ struct backoff_status backoff_check(const int32_t *table, size_t table_len);
  * Accepted: every slot of base and check is written; work[i - 1] is the slot of row i, and work is untouched past the
  * rows. The marker of row i is in slot base[work[i - 1]]: its check is p - 1, its base is 4 * b + 2 * e + f, where e is 1
  * if some row puts a further word in front of row i, and f is 1 if some row is row i followed by one more word. check[0]
- * is the order + 8, base[1] the number of rows.
+ * is the order + 40, base[1] the number of rows.
  * After 1 to 9: base, check and work are untouched.
  * After 10: every slot is free (base 0, check INT32_MIN); work is 0 for each row and untouched past the rows. */
 struct backoff_status backoff_build(const int32_t *table, size_t table_len, int32_t *base, size_t base_len, int32_t *check,
@@ -300,7 +303,8 @@ struct backoff_rows {
  *   \end\             ends the text
  * A row is p, a tab, as many words as its section says with one space between two, and, where it has one, a tab and b. A
  * missing b is 0. p and b are base-10 logarithms: a minus or none, one to three digits, and optionally a point with one to
- * seven digits; they are rounded to the nearest point, a half away from zero. A word is 1 to 63 bytes, all above the space.
+ * seven digits; they are rounded to the nearest point, so to six decimals, a half away from zero. A word is 1 to 63 bytes,
+ * all above the space.
  *
  * The words <unk>, <s> and </s> are 1, 2 and 3; the others count up from 4 as the one-word section brings them, and one
  * that comes again keeps its number. Record k of the store, the 64 bytes from 64 * k, is the length of the text of word k,
@@ -435,8 +439,8 @@ static inline const char *backoff_reason(uint32_t number) {
         "base and check differ in length, have fewer than 2 or more than 1,048,576 slots, or work is too short.",
         "The row's m is not between 1 and 5.",
         "A word of the row is not between 1 and 65,535, or an unused place is not 0.",
-        "The row's log-probability is not between -990,000 and 0.",
-        "The row's back-off is not between -990,000 and 990,000, or the row is of the longest and has one.",
+        "The row's log-probability is not between -99,000,000 and 0.",
+        "The row's back-off is not between -99,000,000 and 99,000,000, or the row is of the longest and has one.",
         "The row does not come after the row before it in list order.",
         "The row without this row's first word, or the one without its last word, is missing.",
         "Word 1, 2 or 3 has no row of one word.",

@@ -3,12 +3,12 @@
     >>> import backoff
     >>> model = backoff.Model("tests/irstlm/sample.arpa")
     >>> model.score("four five")
-    -0.65
+    -0.0065
     >>> model.points("four five")
     -6500
 
-A point is 1/10,000 of a base-10 logarithm. `points` and its companions are exact whole numbers; `score` and its
-companions are the same numbers divided by 10,000, as KenLM gives them. docs/python.md is the page of this module.
+A point is 1/1,000,000 of a base-10 logarithm. `points` and its companions are exact whole numbers; `score` and its
+companions are the same numbers divided by 1,000,000, as KenLM gives them. docs/python.md is the page of this module.
 
 A `Model` is not changed after it was read, so threads may share it; each needs its own `State`. The calls give up the
 interpreter's lock while they work.
@@ -26,13 +26,11 @@ from ctypes import c_bool, c_char_p, c_int64, c_size_t, c_uint32, c_uint64, c_vo
 from dataclasses import dataclass
 from typing import Iterable, Iterator, NamedTuple, Optional, Union
 
-__version__ = "1.0.0"
+__version__ = "2.0.0"
 __all__ = ["FullScoreReturn", "LanguageModel", "Model", "Refused", "Sheet", "State"]
 
 Text = Union[str, bytes]
 Path = Union[str, "os.PathLike[str]"]
-
-POINTS = 10_000  # the points of a base-10 logarithm of 1
 
 # Sizes and limits, as include/backoff.h has them.
 ROW_ITEMS = 8
@@ -44,13 +42,15 @@ RUN_LIMIT = 65_535
 SLOT_LIMIT = 1_048_576
 RECORD_BYTES = 64
 TEXT_LIMIT = 63
+POINTS_PER_LOG = 1_000_000
+ORDER_HEAD = 40
 UNKNOWN_WORD = 1
 END_WORD = 3
 UNKNOWN_LENGTH = 8
 
 MATCHED_LENGTH = 7  # the bits of a length byte that hold the matched length
 UNLISTED_WORD = 0  # a number that no list has; it is scored as the unknown word
-ORDER_HEAD = 8  # check[0] of an array is its order and this
+EARLIER_HEADS = {8: 1}  # what the arrays of earlier versions have as ORDER_HEAD, and the version
 
 # The array file: this first line, the version and five sizes, base, check, the texts, and a CRC-32 of all before it.
 FIRST_LINE = b"backoff\n"
@@ -290,6 +290,14 @@ def _array_file_fault(data: bytes) -> Optional[str]:
     return None
 
 
+def _earlier(head: int) -> str:
+    """What is said of an array of an earlier version, by the number that it has as check[0]."""
+    for offset, version in EARLIER_HEADS.items():
+        if 1 <= head - offset <= ORDER_LIMIT:
+            return f": version {version} wrote it, so it has to be built again from its ARPA file"
+    return ""
+
+
 def _read_array_file(path: str, data: bytes) -> _Contents:
     """The contents of an array file; unloading the array tells whether it holds a list."""
     fault = _array_file_fault(data)
@@ -301,7 +309,7 @@ def _read_array_file(path: str, data: bytes) -> _Contents:
     base.frombytes(data[_HEAD.size : checks])
     check.frombytes(data[checks:texts])
     if (check[0], base[1]) != (order + ORDER_HEAD, rows):
-        raise Refused(_REFUSALS[ARRAY_HEAD], ARRAY_HEAD, 0, path)
+        raise Refused(_REFUSALS[ARRAY_HEAD] + _earlier(check[0]), ARRAY_HEAD, 0, path)
     table, work = _zeros("i", ROW_ITEMS * rows), _zeros("I", rows)
     unloaded = _calls.backoff_unload(
         *base.buffer_info(), *check.buffer_info(), *table.buffer_info(), *work.buffer_info()
@@ -468,13 +476,13 @@ class Model:
                 yield word_points, length & MATCHED_LENGTH, bool(length & UNKNOWN_LENGTH)
 
     def score(self, sentence: Text, bos: bool = True, eos: bool = True) -> float:
-        """The base-10 logarithm of a sentence's probability: its points divided by 10,000."""
-        return self.points(sentence, bos, eos) / POINTS
+        """The base-10 logarithm of a sentence's probability: its points divided by 1,000,000."""
+        return self.points(sentence, bos, eos) / POINTS_PER_LOG
 
     def full_scores(self, sentence: Text, bos: bool = True, eos: bool = True) -> Iterator[tuple[float, int, bool]]:
         """`full_points` with logarithms in place of points."""
         for points, length, unknown in self.full_points(sentence, bos, eos):
-            yield points / POINTS, length, unknown
+            yield points / POINTS_PER_LOG, length, unknown
 
     def perplexity(self, sentence: Text) -> float:
         """10 to the power of minus the score divided by the number of words, </s> among them."""
@@ -505,12 +513,12 @@ class Model:
 
     def BaseScore(self, in_state: State, word: Text, out_state: State) -> float:
         """`BasePoints` as a base-10 logarithm."""
-        return self.BasePoints(in_state, word, out_state) / POINTS
+        return self.BasePoints(in_state, word, out_state) / POINTS_PER_LOG
 
     def BaseFullScore(self, in_state: State, word: Text, out_state: State) -> FullScoreReturn:
         """`BaseScore` with the matched length, and whether the word is unknown."""
         points, length = self._step(in_state, word, out_state)
-        return FullScoreReturn(points / POINTS, length & MATCHED_LENGTH, bool(length & UNKNOWN_LENGTH))
+        return FullScoreReturn(points / POINTS_PER_LOG, length & MATCHED_LENGTH, bool(length & UNKNOWN_LENGTH))
 
     def sheet(self, sentences: Iterable[Text]) -> Sheet:
         """The sheet of sentences, each scored after <s> and closed with </s>.

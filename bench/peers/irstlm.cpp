@@ -13,7 +13,7 @@
 namespace {
 
 const char *const ARPA_FILE = "target/peers/list.arpa";
-const double POINTS = 10000;
+const double POINTS = 1000000;
 
 struct scorer {
     irstlm::lmtable table;
@@ -28,11 +28,11 @@ std::string text_of(uint32_t word)
 
 void write_row(FILE *file, const int32_t *cells, int order)
 {
-    std::fprintf(file, "%.4f\t", cells[6] / POINTS);
+    std::fprintf(file, "%.6f\t", cells[6] / POINTS);
     for (int i = 1; i <= cells[0]; i++)
         std::fprintf(file, "%s%s", i == 1 ? "" : " ", text_of(cells[i]).c_str());
     if (cells[0] < order)
-        std::fprintf(file, "\t%.4f", cells[7] / POINTS);
+        std::fprintf(file, "\t%.6f", cells[7] / POINTS);
     std::fprintf(file, "\n");
 }
 

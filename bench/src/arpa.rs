@@ -212,7 +212,7 @@ impl<'a> Reader<'a> {
         let negative = self.byte(b'-').is_some();
         let (whole, _) = self.digits(3)?;
         let (decimals, digits) = if self.byte(b'.').is_some() { self.digits(7)? } else { (0, 0) };
-        let points = ((whole * UNITS[0] + decimals * UNITS[digits] + 500) / 1_000) as i32;
+        let points = ((whole * UNITS[0] + decimals * UNITS[digits] + 5) / 10) as i32;
         Some(if negative { -points } else { points })
     }
 

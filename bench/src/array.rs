@@ -5,7 +5,7 @@ use backoff::{Found, Status};
 
 const FREE: i32 = i32::MIN;
 const MOST_SLOTS: usize = 1_048_576;
-const HEAD: i32 = 8;
+const HEAD: i32 = 40;
 const ACCEPTED: Status = Status { number: 0, place: 0 };
 
 /// Builds the double array of a list: 1, 2, row by row 3 to 8, 9, 10.

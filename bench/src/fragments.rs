@@ -109,7 +109,7 @@ mod tests {
                 if random.chance(30) {
                     fragment.kept = random.below(4) as u32;
                     fragment.state[random.below(9)] = random.between(-2, 5);
-                    fragment.total = random.pick(&[i64::MIN, -5_000_000, 0, 990_000]);
+                    fragment.total = random.pick(&[i64::MIN, -500_000_000, 0, 99_000_000]);
                 }
                 fragment
             });

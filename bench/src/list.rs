@@ -5,8 +5,8 @@ use backoff::Status;
 
 pub const MOST_ROWS: usize = 65_535;
 pub const LARGEST_WORD: i32 = 65_535;
-pub const LOWEST_P: i32 = -990_000;
-pub const LARGEST_B: i32 = 990_000;
+pub const LOWEST_P: i32 = -99_000_000;
+pub const LARGEST_B: i32 = 99_000_000;
 
 /// The verdict on a list: 1, then row by row 3 to 8, then 9.
 pub fn check(table: &[i32]) -> Status {

@@ -78,7 +78,7 @@ const BAR: usize = 24;
 /// Bars, in a group for each list: the longest is the fastest.
 fn draw_words(drawing: &mut Drawing, words: &Table) -> Option<()> {
     drawing.text("word", 28, HEADING, "Million words a second");
-    drawing.text("small", 28, HEADING + 18, "Lists of 65,535 rows; every scorer gives the same points");
+    drawing.text("small", 28, HEADING + 18, "Lists of 65,535 rows; every scorer scores the same words");
     let highest = words.lines.iter().flat_map(|line| &line.1).copied().fold(0.0, f64::max);
     let step = tick(highest)?;
     let ticks = (highest / step).ceil() as usize;

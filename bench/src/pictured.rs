@@ -20,6 +20,10 @@ const CALLS: [&str; 3] = ["check", "build", "unload"];
 /// No word of the lists is larger, so that Darts takes each as one item of a key; the text below says it too.
 const LARGEST_ITEM: i32 = 4_000;
 
+/// The points that a word's score by irstlm may be from ours: it adds up to five numbers, and holds each in 24 bits, which near 99 is off by 4 points at
+/// most.
+const FLOATS: i32 = 20;
+
 /// How long each list is timed, in seconds.
 const SCORED: u64 = 3;
 const GROWN: u64 = 1;
@@ -32,13 +36,13 @@ pub fn print() {
 
 const WORDS: &str = "## Words a second
 
-Million words a second over lists of 65,535 rows and at most 4,000 words, which Darts takes. All score the same 65,535 words, given as numbers, from start; their points and matched
-lengths must be equal. They are timed in turns, and the fastest round of each counts.
+Million words a second over lists of 65,535 rows and at most 4,000 words, which Darts takes. All score the same 65,535 words, given as numbers, from start; their matched
+lengths must be equal, and their points but for irstlm's. They are timed in turns, and the fastest round of each counts.
 
 - Darts is the double-array trie of Debian's package `darts`. A key is the words of a row, newest word first, each of them one item; on larger words Darts' builder may write out of bounds. The
   scorer over it (`bench/peers/darts.cpp`) carries the sums of the back-offs, as our fastest Rust does. Darts tests no bounds.
 - irstlm is asked for one word after the other through its own library (`bench/peers/irstlm.cpp`), with a context of the words that it matched. Reading the list and looking up the
-  words' texts are not timed. Its logarithms are floating-point numbers; rounded to points they are ours.
+  words' texts are not timed. Its logarithms are floating-point numbers of 24 bits: a word's may be 20 points from ours.
 - HashMap is Rust's own map, with the rows in it. Its scorer backs off by the rule and carries no back-offs.
 ";
 
@@ -80,7 +84,8 @@ fn words_a_second(list: &List) -> [f64; SCORERS.len()] {
     assert!(first == second && first == fourth, "the scorers agree");
     // irstlm does not tell which rows are extended to the left.
     first.lengths.iter_mut().for_each(|length| *length &= 15);
-    assert!(first == third, "irstlm agrees");
+    let distance = first.points.iter().zip(&third.points).map(|(ours, irstlm)| (ours - irstlm).abs()).max();
+    assert!(first.lengths == third.lengths && distance <= Some(FLOATS), "irstlm agrees");
     seconds.map(|seconds| text.len() as f64 / seconds)
 }
 

@@ -411,7 +411,7 @@ pub fn score_fragment(base: &[i32], check: &[i32], words: &[u32]) -> Joined {
 /// more, else what those points left.
 ///
 /// Refusals: 11; 21 with 1 or 2, where the first or second keeps another number of words than the smaller of n − 1 and its count, has a state that 16 refuses, or a
-/// total further from 0 than its count times n times 990,000; 14, where they have more than 65,535 words together; 12 with 0. [`Fragment::join`] is the
+/// total further from 0 than its count times n times 99,000,000; 14, where they have more than 65,535 words together; 12 with 0. [`Fragment::join`] is the
 /// same as a `Result`.
 pub fn join_fragments(base: &[i32], check: &[i32], one: Fragment, two: Fragment) -> Joined {
     unsafe { raw::backoff_join_fragments(base.as_ptr(), base.len(), check.as_ptr(), check.len(), one, two) }
@@ -495,7 +495,7 @@ pub fn unload(base: &[i32], check: &[i32], table: &mut [i32], work: &mut [u32]) 
 /// let read = backoff::read_arpa(text, false, &mut table, &mut store);
 /// assert_eq!(read, backoff::Rows { number: 0, rows: 5, place: 0 });
 /// table.truncate(8 * read.rows as usize);
-/// assert_eq!(table[8 * 3..8 * 4], [1, 4, 0, 0, 0, 0, -6_000, -2_000]);
+/// assert_eq!(table[8 * 3..8 * 4], [1, 4, 0, 0, 0, 0, -600_000, -200_000]);
 /// assert_eq!(backoff::check(&table).number, 0);
 ///
 /// // Word 4 is `good`; `bad` has no number.

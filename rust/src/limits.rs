@@ -18,6 +18,16 @@ pub const SLOT_LIMIT: usize = 1_048_576;
 pub const RECORD_BYTES: usize = 64;
 /// The most bytes of a word's text.
 pub const TEXT_LIMIT: usize = 63;
+/// The least log-probability of a row.
+pub const LEAST_PROBABILITY: i32 = -99_000_000;
+/// The least back-off of a row.
+pub const LEAST_BACKOFF: i32 = -99_000_000;
+/// The largest back-off of a row.
+pub const LARGEST_BACKOFF: i32 = 99_000_000;
+/// The points of a base-10 logarithm of 1.
+pub const POINTS_PER_LOG: i32 = 1_000_000;
+/// `check[0]` of an array is its order and this.
+pub const ORDER_HEAD: i32 = 40;
 /// `</s>`, which ends a sentence.
 pub const END_WORD: u32 = 3;
 /// Added to the length byte of an unknown word.

@@ -14,6 +14,9 @@ use tests::reference::list::{rows, ACCEPTED, MOST_ROWS};
 /// The bytes before the array: the first line and six numbers.
 const HEAD: usize = 32;
 
+/// What is told of an array whose first slots are not as a build writes them.
+const OTHER_HEAD: &str = "refused by 11: base and check do not begin like an array of this version.";
+
 /// CRC-32 by its definition, bit by bit.
 fn checksum(bytes: &[u8]) -> u32 {
     let mut sum = u32::MAX;
@@ -271,7 +274,7 @@ fn damaged_arrays() {
             refusals[number as usize] += 1;
             let told = match number {
                 0 => continue,
-                11 => "refused by 11: base and check do not begin like an array of this version.",
+                11 => OTHER_HEAD,
                 12 => "refused by 12: The array is damaged: a node has no p and b in range, or the rows are not an accepted list.",
                 _ => "the head says ",
             };
@@ -279,6 +282,24 @@ fn damaged_arrays() {
         }
     }
     assert!(refusals[11] > 10 && refusals[12] > 10, "{refusals:?}");
+}
+
+/// An array of version 1, whose head was the order and 8, is told to be one; any other head is not.
+#[test]
+fn heads_of_earlier_versions() {
+    let file = built(SAMPLE.as_bytes(), "");
+    let slots = u32::from_le_bytes(file[24..28].try_into().unwrap()) as usize;
+    let with = |head: i32| {
+        let mut bytes = file[..file.len() - 4].to_vec();
+        bytes[HEAD + 4 * slots..][..4].copy_from_slice(&head.to_le_bytes());
+        refused(&closed(&bytes))
+    };
+    for head in 9..=13 {
+        assert_eq!(with(head), format!("{OTHER_HEAD} Version 1 wrote it."), "{head}");
+    }
+    for head in [3, 8, 14, 19, 27, 40, 46, i32::MIN, i32::MAX] {
+        assert_eq!(with(head), OTHER_HEAD, "{head}");
+    }
 }
 
 /// A build that fails leaves nothing, and a file that was there as it was.

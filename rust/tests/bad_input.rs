@@ -160,7 +160,7 @@ fn outputs_that_take_nothing() {
         assert_eq!(told, "backoff: standard output: No space left on device (os error 28)\n", "{command}");
     }
     let first = folder.shell("{ backoff query m text; echo $? >status; } | head -n 1").text();
-    assert_eq!(first, "four=4 2 -0.4\tfive=5 3 -0.1\t</s>=3 2 -0.15\tTotal: -0.65 OOV: 0\n");
+    assert_eq!(first, "four=4 2 -0.004\tfive=5 3 -0.001\t</s>=3 2 -0.0015\tTotal: -0.0065 OOV: 0\n");
     assert_eq!(folder.get("status"), b"0\n");
     // Without standard output and error there is still the status.
     assert_eq!(folder.shell("backoff check none 2>/dev/full").status, Some(1));

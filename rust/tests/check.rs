@@ -89,16 +89,16 @@ fn random_lists() {
 fn lines_not_in_form() {
     let not_in_form = "refused by 17: A line of the ARPA text is not in form, or a line is missing at its end.\n  ";
     let cases = [
-        (sample_with("-0.6\tfour", "-0.6 four"), "line 10: -0.6 four\\t-0.2\n  wrong: `-0.6 four` is no logarithm in form"),
-        (sample_with("-0.6\tfour", "-6e-1\tfour"), "line 10: -6e-1\\tfour\\t-0.2\n  wrong: `-6e-1` is no logarithm in form"),
-        (sample_with("-0.2\n", "-0.20000001\n"), "line 10: -0.6\\tfour\\t-0.20000001\n  wrong: `-0.20000001` is no logarithm in form"),
-        (sample_with("-2\t<unk>", "-2"), "line 9: -2\n  wrong: the line has 0 tabs"),
-        (sample_with("\t-0.2\n", "\t-0.2\t\n"), "line 10: -0.6\\tfour\\t-0.2\\t\n  wrong: the line has 3 tabs"),
-        (sample_with("four five", "four  five"), "line 14: -0.3\\tfour  five\n  wrong: the words are not parted by one space each"),
-        (sample_with("four five", "four"), "line 14: -0.3\\tfour\n  wrong: the number of words is 1, not 2"),
+        (sample_with("-0.006\tfour", "-0.006 four"), "line 10: -0.006 four\\t-0.002\n  wrong: `-0.006 four` is no logarithm in form"),
+        (sample_with("-0.006\tfour", "-6e-3\tfour"), "line 10: -6e-3\\tfour\\t-0.002\n  wrong: `-6e-3` is no logarithm in form"),
+        (sample_with("-0.002\n", "-0.00200001\n"), "line 10: -0.006\\tfour\\t-0.00200001\n  wrong: `-0.00200001` is no logarithm in form"),
+        (sample_with("-0.02\t<unk>", "-0.02"), "line 9: -0.02\n  wrong: the line has 0 tabs"),
+        (sample_with("\t-0.002\n", "\t-0.002\t\n"), "line 10: -0.006\\tfour\\t-0.002\\t\n  wrong: the line has 3 tabs"),
+        (sample_with("four five", "four  five"), "line 14: -0.003\\tfour  five\n  wrong: the words are not parted by one space each"),
+        (sample_with("four five", "four"), "line 14: -0.003\\tfour\n  wrong: the number of words is 1, not 2"),
         (
             sample_with("\tfour\t", &format!("\t{}\t", "f".repeat(64))),
-            &format!("line 10: -0.6\\t{}\\t-0.2\n  wrong: a word has 64 bytes", "f".repeat(64)),
+            &format!("line 10: -0.006\\t{}\\t-0.002\n  wrong: a word has 64 bytes", "f".repeat(64)),
         ),
         (sample_with("ngram 1=5", "ngram  1=5"), "line 2: ngram  1=5\n  wrong: this is no count of the rows of length 1"),
         (sample_with("ngram 2=3", "ngram 3=3"), "line 3: ngram 3=3\n  wrong: this is no count of the rows of length 2"),
@@ -148,7 +148,7 @@ fn lines_that_may_come() {
 #[test]
 fn words_and_counts() {
     let unlisted = "refused by 18: A word of the ARPA text has no line in the section of one word.
-  line 16: -0.15\\tfive six
+  line 16: -0.0015\\tfive six
   wrong: no line of the section `\\1-grams:` has `six`
   to mend it: add such a line and count it, or take this row away
 ";
@@ -166,18 +166,18 @@ fn words_and_counts() {
 /// 5, 6 and 7 name the row in list order, and its line in the file.
 #[test]
 fn rows_out_of_range_or_twice() {
-    let probability = "refused by 5: The row's log-probability is not between -990,000 and 0.
-  row 4 in list order, line 10: 0.6\\tfour\\t-0.2
+    let probability = "refused by 5: The row's log-probability is not between -99,000,000 and 0.
+  row 4 in list order, line 10: 0.006\\tfour\\t-0.002
   to mend it: give the row a log-probability from -99 to 0
 ";
-    assert_eq!(refused(sample_with("-0.6\tfour", "0.6\tfour")), probability);
-    let backoff = "refused by 6: The row's back-off is not between -990,000 and 990,000, or the row is of the longest and has one.
-  row 9 in list order, line 19: -0.1\\t<s> four five\\t-0.2
+    assert_eq!(refused(sample_with("-0.006\tfour", "0.006\tfour")), probability);
+    let backoff = "refused by 6: The row's back-off is not between -99,000,000 and 99,000,000, or the row is of the longest and has one.
+  row 9 in list order, line 19: -0.001\\t<s> four five\\t-0.2
   to mend it: give the row a back-off from -99 to 99, and none where no row is longer
 ";
     assert_eq!(refused(sample_with("<s> four five", "<s> four five\t-0.2")), backoff);
     let twice = "refused by 7: The row does not come after the row before it in list order.
-  row 8 in list order, line 16: -0.15\\tfour five
+  row 8 in list order, line 16: -0.0015\\tfour five
   wrong: line 14 has the same words
   to mend it: take one of the two away
 ";
@@ -196,7 +196,7 @@ fn rows_in_any_order() {
         let mut printed = arpa::print(&list.rows, &list.texts);
         printed.sections[1..].iter_mut().for_each(|section| arpa::shuffle(random, section));
         let lines = printed.lines();
-        let line = lines.iter().position(|line| line.starts_with(b"0.0001\t")).unwrap();
+        let line = lines.iter().position(|line| line.starts_with(b"0.000001\t")).unwrap();
         let told = refused(arpa::bytes(&lines));
         let text = String::from_utf8_lossy(&lines[line]).replace('\t', "\\t").replace('\u{7f}', "\\u{7f}");
         let expected = format!("row {} in list order, line {}: {text}", bad + 1, line + 1);
@@ -210,7 +210,7 @@ fn missing_rows() {
     let told = |missing: &str, mend: &str| {
         format!(
             "refused by 8: The row without this row's first word, or the one without its last word, is missing.
-  row 8 in list order, line 18: -0.1\\t<s> four five
+  row 8 in list order, line 18: -0.001\\t<s> four five
   wrong: there is no row `{missing}`
   to mend it: {mend}
 "
@@ -253,7 +253,7 @@ fn too_many_rows() {
     assert_eq!(refused(one_word_rows(65_536)), format!("{reason} 65536 rows\n{prune}"));
     assert_eq!(refused(one_word_rows(0)), format!("{reason} 0 rows\n"));
     let told = refused(one_word_rows(70_000));
-    let line = "  line 65541: -1.0000\\tw65537\n  wrong: there are more rows than the 65,535 that a list may have\n";
+    let line = "  line 65541: -0.010000\\tw65537\n  wrong: there are more rows than the 65,535 that a list may have\n";
     assert_eq!(told, format!("refused by 15: A slice to be written is too short.\n{line}{prune}"));
 }
 
@@ -277,9 +277,9 @@ fn too_many_slots() {
 /// Filling is refused where an added row's p leaves its range, and where there are too many rows then.
 #[test]
 fn refused_filling() {
-    let text = without("four five", 2).replace("-0.9\tfive\t-0.1", "-99\tfive\t-0.1");
-    let told = "refused by 5: The row's log-probability is not between -990,000 and 0.
-  row 8 in list order, line 18: -0.1\\t<s> four five
+    let text = without("four five", 2).replace("-0.009\tfive", "-99\tfive");
+    let told = "refused by 5: The row's log-probability is not between -99,000,000 and 0.
+  row 8 in list order, line 18: -0.001\\t<s> four five
   wrong: a row that it needs is missing, and the points that the list gives it are above 0 or below -99
   to mend it: add that row, or take this one away
 ";

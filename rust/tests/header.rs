@@ -35,10 +35,19 @@ fn limits() {
         ("END_WORD", END_WORD as usize),
         ("UNKNOWN_LENGTH", UNKNOWN_LENGTH as usize),
         ("EXTENDED_LENGTH", EXTENDED_LENGTH as usize),
-    ];
+    ]
+    .map(|(name, number)| (name, number as i64));
+    let points = [
+        ("LEAST_PROBABILITY", LEAST_PROBABILITY),
+        ("LEAST_BACKOFF", LEAST_BACKOFF),
+        ("LARGEST_BACKOFF", LARGEST_BACKOFF),
+        ("POINTS_PER_LOG", POINTS_PER_LOG),
+        ("ORDER_HEAD", ORDER_HEAD),
+    ]
+    .map(|(name, number)| (name, i64::from(number)));
     let header = numbers("backoff_limit");
-    for (name, number) in ours {
-        assert_eq!(header.get(name), Some(&(number as i64)), "{name}");
+    for (name, number) in ours.into_iter().chain(points) {
+        assert_eq!(header.get(name), Some(&number), "{name}");
     }
 }
 

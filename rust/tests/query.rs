@@ -1,8 +1,7 @@
-//! `backoff query`: its lines, beside a second scorer over the plain list, the C library's `%g` and a second computation of perplexity.
+//! `backoff query`: its lines, beside a second scorer over the plain list and a second computation of perplexity.
 
 mod support;
 
-use std::ffi::{c_char, c_double, c_int};
 use std::io::{BufRead, BufReader, Write};
 use std::process::{Command, Stdio};
 use std::sync::mpsc::channel;
@@ -12,16 +11,10 @@ use tests::lists;
 use tests::random::Random;
 use tests::reference::rule::{Rule, Scored, SENTENCE_END, SENTENCE_START};
 
-extern "C" {
-    fn snprintf(text: *mut c_char, size: usize, format: *const c_char, ...) -> c_int;
-}
-
-/// A number as C prints it by `%g`, which is what C++ streams print.
-fn as_c_prints(number: f64) -> String {
-    let mut text = [0u8; 40];
-    // SAFETY: the buffer has as many bytes as is said, and the format takes one double.
-    let length = unsafe { snprintf(text.as_mut_ptr().cast(), text.len(), c"%g".as_ptr(), number as c_double) };
-    String::from_utf8_lossy(&text[..length as usize]).into_owned()
+/// Points as a logarithm: six decimals without the zeros behind the last digit.
+fn logarithm(points: i64) -> String {
+    let digits = format!("{:.6}", points as f64 / 1e6);
+    digits.trim_end_matches('0').trim_end_matches('.').to_string()
 }
 
 /// What is asked for.
@@ -48,7 +41,7 @@ impl Form {
         if self.points {
             points.to_string()
         } else {
-            as_c_prints(points as f64 / 10_000.0)
+            logarithm(points)
         }
     }
 }
@@ -115,7 +108,7 @@ fn compare_summary(summary: &str, sentences: &[Vec<Word>]) {
     assert_eq!(numbers[2..], [unknown.to_string(), words.len().to_string()]);
     for (printed, with_unknown) in [(numbers[0], true), (numbers[1], false)] {
         let logs: Vec<f64> =
-            words.iter().filter(|scored| with_unknown || !scored.unknown).map(|scored| scored.points as f64 / 1e4 * 10f64.ln()).collect();
+            words.iter().filter(|scored| with_unknown || !scored.unknown).map(|scored| scored.points as f64 / 1e6 * 10f64.ln()).collect();
         let expected = (-logs.iter().sum::<f64>() / logs.len() as f64).exp();
         let printed: f64 = printed.parse().unwrap();
         assert!(printed == expected || (printed / expected - 1.0).abs() < 1e-5, "{printed} {expected}");
@@ -168,12 +161,12 @@ fn lines_of_the_sample() {
     let folder = Folder::new();
     folder.put("sample", SAMPLE);
     let expected = "\
-four=4 2 -0.4\tfive=5 3 -0.1\t</s>=3 2 -0.15\tTotal: -0.65 OOV: 0
-five=5 1 -1.2\tfour=4 1 -0.7\t</s>=3 1 -1.2\tTotal: -3.1 OOV: 0
-nine=0 1 -2.3\t</s>=3 1 -1\tTotal: -3.3 OOV: 1
-</s>=3 1 -1.3\tTotal: -1.3 OOV: 0
-Perplexity including OOVs:\t8.46794
-Perplexity excluding OOVs:\t5.70493
+four=4 2 -0.004\tfive=5 3 -0.001\t</s>=3 2 -0.0015\tTotal: -0.0065 OOV: 0
+five=5 1 -0.012\tfour=4 1 -0.007\t</s>=3 1 -0.012\tTotal: -0.031 OOV: 0
+nine=0 1 -0.023\t</s>=3 1 -0.01\tTotal: -0.033 OOV: 1
+</s>=3 1 -0.013\tTotal: -0.013 OOV: 0
+Perplexity including OOVs:\t1.02159
+Perplexity excluding OOVs:\t1.01757
 OOVs:\t1
 Tokens:\t9
 ";
@@ -260,9 +253,9 @@ fn marks_within_a_line() {
     let folder = Folder::new();
     folder.put("sample", SAMPLE);
     let expected = "\
-<s>=2 1 -99.3\tfour=4 2 -0.4\t</s>=3 1 -1.25\tTotal: -100.95 OOV: 0
-<unk>=0 1 -2.3\t</s>=3 1 -1\tTotal: -3.3 OOV: 1
-four=4 2 -0.4\t</s>=3 1 -1.25\tfour=4 2 -0.4\t</s>=3 1 -1.25\tTotal: -3.3 OOV: 0
+<s>=2 1 -0.993\tfour=4 2 -0.004\t</s>=3 1 -0.0125\tTotal: -1.0095 OOV: 0
+<unk>=0 1 -0.023\t</s>=3 1 -0.01\tTotal: -0.033 OOV: 1
+four=4 2 -0.004\t</s>=3 1 -0.0125\tfour=4 2 -0.004\t</s>=3 1 -0.0125\tTotal: -0.033 OOV: 0
 ";
     let printed = folder.run_on("query sample", b"<s> four\n<unk>\nfour </s> four\n").text();
     assert_eq!(printed.lines().take(3).map(|line| format!("{line}\n")).collect::<String>(), expected);
@@ -296,7 +289,7 @@ fn answers_line_by_line() {
     for _ in 0..3 {
         typed.write_all(b"four five\n").unwrap();
         let line = receiver.recv_timeout(Duration::from_secs(20)).expect("an answer");
-        assert_eq!(line, "four=4 2 -0.4\tfive=5 3 -0.1\t</s>=3 2 -0.15\tTotal: -0.65 OOV: 0");
+        assert_eq!(line, "four=4 2 -0.004\tfive=5 3 -0.001\t</s>=3 2 -0.0015\tTotal: -0.0065 OOV: 0");
     }
     drop(typed);
     assert!(child.wait().unwrap().success());

@@ -2,9 +2,9 @@
 #include "test.h"
 
 #define COUNTS "\\data\\\nngram 1=5\nngram 2 = 3\nngram 3= 1\n"
-#define ONE_WORD "\\1-grams:\n-1\t</s>\n-99\t<s>\t-0.3\n-2\t<unk>\n-0.6\tfour\t-0.2\n-0.9\tfive\t-0.1\n"
-#define TWO_WORDS "\\2-grams:\n-0.3\tfour five\n-0.4\t<s> four\t-0.05\n-0.15\tfive </s>\n"
-#define THREE_WORDS "\\3-grams:\n-0.1\t<s> four five\n"
+#define ONE_WORD "\\1-grams:\n-0.01\t</s>\n-0.99\t<s>\t-0.003\n-0.02\t<unk>\n-0.006\tfour\t-0.002\n-0.009\tfive\t-0.001\n"
+#define TWO_WORDS "\\2-grams:\n-0.003\tfour five\n-0.004\t<s> four\t-0.0005\n-0.0015\tfive </s>\n"
+#define THREE_WORDS "\\3-grams:\n-0.001\t<s> four five\n"
 #define END "\\end\\\n"
 
 enum { ITEMS = 80, BYTES = 7 * BACKOFF_RECORD_BYTES };
@@ -58,7 +58,7 @@ int main(void) {
     expect_refused("no word 1", "\\data\\\nngram 1=2\n\\1-grams:\n-1\t<s>\n-1\t</s>\n" END, ITEMS, BYTES,
                    BACKOFF_RESERVED_WORD, 0);
     const char *pruned = "\\data\\\nngram 1=5\nngram 2=2\nngram 3=1\n" ONE_WORD
-                         "\\2-grams:\n-0.4\t<s> four\t-0.05\n-0.15\tfive </s>\n" THREE_WORDS END;
+                         "\\2-grams:\n-0.004\t<s> four\t-0.0005\n-0.0015\tfive </s>\n" THREE_WORDS END;
     expect_refused("a pruned list", pruned, ITEMS, BYTES, BACKOFF_SHORTER_ROW, 8);
     to_be_filled = true;
     expect("a pruned list, to be filled", read_in(pruned, ITEMS, BYTES).rows == 8);

@@ -2,7 +2,7 @@
 #include "fuzz.h"
 #include <stdio.h>
 
-enum { ROOM_FOR_TEXT = 1 << 20, MOST_LINES = 1 << 12, LOG_UNIT = 1000 };
+enum { ROOM_FOR_TEXT = 1 << 20, MOST_LINES = 1 << 12, LOG_UNIT = 10 };
 
 /* The text that is being written. */
 static uint8_t written[ROOM_FOR_TEXT];
@@ -41,7 +41,7 @@ static void put_number(uint64_t number, int digits) {
 /* A logarithm that is rounded to these points, in any of its spellings; those at a half away from zero are frequent. */
 static void put_log(int32_t points) {
     uint64_t size = (uint64_t)(points < 0 ? -(int64_t)points : points) * LOG_UNIT;
-    uint64_t units = chance(30) ? size : chance(40) && size > 0 ? size - 500 : chance(50) ? size + 499 : size + below(500);
+    uint64_t units = chance(30) ? size : chance(40) && size > 0 ? size - 5 : chance(50) ? size + 4 : size + below(5);
     uint64_t whole = units / 10000000, decimals = units % 10000000;
     int digits = 7;
     put(odd("+"));
@@ -148,7 +148,7 @@ static size_t put_section(struct slice table, int32_t m, enum looks looks) {
         memcpy(row, row_of(table, order[i]), sizeof row);
         put_row(row, looks);
         if (below(150) == 0) {
-            row[6] = chance(50) ? 10000 : -(int32_t)below(990000);
+            row[6] = chance(50) ? 1000000 : -(int32_t)below(99000000);
             put_row(row, looks);
             doubled++;
         }

@@ -37,17 +37,15 @@ static bool is_digit(uint8_t byte) { return byte >= '0' && byte <= '9'; }
 
 /* ---- other texts */
 
-/* A 5 in the fifth decimal with nothing but zeros behind it becomes a 4. */
+/* A 5 in the seventh decimal becomes a 4. */
 static void halve_toward_zero(const uint8_t *text, const uint8_t *end) {
     put(text, end);
-    for (size_t i = 0; i + 6 < length; i++) {
-        size_t last = i + 6;
-        if (other[i] != '.' || other[i + 5] != '5')
-            continue;
-        while (last < length && other[last] == '0')
-            last++;
-        if (last < length && !is_digit(other[last]))
-            other[i + 5] = '4';
+    for (size_t i = 0; i + 7 < length; i++) {
+        size_t digits = 0;
+        while (digits < 7 && other[i] == '.' && is_digit(other[i + 1 + digits]))
+            digits++;
+        if (digits == 7 && other[i + 7] == '5')
+            other[i + 7] = '4';
     }
 }
 
@@ -208,6 +206,9 @@ static void spoil_refusal(struct backoff_rows *rows, int32_t *table, size_t tabl
         rows->rows = 1;
 }
 
+/* Points of a log that is rounded to four decimals. */
+static int32_t four_decimals(int32_t points) { return (points < 0 ? points - 50 : points + 50) / 100 * 100; }
+
 static void spoil_reading(struct backoff_rows *rows, int32_t *table, size_t table_len, uint8_t *store, size_t store_len) {
     for (size_t at = 0; has("arpa-cuts-texts-at-62-bytes") && at + 64 <= store_len; at += 64)
         if (store[at] == 63) {
@@ -228,6 +229,10 @@ static void spoil_reading(struct backoff_rows *rows, int32_t *table, size_t tabl
         rows->rows++;
     if (has("arpa-leaves-its-own-notes-in-a-row") && table_len > 2)
         table[2] = 1;
+    for (size_t i = 0; has("arpa-rounds-to-four-decimals") && i < rows->rows; i++) {
+        table[8 * i + 6] = four_decimals(table[8 * i + 6]);
+        table[8 * i + 7] = four_decimals(table[8 * i + 7]);
+    }
 }
 
 struct backoff_rows __wrap_backoff_arpa(const uint8_t *text, size_t text_len, bool to_be_filled, int32_t *table,

@@ -1,4 +1,4 @@
-/* What request T-02 of document 02 says of an ARPA text, in its own words. The text is read byte by byte, and the words are
+/* What requests T-02 and T-08 of document 02 say of an ARPA text, in their own words. The text is read byte by byte, and the words are
  * looked for in the store itself. */
 #include "fuzz.h"
 
@@ -48,7 +48,7 @@ static size_t take_digits(struct line *line, size_t most, int64_t *value) {
 }
 
 /* "An optional minus, one to three digits and optionally a point with one to seven digits, rounded to the nearest point, a
- * half away from zero." */
+ * half away from zero." "ARPA logs round to six decimals." */
 static bool take_log(struct line *line, int32_t *points) {
     bool negative = take(line, "-");
     int64_t whole, decimals = 0;
@@ -61,7 +61,7 @@ static bool take_log(struct line *line, int32_t *points) {
         for (; taken < 7; taken++)
             decimals *= 10;
     }
-    int64_t size = 10000 * whole + decimals / 1000 + (decimals % 1000 >= 500 ? 1 : 0);
+    int64_t size = 1000000 * whole + decimals / 10 + (decimals % 10 >= 5 ? 1 : 0);
     *points = (int32_t)(negative ? -size : size);
     return true;
 }

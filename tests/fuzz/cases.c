@@ -263,9 +263,9 @@ struct arrays other_arrays(struct slice table) {
         slots = 2 * slots;
     if (chance(90))
         damage_arrays(a.base, a.check);
-    /* The head that arrays had before T-01. */
+    /* A head that arrays had before T-08, or before T-01. */
     if (chance(5) && is_head(a.base, a.check))
-        ints(a.check)[0] -= HEAD;
+        ints(a.check)[0] -= chance(70) ? HEAD - OLDER_HEAD : HEAD;
     return a;
 }
 

@@ -59,22 +59,24 @@ static int32_t between(int32_t least, int32_t most) { return least + (int32_t)be
 /* Limits of every range, and their neighbours. */
 int32_t extreme(void) {
     static const int32_t numbers[] = {
-        INT32_MIN, INT32_MIN + 1,
-        -3960001,  -3960000,
-        -990002,   -990001,
-        -990000,   -2,
-        -1,        0,
-        1,         2,
-        3,         4,
-        5,         6,
-        8,         9,
-        13,        14,
-        65534,     65535,
-        65536,     65537,
-        989999,    990000,
-        990001,    1048575,
-        1048576,   3960003,
-        3960004,   INT32_MAX,
+        INT32_MIN,  INT32_MIN + 1,
+        -396000001, -396000000,
+        -99000002,  -99000001,
+        -99000000,  -990001,
+        -2,         -1,
+        0,          1,
+        2,          3,
+        4,          5,
+        6,          9,
+        13,         40,
+        41,         45,
+        46,         65534,
+        65535,      65536,
+        65537,      990001,
+        1048575,    1048576,
+        98999999,   99000000,
+        99000001,   396000003,
+        396000004,  INT32_MAX,
     };
     return numbers[below(sizeof numbers / sizeof numbers[0])];
 }
@@ -151,8 +153,8 @@ void soften(struct slice table) {
     int32_t order = row_of(table, rows_in(table) - 1)[0];
     for (size_t i = 0; i < rows_in(table); i++) {
         int32_t *row = ints(table) + BACKOFF_ROW_ITEMS * i;
-        row[6] = between(-200000, -80000);
-        row[7] = row[0] == order || chance(20) ? 0 : between(-190000, 20000);
+        row[6] = between(-20000000, -8000000);
+        row[7] = row[0] == order || chance(20) ? 0 : between(-19000000, 2000000);
     }
 }
 

@@ -16,13 +16,31 @@ struct backoff_status __real_backoff_unload(const int32_t *, size_t, const int32
 
 static volatile int32_t sink;
 
-/* CHECK with the head of T-01 where it has the older one, for a library that takes both. */
+/* The head of T-01, n + 8, and the range of p and b before T-08. */
+enum { OLDER_HEAD = 8, HEAD_STEP = BACKOFF_ORDER_HEAD - OLDER_HEAD, OLDER_RANGE = 990000 };
+
+/* CHECK with the head of T-08 where it has the older one, for a library that takes both. */
 static const int32_t *with_new_head(const int32_t *check, size_t check_len, int32_t *copy) {
-    if (copy == NULL || check_len == 0 || check[0] < 1 || check[0] > BACKOFF_ORDER_LIMIT)
+    if (copy == NULL || check_len == 0 || check[0] <= OLDER_HEAD || check[0] > OLDER_HEAD + BACKOFF_ORDER_LIMIT)
         return check;
     memcpy(copy, check, check_len * sizeof *check);
-    copy[0] += 8;
+    copy[0] += HEAD_STEP;
     return copy;
+}
+
+static bool is_older(int32_t points) { return points >= -OLDER_RANGE && points <= OLDER_RANGE; }
+
+/* The verdict of a list check with the older range in one column of the rows: the first number that leaves it is refused,
+ * unless a row before it is. */
+static void narrow_column(const int32_t *table, size_t table_len, size_t column, uint32_t number,
+                          struct backoff_status *status) {
+    size_t rows = status->number == 1 ? 0 : status->place == 0 ? table_len / 8 : status->place - 1;
+    for (size_t i = 0; i < rows; i++)
+        if (!is_older(table[8 * i + column])) {
+            status->number = number;
+            status->place = (uint32_t)i + 1;
+            return;
+        }
 }
 
 struct backoff_status __wrap_backoff_check(const int32_t *table, size_t table_len) {
@@ -37,6 +55,10 @@ struct backoff_status __wrap_backoff_check(const int32_t *table, size_t table_le
         status.place--;
     if (has("check-never-gives-9") && status.number == 9)
         status.number = 0;
+    if (has("check-has-the-older-range-of-p"))
+        narrow_column(table, table_len, 6, BACKOFF_ROW_PROBABILITY, &status);
+    if (has("check-has-the-older-range-of-b"))
+        narrow_column(table, table_len, 7, BACKOFF_ROW_BACKOFF, &status);
     return status;
 }
 
@@ -71,7 +93,7 @@ struct backoff_status __wrap_backoff_build(const int32_t *table, size_t table_le
             *marker |= 2;
     }
     if (has("build-writes-the-older-head") && status.number == 0)
-        check[0] -= 8;
+        check[0] -= HEAD_STEP;
     return status;
 }
 
@@ -95,6 +117,8 @@ struct backoff_found __wrap_backoff_lookup(const int32_t *base, size_t base_len,
         found.left = 1;
     if (has("lookup-forgets-left"))
         found.left = 0;
+    if (has("lookup-has-the-older-range") && !(is_older(found.p) && is_older(found.b)))
+        found = (struct backoff_found){.number = BACKOFF_BROKEN_NODE};
     if (has("lookup-reads-a-sixth-word") && words_len == 5)
         sink = (int32_t) * (const volatile uint32_t *)(words + 5);
     return found;
@@ -102,7 +126,8 @@ struct backoff_found __wrap_backoff_lookup(const int32_t *base, size_t base_len,
 
 /* Live by a marker's BASE that is not 0: a word whose row has e alone stays in the state. */
 static void live_by_base(const int32_t *base, size_t base_len, const int32_t *check, uint32_t word, int32_t *state) {
-    if (check[0] == 9 || state[0] != 0 || word > BACKOFF_WORD_LIMIT || word + 1 >= base_len || check[word + 1] != 0)
+    bool longest = check[0] == 1 + BACKOFF_ORDER_HEAD;
+    if (longest || state[0] != 0 || word > BACKOFF_WORD_LIMIT || word + 1 >= base_len || check[word + 1] != 0)
         return;
     if (base[base[word + 1]] == 2) {
         state[0] = 1;
@@ -155,6 +180,11 @@ static void spoil_run(struct backoff_total *total, int32_t *state, size_t words_
         lengths[words_len - 1] |= BACKOFF_EXTENDED_LENGTH;
     if (has("run-forgets-16") && total->number == 0 && words_len > 0)
         lengths[words_len - 1] &= 15;
+}
+
+/* Whether a state's back-offs are in the older range. */
+static bool is_older_state(const int32_t *state) {
+    return is_older(state[5]) && is_older(state[6]) && is_older(state[7]) && is_older(state[8]);
 }
 
 static bool is_root_child(const int32_t *check, size_t check_len, uint32_t word) {
@@ -240,6 +270,8 @@ struct backoff_total __wrap_backoff_run(const int32_t *base, size_t base_len, co
     int32_t given[9] = {0};
     if (state_len == 9)
         memcpy(given, state, sizeof given);
+    if (has("run-has-the-older-range-of-states") && !is_older_state(given))
+        return (struct backoff_total){.number = BACKOFF_BAD_STATE};
     struct backoff_total total = __real_backoff_run(base, base_len, with_new_head(check, check_len, copy), check_len, state,
                                                     state_len, words, words_len, points, points_len, lengths, lengths_len);
     free(copy);

@@ -27,7 +27,7 @@ struct backoff_joined __wrap_backoff_score_fragment(const int32_t *base, size_t 
                                                     size_t check_len, const uint32_t *words, size_t words_len) {
     struct backoff_joined joined = __real_backoff_score_fragment(base, base_len, check, check_len, words, words_len);
     struct backoff_fragment *fragment = &joined.fragment;
-    uint32_t order = joined.number == 0 ? (uint32_t)check[0] - 8 : 1;
+    uint32_t order = joined.number == 0 ? (uint32_t)check[0] - BACKOFF_ORDER_HEAD : 1;
     for (uint32_t i = 0; has("fragment-keeps-replaced-words") && i < fragment->kept; i++)
         if (!is_root_child(check, check_len, fragment->first[i]))
             fragment->first[i] = BACKOFF_UNKNOWN_WORD;
@@ -130,7 +130,7 @@ struct backoff_joined __wrap_backoff_join_fragments(const int32_t *base, size_t 
         spoil_refused(one, two, &joined);
         return joined;
     }
-    uint32_t number = refused_by_fault(check[0] - 8, one, two);
+    uint32_t number = refused_by_fault(check[0] - BACKOFF_ORDER_HEAD, one, two);
     if (number != 0) {
         struct backoff_joined refused = {.number = number, .place = 1};
         return refused;

@@ -72,8 +72,9 @@ void damage_arrays(struct slice base, struct slice check);
 void draw_arrays(struct slice *base, struct slice *check);
 struct slice own_state(int32_t order);
 
-/* What documents 01 and 02 say of a list, an array's head and a state, in their own words (rules.c). */
-enum { HEAD = 8 };
+/* What documents 01 and 02 say of a list, an array's head and a state, in their own words (rules.c). The older head is that
+ * of T-01. */
+enum { HEAD = 40, OLDER_HEAD = 8 };
 
 struct found {
     bool listed;

@@ -3,11 +3,14 @@
 //! `<unk>` is word 1, `<s>` 2 and `</s>` 3; the other words are numbered from 4 in the order of their one-word rows. Logarithms are
 //! rounded to the nearest point, and one that leaves its range (-inf too) becomes the range's end.
 //!
-//! A list needs rows that ARPA may lack. A mark without a row gets p -990,000 and b 0. A shorter row that is missing gets b 0 and the
+//! A list needs rows that ARPA may lack. A mark without a row gets p -99,000,000 and b 0. A shorter row that is missing gets b 0 and the
 //! points that the rule gives its words without it, so that no points change; only matched lengths do, which is why added rows are told.
 
 use ::tests::reference::list::{Row, LARGEST_B, LOWEST_P};
 use std::collections::{BTreeMap, BTreeSet, HashMap};
+
+/// The points of a base-10 logarithm of 1.
+pub const POINTS: f64 = 1_000_000.0;
 
 const MARKS: [&str; 3] = ["<unk>", "<s>", "</s>"];
 
@@ -74,7 +77,7 @@ fn read_row(line: &str, m: usize, numbers: &mut HashMap<String, i32>, rows: &mut
 /// A base-10 logarithm in points.
 fn points(text: &str, low: i32, high: i32) -> Result<i32, String> {
     match text.parse::<f64>() {
-        Ok(value) if !value.is_nan() => Ok((value * 10_000.0).round().clamp(low as f64, high as f64) as i32),
+        Ok(value) if !value.is_nan() => Ok((value * POINTS).round().clamp(low as f64, high as f64) as i32),
         _ => Err(format!("no logarithm: {text}")),
     }
 }
@@ -115,7 +118,7 @@ fn without_last((m, newest_first): &Key) -> Key {
 
 #[cfg(test)]
 mod tests {
-    use super::read;
+    use super::{read, LOWEST_P};
     use ::tests::lists::{sample, table};
 
     const SAMPLE: &str = include_str!("sample.arpa");
@@ -129,16 +132,16 @@ mod tests {
         assert_eq!((arpa.numbers["four"], arpa.numbers["five"]), (4, 5));
     }
 
-    /// A point is 1/10,000, halves away from zero; ranges end at 99, and -inf is below them.
+    /// A point is 1/1,000,000, halves away from zero; ranges end at 99, and -inf is below them.
     #[test]
     fn rounding_and_ranges() {
         let with = |p: &str, b: &str| {
-            read(&SAMPLE.replace("-0.6\tfour\t-0.2", &format!("{p}\tfour\t{b}"))).map(|arpa| (arpa.rows[3].p, arpa.rows[3].b))
+            read(&SAMPLE.replace("-0.006\tfour\t-0.002", &format!("{p}\tfour\t{b}"))).map(|arpa| (arpa.rows[3].p, arpa.rows[3].b))
         };
-        assert_eq!(with("-0.60004", "-0.00005"), Ok((-6000, -1)));
-        assert_eq!(with("-0.00004", "0.12346"), Ok((0, 1235)));
-        assert_eq!(with("-99.1", "-inf"), Ok((-990_000, -990_000)));
-        assert_eq!(with("1e-9", "inf"), Ok((0, 990_000)));
+        assert_eq!(with("-0.0060004", "-0.0000005"), Ok((-6000, -1)));
+        assert_eq!(with("-0.0000004", "0.0012346"), Ok((0, 1235)));
+        assert_eq!(with("-99.1", "-inf"), Ok((-99_000_000, -99_000_000)));
+        assert_eq!(with("1e-9", "inf"), Ok((0, 99_000_000)));
         assert!(with("nan", "0").is_err() && with("-0.6", "x").is_err());
     }
 
@@ -149,7 +152,7 @@ mod tests {
         let cells = table(&arpa.rows);
         assert_eq!(
             cells,
-            table(&[(1, -990_000), (2, -990_000), (3, -990_000), (4, -3000)].map(|(word, p)| super::Row { words: vec![word], p, b: 0 }))
+            table(&[(1, LOWEST_P), (2, LOWEST_P), (3, LOWEST_P), (4, -300_000)].map(|(word, p)| super::Row { words: vec![word], p, b: 0 }))
         );
         assert_eq!(arpa.added, [vec![1], vec![2], vec![3]].into());
         assert_eq!(backoff::check(&cells).number, 0);

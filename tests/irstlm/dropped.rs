@@ -38,7 +38,7 @@ mod tests {
     #[test]
     fn the_sample() {
         assert_eq!(drop(SAMPLE, 0), SAMPLE);
-        let expected = SAMPLE.replace("-0.3\tfour five\n", "").replace("-0.15\tfive </s>\n", "").replace("ngram 2=3", "ngram 2=1");
+        let expected = SAMPLE.replace("-0.003\tfour five\n", "").replace("-0.0015\tfive </s>\n", "").replace("ngram 2=3", "ngram 2=1");
         assert_eq!(drop(SAMPLE, 100), expected);
         assert_eq!(drop(&SAMPLE.replace("ngram 2=3", "ngram  2=       3"), 100), expected.replace("ngram 2=1", "ngram  2=       1"));
     }

@@ -1,5 +1,7 @@
 //! What `compile-lm` prints of a text, word by word.
 
+use crate::arpa::POINTS;
+
 /// A scored word; `<unk>` where it is unknown.
 #[derive(Debug, PartialEq)]
 pub struct Printed {
@@ -13,7 +15,7 @@ pub fn eval(text: &str) -> Vec<Printed> {
     let read = |line: &str| {
         let (words, rest) = line.split_once("\t1 [")?;
         let (matched, log) = rest.split_once("-gram] ")?;
-        Some(Printed { word: newest(words), matched: matched.parse().ok()?, points: number(log)? * 10_000.0 })
+        Some(Printed { word: newest(words), matched: matched.parse().ok()?, points: number(log)? * POINTS })
     };
     text.lines().filter_map(read).collect()
 }
@@ -24,7 +26,7 @@ pub fn score(text: &str, order: usize) -> Vec<Printed> {
         let (words, rest) = line.split_once("\t1 p= ")?;
         let (log, backed_off) = rest.split_once(" bo= ")?;
         let matched = order - backed_off.trim().parse::<usize>().ok()?;
-        Some(Printed { word: newest(words), matched, points: number(log)? / std::f64::consts::LN_10 * 10_000.0 })
+        Some(Printed { word: newest(words), matched, points: number(log)? / std::f64::consts::LN_10 * POINTS })
     };
     text.lines().filter_map(read).collect()
 }
@@ -77,7 +79,7 @@ mod tests {
         let word = |word: &str, matched, points| Printed { word: word.to_string(), matched, points };
         assert_eq!(
             eval("Start Eval\n<s> w3\t1 [2-gram] -0.5\nw3 w4 <unk>\t1 [1-gram] -8\n%% Nw=2"),
-            [word("w3", 2, -5e3), word("<unk>", 1, -8e4)]
+            [word("w3", 2, -5e5), word("<unk>", 1, -8e6)]
         );
         let scored = score("> <s> w3\t1 p= NULL\n> <s> w3 w4\t1 p= -0x0p+0 bo= 1\n> ", 3);
         assert_eq!(scored, [word("w4", 2, 0.0)]);

@@ -3,14 +3,15 @@
 //! irstlm scores the marks of its text: it does not count `<s>`, and it counts `</s>`. `backoff query` gets the same lines without marks, and puts them there itself, so
 //! that both count the same words.
 
+use crate::arpa::POINTS;
 use crate::printed::{Printed, Summary};
 use crate::{Answers, Count, ROUNDED, TWO_DECIMALS};
 
-/// The points of one base-10 logarithm.
-const POINTS: f64 = 10_000.0;
-
 /// Half of the second decimal of a perplexity.
 const HALF: f64 = 0.005;
+
+/// `backoff query` prints six digits of a perplexity, of which the last is rounded.
+const SIX_DIGITS: f64 = 5e-6 * POINTS / std::f64::consts::LN_10;
 
 /// A scored sentence: its words with the closing one, the unknown ones, and its total in points.
 #[derive(Clone, Copy, Debug, Default, PartialEq)]
@@ -98,12 +99,12 @@ pub fn compare(count: &mut Count, name: &str, printed: &str, summary: &Summary, 
     let bounds = [-HALF, HALF].map(|half| mean(summary.perplexity + half));
     count.test(
         &format!("{name}, query: perplexity {}, irstlm's {}", query.with_unknown, summary.perplexity),
-        bounds[1] - ROUNDED <= mean(query.with_unknown) && mean(query.with_unknown) <= bounds[0] + ROUNDED,
+        bounds[1] - ROUNDED - SIX_DIGITS <= mean(query.with_unknown) && mean(query.with_unknown) <= bounds[0] + ROUNDED + SIX_DIGITS,
     );
     let known: Vec<f64> = answers.eval.iter().filter(|word| word.word != "<unk>").map(|word| word.points).collect();
     let expected = known.iter().sum::<f64>() / known.len() as f64;
     let distance = (mean(query.without_unknown) - expected).abs();
-    let bound = TWO_DECIMALS + ROUNDED;
+    let bound = TWO_DECIMALS + ROUNDED + SIX_DIGITS;
     count.test(
         &format!("{name}, query: perplexity without unknown words {}, {distance:.3} points from irstlm's words", query.without_unknown),
         distance <= bound,
@@ -119,7 +120,7 @@ mod tests {
     fn lines() {
         let last = "Perplexity including OOVs:\t12.5\nPerplexity excluding OOVs:\t1e+06\nOOVs:\t1\nTokens:\t3\n";
         let text = format!("a=0 1 -2\t</s>=3 1 -1\tTotal: -3 OOV: 1\n</s>=3 2 -0.5\tTotal: -0.5 OOV: 0\n{last}");
-        let expected = vec![Sentence { words: 2, unknown: 1, points: -3e4 }, Sentence { words: 1, unknown: 0, points: -5e3 }];
+        let expected = vec![Sentence { words: 2, unknown: 1, points: -3e6 }, Sentence { words: 1, unknown: 0, points: -5e5 }];
         assert_eq!(read(&text), Some(Query { sentences: expected, with_unknown: 12.5, without_unknown: 1e6, unknown: 1, words: 3 }));
         assert_eq!(read(&text.replace("Total", "total")), None);
         assert_eq!(read(&text.replace("Tokens:\t3", "Tokens: 3")), None);

@@ -18,7 +18,7 @@ Rows = dict[tuple[str, ...], tuple[int, int]]
 def random_rows(rng: random.Random, order: int, words: int, tries: int) -> Rows:
     """A list of the order; each longer row is tried among those whose shorter rows are there."""
     texts = ["<unk>", "<s>", "</s>"] + [f"w{i}" for i in range(words)]
-    rows: Rows = {(text,): (-rng.randint(0, 50_000), rng.randint(-9_000, 2_000) if order > 1 else 0) for text in texts}
+    rows: Rows = {(text,): (-rng.randint(0, 5_000_000), rng.randint(-900_000, 200_000) if order > 1 else 0) for text in texts}
     shorter = list(rows)
     for m in range(2, order + 1):
         longer: Rows = {}
@@ -26,7 +26,7 @@ def random_rows(rng: random.Random, order: int, words: int, tries: int) -> Rows:
             first = rng.choice(shorter)
             ends = [row for row in shorter if row[:-1] == first[1:]]
             if ends:
-                longer[first + rng.choice(ends)[-1:]] = (-rng.randint(0, 30_000), 0 if m == order else rng.randint(-9_000, 2_000))
+                longer[first + rng.choice(ends)[-1:]] = (-rng.randint(0, 3_000_000), 0 if m == order else rng.randint(-900_000, 200_000))
         assert longer, "no longer row was drawn"
         rows.update(longer)
         shorter = list(longer)
@@ -35,7 +35,7 @@ def random_rows(rng: random.Random, order: int, words: int, tries: int) -> Rows:
 
 def log(points: int) -> str:
     """Points as a base-10 logarithm with all its decimals."""
-    return f"{'-' if points < 0 else ''}{abs(points) // 10_000}.{abs(points) % 10_000:04}"
+    return f"{'-' if points < 0 else ''}{abs(points) // 1_000_000}.{abs(points) % 1_000_000:06}"
 
 
 def arpa(rows: Rows) -> bytes:

@@ -42,23 +42,23 @@ class ArpaFiles(unittest.TestCase):
         self.assert_refused(b"text of another kind\nand more\n", 17, 1, "text of another kind")
         self.assert_refused(SAMPLE.replace(b"\n", b"\r\n"), 17, 1, "\\data\\\r")
         self.assert_refused(self.edited(b"ngram 2=3", b"ngram  2=    3"), 17, 3, "ngram  2=    3")
-        self.assert_refused(self.edited(b"-2\t<unk>", b"-2\t\xff x"), 17, 9, "-2\t\\xff x")
-        self.assert_refused(SAMPLE[: SAMPLE.index(b"\n\n\\end")], 17, 19, "-0.1\t<s> four five")
+        self.assert_refused(self.edited(b"-0.02\t<unk>", b"-0.02\t\xff x"), 17, 9, "-0.02\t\\xff x")
+        self.assert_refused(SAMPLE[: SAMPLE.index(b"\n\n\\end")], 17, 19, "-0.001\t<s> four five")
         self.assert_refused(self.edited(b"\\end\\\n", b""), 17, 21, "")
 
     def test_words_and_counts(self) -> None:
-        self.assert_refused(self.edited(b"four five\n-0.4", b"four six\n-0.4"), 18, 14, "-0.3\tfour six")
+        self.assert_refused(self.edited(b"four five\n-0.004", b"four six\n-0.004"), 18, 14, "-0.003\tfour six")
         self.assert_refused(self.edited(b"ngram 2=3", b"ngram 2=4"), 19, 18, "\\3-grams:")
 
     def test_rows(self) -> None:
-        self.assert_refused(self.edited(b"-0.3\tfour five", b"0.3\tfour five"), 5, 8)
+        self.assert_refused(self.edited(b"-0.003\tfour five", b"0.003\tfour five"), 5, 8)
         self.assert_refused(self.edited(b"<s> four five", b"<s> four five\t0.5"), 6, 9)
-        self.assert_refused(self.edited(b"-0.15\tfive </s>", b"-0.15\t<s> four"), 7, 7)
-        self.assert_refused(self.edited(b"-0.3\tfour five", b"-0.3\tfive four"), 8, 9)
+        self.assert_refused(self.edited(b"-0.0015\tfive </s>", b"-0.0015\t<s> four"), 7, 7)
+        self.assert_refused(self.edited(b"-0.003\tfour five", b"-0.003\tfive four"), 8, 9)
         self.assert_refused(SAMPLE.replace(b"<unk>", b"unknown"), 9, 0)
 
     def test_too_many_rows(self) -> None:
-        for words, number, place, line in ((65_532, 0, 0, None), (65_533, 1, 0, None), (70_000, 15, 65_541, "0.0000\tw65533\t0.0000")):
+        for words, number, place, line in ((65_532, 0, 0, None), (65_533, 1, 0, None), (70_000, 15, 65_541, "0.000000\tw65533\t0.000000")):
             rows = {(text,): (0, 0) for text in ["<unk>", "<s>", "</s>"] + [f"w{i}" for i in range(words)]}
             with self.subTest(words=words):
                 if number:
@@ -67,13 +67,13 @@ class ArpaFiles(unittest.TestCase):
                     self.assertIn("w65531", lists.model(lists.arpa(rows)))
 
     def test_filling(self) -> None:
-        pruned = self.edited(b"-0.3\tfour five\n", b"").replace(b"ngram 2=3", b"ngram 2=2")
+        pruned = self.edited(b"-0.003\tfour five\n", b"").replace(b"ngram 2=3", b"ngram 2=2")
         self.assert_refused(pruned, 8, 8)
         self.assertIn("fill=True", str(refusal(pruned)))
         filled = lists.model(pruned, fill=True)
         expected = [(-4_000, 2, False), (-8_500, 1, False), (-11_000, 2, False), (-1_500, 2, False)]
         self.assertEqual(list(filled.full_points("four four five")), expected)
-        self.assert_refused(pruned.replace(b"four\t-0.2", b"four\t0.95"), 5, 8, fill=True)
+        self.assert_refused(pruned.replace(b"four\t-0.002", b"four\t0.95"), 5, 8, fill=True)
         self.assert_refused(SAMPLE.replace(b"<unk>", b"unknown"), 9, 0, fill=True)
 
     def test_no_file(self) -> None:
@@ -129,7 +129,7 @@ class ArrayFiles(unittest.TestCase):
         texts = b"".join(bytes([len(text)]) + text for text in (b"<unk>", b"<s>", b"</s>", b"four", b"five"))
         slots = (len(self.data) - 8 - 24 - len(texts) - 4) // 8
         self.assertEqual(self.data[:32], b"backoff\n" + struct.pack("<6I", 1, 3, 9, 5, slots, len(texts)))
-        self.assertEqual(struct.unpack_from("<i", self.data, 32 + 4 * slots), (3 + 8,))
+        self.assertEqual(struct.unpack_from("<i", self.data, 32 + 4 * slots), (3 + 40,))
         self.assertEqual(struct.unpack_from("<i", self.data, 32 + 4), (9,))
         self.assertEqual(self.data[32 + 8 * slots :], texts + struct.pack("<I", zlib.crc32(self.data[:-4])))
 
@@ -192,6 +192,13 @@ class ArrayFiles(unittest.TestCase):
         self.assert_refused(self.changed(16, 8), "first two slots", 11)
         self.assert_refused(self.changed(32 + 4 * slots + 4, 5), "first two slots", 11)
         self.assert_refused(self.changed(32 + 8 * slots - 4, -5), "was changed", 12)
+
+    def test_heads_of_earlier_versions(self) -> None:
+        head = 32 + 4 * struct.unpack_from("<I", self.data, 24)[0]
+        for value in range(9, 14):
+            self.assert_refused(self.changed(head, value), "version 1 wrote it, so it has to be built again", 11)
+        for value in (3, 8, 14, 40, 46, -(2**31), 2**31 - 1):
+            self.assertNotIn("wrote it", str(refusal(self.changed(head, value))))
 
     def test_damaged_arrays(self) -> None:
         rng, accepted, numbers = random.Random(4), 0, set()

@@ -18,8 +18,8 @@ TEXT = FOLDER / "unseen.txt"
 LISTS = {"trained": False, "pruned": True, "dropped": True}  # whether a list is to be filled
 SEARCHED = os.environ["PATH"] + os.pathsep + "/usr/lib/irstlm/bin"
 
-# p and two back-offs of a word are each rounded by half a point at most; irstlm's own numbers have 24 bits, which is far below a tenth of a point.
-ROUNDED = 1.5 + 0.1
+# p and two back-offs of a word are each rounded by half a point at most, and irstlm holds each in 24 bits: below 8 that is off by a quarter of a point at most.
+ROUNDED = 3 * (0.5 + 0.25)
 # What irstlm prints has two decimals.
 TWO_DECIMALS = 0.005
 
@@ -45,8 +45,8 @@ def sentences() -> list[str]:
 class Irstlm(unittest.TestCase):
     def assert_near(self, words: int, perplexity: float, unknown: int, irstlm: tuple[int, float, int]) -> None:
         self.assertEqual((words, unknown), (irstlm[0], irstlm[2]))
-        points = math.log10(perplexity) * backoff.POINTS
-        low, high = (math.log10(irstlm[1] + side) * backoff.POINTS for side in (-TWO_DECIMALS, TWO_DECIMALS))
+        points = math.log10(perplexity) * backoff.POINTS_PER_LOG
+        low, high = (math.log10(irstlm[1] + side) * backoff.POINTS_PER_LOG for side in (-TWO_DECIMALS, TWO_DECIMALS))
         self.assertTrue(low - ROUNDED <= points <= high + ROUNDED, (perplexity, irstlm))
 
     def test_each_sentence(self) -> None:
@@ -63,7 +63,7 @@ class Irstlm(unittest.TestCase):
         for name, fill in LISTS.items():
             sheet = backoff.Model(FOLDER / f"{name}.form", fill=fill).sheet(sentences())
             words = sheet.words + sheet.sentences
-            perplexity = 10.0 ** (-sheet.total / backoff.POINTS / words)
+            perplexity = 10.0 ** (-sheet.total / backoff.POINTS_PER_LOG / words)
             with self.subTest(name=name):
                 self.assert_near(words, perplexity, sheet.unknown, printed_by_irstlm(name)[-1])
 

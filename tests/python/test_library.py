@@ -34,6 +34,8 @@ LIMITS = [
     "SLOT_LIMIT",
     "RECORD_BYTES",
     "TEXT_LIMIT",
+    "POINTS_PER_LOG",
+    "ORDER_HEAD",
     "UNKNOWN_WORD",
     "END_WORD",
     "UNKNOWN_LENGTH",

@@ -41,17 +41,17 @@ class Sentences(unittest.TestCase):
                 for eos in (True, False):
                     points = list(self.model.full_points(sentence, bos, eos))
                     self.assertEqual(self.model.points(sentence, bos, eos), sum(p for p, _, _ in points))
-                    self.assertEqual(self.model.score(sentence, bos, eos), sum(p for p, _, _ in points) / 10_000)
-                    logs = [(p / 10_000, length, unknown) for p, length, unknown in points]
+                    self.assertEqual(self.model.score(sentence, bos, eos), sum(p for p, _, _ in points) / 1_000_000)
+                    logs = [(p / 1_000_000, length, unknown) for p, length, unknown in points]
                     self.assertEqual(list(self.model.full_scores(sentence, bos, eos)), logs)
 
     def test_perplexity(self) -> None:
-        self.assertAlmostEqual(self.model.perplexity("four five"), 10 ** (0.65 / 3), places=12)
-        self.assertAlmostEqual(self.model.perplexity(""), 10**1.3, places=12)
+        self.assertAlmostEqual(self.model.perplexity("four five"), 10 ** (0.0065 / 3), places=12)
+        self.assertAlmostEqual(self.model.perplexity(""), 10**0.013, places=12)
 
     def test_perplexity_of_the_worst_list(self) -> None:
-        rows = {(word,): (-990_000, -990_000) for word in ("<unk>", "<s>", "</s>")}
-        rows[("<s>", "<s>")] = (-990_000, 0)
+        rows = {(word,): (-99_000_000, -99_000_000) for word in ("<unk>", "<s>", "</s>")}
+        rows[("<s>", "<s>")] = (-99_000_000, 0)
         self.assertEqual(lists.model(lists.arpa(rows)).perplexity(""), 10.0**198)
 
     def test_text_or_bytes(self) -> None:
@@ -110,7 +110,7 @@ class ModelItself(unittest.TestCase):
         again = pickle.loads(pickle.dumps(self.model))
         self.assertEqual((again.path, again.points("four five")), (self.model.path, -6_500))
         with tempfile.NamedTemporaryFile() as file:
-            file.write(lists.SAMPLE.read_bytes().replace(b"-0.3\tfour five\n", b"").replace(b"ngram 2=3", b"ngram 2=2"))
+            file.write(lists.SAMPLE.read_bytes().replace(b"-0.003\tfour five\n", b"").replace(b"ngram 2=3", b"ngram 2=2"))
             file.flush()
             filled = backoff.Model(file.name, fill=True)
             self.assertEqual(pickle.loads(pickle.dumps(filled)).points("four four five"), filled.points("four four five"))
@@ -148,7 +148,7 @@ class States(unittest.TestCase):
                 score = self.model.BaseScore(state, word, next_state)
                 full = self.model.BaseFullScore(state, word, next_state)
                 self.assertEqual(score, full.log_prob)
-                self.assertEqual(self.model.BasePoints(state, word, next_state), round(10_000 * score))
+                self.assertEqual(self.model.BasePoints(state, word, next_state), round(1_000_000 * score))
                 steps.append((full.log_prob, full.ngram_length, full.oov))
                 state, next_state = next_state, state
             self.assertEqual(steps, list(self.model.full_scores("four five nine four", bos)))

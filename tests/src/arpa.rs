@@ -79,10 +79,10 @@ fn printed(rows: &[Row], texts: &[Vec<u8>], mut log: impl FnMut(i32) -> Vec<u8>,
     arpa
 }
 
-/// Points with their four decimals.
+/// Points with their six decimals.
 fn spelled(points: i32) -> Vec<u8> {
     let (sign, size) = (if points < 0 { "-" } else { "" }, points.abs());
-    format!("{sign}{}.{:04}", size / 10_000, size % 10_000).into_bytes()
+    format!("{sign}{}.{:06}", size / 1_000_000, size % 1_000_000).into_bytes()
 }
 
 /// Ten-millionths in one of their spellings: leading zeros, and zeros behind the last decimal or no decimals at all.
@@ -100,11 +100,11 @@ pub fn log(random: &mut Random, units: i64) -> Vec<u8> {
 fn varied_log(random: &mut Random, points: i32) -> Vec<u8> {
     let away = match random.below(6) {
         0 => 0,
-        1 => 499,
-        2 if points != 0 => -500,
-        _ => random.between(-499, 499) as i64,
+        1 => 4,
+        2 if points != 0 => -5,
+        _ => random.between(-4, 4) as i64,
     };
-    let units = points.abs() as i64 * 1_000 + away;
+    let units = points.abs() as i64 * 10 + away;
     let sign = if points < 0 || (points == 0 && random.chance(50)) { -1 } else { 1 };
     log(random, sign * units)
 }

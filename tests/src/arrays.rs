@@ -83,7 +83,7 @@ pub fn each_change(arrays: &Arrays, mut see: impl FnMut(&Arrays)) {
         let slot_limits = [0, 1, 2, slots / 2, slots - 1, slots];
         let p_limits = [-1, LOWEST_P - 1, LOWEST_P - 2];
         let packed_limits = [-4 * LARGEST_B - 1, -4 * LARGEST_B, 4 * LARGEST_B + 3, 4 * LARGEST_B + 4];
-        let other = [3, 5, HEAD, HEAD + 1, HEAD + 5, HEAD + 6, 65_535, 65_536, i32::MAX, i32::MIN];
+        let other = [3, 5, 11, HEAD, HEAD + 1, HEAD + 5, HEAD + 6, 65_535, 65_536, i32::MAX, i32::MIN];
         for value in near.into_iter().chain(slot_limits).chain(p_limits).chain(packed_limits).chain(other) {
             *changed.item(i) = value;
             see(&changed);

@@ -102,8 +102,8 @@ pub fn mild(random: &mut Random, rows: &[Row]) -> Vec<Row> {
     let order = rows.last().map_or(0, |row| row.words.len());
     let points = |row: &Row| Row {
         words: row.words.clone(),
-        p: random.between(-200_000, -80_000),
-        b: if row.words.len() == order || random.chance(20) { 0 } else { random.between(-190_000, 20_000) },
+        p: random.between(-20_000_000, -8_000_000),
+        b: if row.words.len() == order || random.chance(20) { 0 } else { random.between(-19_000_000, 2_000_000) },
     };
     rows.iter().map(points).collect()
 }

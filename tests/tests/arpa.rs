@@ -137,7 +137,7 @@ fn equal_rows() {
         let in_order = rows.clone();
         match random.below(3) {
             0 => rows[place + bad].p = 1,
-            1 => rows[place + bad].b = -990_001,
+            1 => rows[place + bad].b = -99_000_001,
             _ => {}
         }
         let number = if rows[place + bad].p == 1 { 5 } else { 6 };
@@ -391,8 +391,8 @@ fn faults_of_the_list() {
         let (mut rows, words) = small_list(&mut random);
         let at = random.below(rows.len());
         match i % 5 {
-            0 => rows[at].p = random.pick(&[1, -990_001, 5_000_000]),
-            1 => rows[at].b = random.pick(&[1, 990_001, -990_001]),
+            0 => rows[at].p = random.pick(&[1, -99_000_001, 500_000_000]),
+            1 => rows[at].b = random.pick(&[1, 99_000_001, -99_000_001]),
             2 => rows.insert(at, rows[at].clone()),
             3 if rows[at].words.len() > 1 => {
                 rows.remove(at);

@@ -111,26 +111,26 @@ fn forms_of_logs() {
         ("-0", 0),
         ("000", 0),
         ("-000.0000000", 0),
-        ("1", 10_000),
-        ("-1", -10_000),
-        ("007", 70_000),
-        ("-0.5", -5_000),
-        ("-000.5", -5_000),
-        ("0.0000499", 0),
-        ("0.00005", 1),
-        ("0.0000500", 1),
-        ("-0.0000499", 0),
-        ("-0.00005", -1),
-        ("-0.0000501", -1),
-        ("-0.0001499", -1),
-        ("-0.00015", -2),
-        ("98.9999500", 990_000),
-        ("98.9999499", 989_999),
-        ("-99.0000499", -990_000),
-        ("99.0000499", 990_000),
-        ("-99", -990_000),
-        ("-1.2345678", -12_346),
-        ("-12.3456499", -123_456),
+        ("1", 1_000_000),
+        ("-1", -1_000_000),
+        ("007", 7_000_000),
+        ("-0.5", -500_000),
+        ("-000.5", -500_000),
+        ("0.0000004", 0),
+        ("0.0000005", 1),
+        ("0.0000006", 1),
+        ("-0.0000004", 0),
+        ("-0.0000005", -1),
+        ("-0.0000006", -1),
+        ("-0.0000014", -1),
+        ("-0.0000015", -2),
+        ("98.9999995", 99_000_000),
+        ("98.9999994", 98_999_999),
+        ("-99.0000004", -99_000_000),
+        ("99.0000004", 99_000_000),
+        ("-99", -99_000_000),
+        ("-1.2345678", -1_234_568),
+        ("-12.3456494", -12_345_649),
     ];
     for (log, points) in good {
         let found = read(&sample_with(10, format!("-0.6\tfour\t{log}")), ENOUGH);
@@ -140,13 +140,13 @@ fn forms_of_logs() {
             assert_eq!((found.answer.number, found.table[8 * 3 + 6]), (0, points), "p {log}");
         }
     }
-    let out_of_range = ["99.00005", "-99.00005", "100", "-100", "999.9999999", "-999.9999999"];
+    let out_of_range = ["99.0000005", "-99.0000005", "100", "-100", "999.9999999", "-999.9999999"];
     for log in out_of_range {
         assert_eq!(verdict(sample_with(10, format!("-0.6\tfour\t{log}"))), (6, 4), "b {log}");
         assert_eq!(verdict(sample_with(10, format!("{log}\tfour"))), (5, 4), "p {log}");
     }
-    assert_eq!(verdict(sample_with(10, "0.00005\tfour")), (5, 4));
-    assert_eq!(verdict(sample_with(10, "0.0000499\tfour")), (0, 0));
+    assert_eq!(verdict(sample_with(10, "0.0000005\tfour")), (5, 4));
+    assert_eq!(verdict(sample_with(10, "0.0000004\tfour")), (0, 0));
     let bad = "|-|.|-.|+1|.5|-.5|1.|-1.|1e2|1e-2|-inf|inf|nan|1000|-1000|0000|0.12345678|-0.00000000|1,5|1 | 1|--1|1-|1.-5|1..5|1.5.\
         |1.5.5|0x1|1_0|\u{661}|1.5f|- 1|1.2345678\0";
     for log in bad.split('|') {
@@ -159,19 +159,19 @@ fn forms_of_logs() {
 #[test]
 fn rounding_edges() {
     let mut random = Random::new(4);
-    for points in [0, 1, 2, 9, 10, 4_999, 5_000, 9_999, 10_000, 99_999, 100_000, 989_999, 990_000]
+    for points in [0, 1, 2, 9, 10, 499_999, 500_000, 999_999, 1_000_000, 9_999_999, 10_000_000, 98_999_999, 99_000_000]
         .into_iter()
-        .chain((0..200).map(|_| random.between(0, 990_000)))
+        .chain((0..200).map(|_| random.between(0, 99_000_000)))
     {
-        for units in [-501, -500, -499, -1, 0, 1, 499, 500, 501].map(|away| points as i64 * 1_000 + away) {
+        for units in [-6, -5, -4, -1, 0, 1, 4, 5, 6].map(|away| points as i64 * 10 + away) {
             for signed in [units, -units] {
                 let mut random = Random::new(units.unsigned_abs());
                 let text = String::from_utf8(log(&mut random, signed)).unwrap();
                 let found = read(&sample_with(10, format!("-0.6\tfour\t{text}")), ENOUGH);
                 // Twice the distance is at most a point's units, and at a half the size is the larger one.
-                let nearest = (signed.abs() * 2 + 1_000) / 2_000 * signed.signum();
-                assert!((2 * (nearest * 1_000 - signed)).abs() <= 1_000);
-                if nearest.abs() <= 990_000 {
+                let nearest = (signed.abs() * 2 + 10) / 20 * signed.signum();
+                assert!((2 * (nearest * 10 - signed)).abs() <= 10);
+                if nearest.abs() <= 99_000_000 {
                     assert_eq!((found.answer.number, found.table[8 * 3 + 7] as i64), (0, nearest), "{text}");
                 } else {
                     assert_eq!((found.answer.number, found.answer.place), (6, 4), "{text}");

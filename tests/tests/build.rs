@@ -66,7 +66,7 @@ fn sample_array() {
     let (refusal, base, check, work) = agreed(&mut Random::new(1), &cells, Lengths::of(20, 9));
     assert_eq!(refusal, ACCEPTED);
     assert_eq!(base, [1, 9, 7, 8, 9, 10, 11, 0, -11999, 2, -7997, -3997, 16, 0, 13, 17, -1999, 2, 0, 18]);
-    let expected = [11, -1, 0, 0, 0, 0, 0, -20001, -990001, -10001, -6001, -9001, 5, -1501, 4, 6, -4001, -3001, -1001, 15];
+    let expected = [43, -1, 0, 0, 0, 0, 0, -20001, -990001, -10001, -6001, -9001, 5, -1501, 4, 6, -4001, -3001, -1001, 15];
     assert_eq!(check, expected);
     assert_eq!(work, [2, 3, 4, 5, 6, 14, 12, 15, 19]);
 }
@@ -101,14 +101,14 @@ fn random_lists() {
 #[test]
 fn left_extension_in_markers() {
     let row = |words: &[i32], b| Row { words: words.to_vec(), p: -1, b };
-    let (least, largest) = (-990_000, 990_000);
+    let (least, largest) = (-99_000_000, 99_000_000);
     // Row 4 4 puts a word in front of 4 and goes on after it.
     let rows =
         [row(&[1], largest), row(&[2], largest), row(&[3], largest), row(&[4], least), row(&[5], least), row(&[2, 3], 0), row(&[4, 4], 0)];
     let (refusal, base, check, work) = agreed(&mut Random::new(8), &table(&rows), Lengths::of(40, 7));
-    assert_eq!((refusal, check[0], base[1]), (ACCEPTED, 2 + 8, 7));
+    assert_eq!((refusal, check[0], base[1]), (ACCEPTED, 2 + 40, 7));
     let markers: Vec<i32> = work.iter().map(|&slot| base[base[slot as usize] as usize]).collect();
-    assert_eq!(markers, [3_960_000, 3_960_001, 3_960_002, -3_959_997, -3_960_000, 0, 0]);
+    assert_eq!(markers, [396_000_000, 396_000_001, 396_000_002, -395_999_997, -396_000_000, 0, 0]);
 }
 
 /// Every N from 0 to 40 on the sample, and the largest ones: 2 out of range, 10 below 20, accepted from there.

@@ -41,12 +41,12 @@ fn k9_log_probability_of_the_first_row() {
     assert_eq!(agreed(&sample_with(1, 6, 1), "p = 1"), (5, 1));
 }
 
-/// The run-only cases of document 01: word 65,536 gives 4, b 990,001 gives 6.
+/// The run-only cases of document 01: word 65,536 gives 4, b 99,000,001 gives 6.
 #[test]
 fn just_above_the_limits() {
     assert_eq!(agreed(&sample_with(5, 1, 65_536), "word"), (4, 5));
     assert_eq!(agreed(&sample_with(9, 3, 65_536), "word"), (4, 9));
-    assert_eq!(agreed(&sample_with(4, 7, 990_001), "b"), (6, 4));
+    assert_eq!(agreed(&sample_with(4, 7, 99_000_001), "b"), (6, 4));
 }
 
 /// Changes of single numbers in the sample, with the answers worked by hand.
@@ -60,11 +60,11 @@ fn sample_changed_by_hand() {
         (3, 1, 0, (4, 3)),
         (5, 1, 65_535, (8, 6)),
         (9, 4, 1, (4, 9)),
-        (7, 6, -990_000, ACCEPTED),
-        (7, 6, -990_001, (5, 7)),
-        (8, 7, 990_000, ACCEPTED),
-        (8, 7, -990_000, ACCEPTED),
-        (8, 7, -990_001, (6, 8)),
+        (7, 6, -99_000_000, ACCEPTED),
+        (7, 6, -99_000_001, (5, 7)),
+        (8, 7, 99_000_000, ACCEPTED),
+        (8, 7, -99_000_000, ACCEPTED),
+        (8, 7, -99_000_001, (6, 8)),
         (9, 7, 1, (6, 9)),
         (2, 1, 1, (7, 2)),
         (4, 1, 3, (7, 4)),

@@ -283,7 +283,7 @@ fn a_total_past_the_bound() {
     let one = Fragment { total: bound_of(1, 3), count: 1, kept: 1, first: [4, 0, 0, 0], state };
     let two = Fragment { total: bound_of(2, 3), count: 2, kept: 2, first: [4, 4, 0, 0], state: [0; 9] };
     let joined = accepted(agreed_join(&sample, one, two));
-    // From nothing −6,000 − 8,000; after the state 2 × 990,000 − 6,000, then −2,000 − 6,000.
+    // From nothing −6,000 − 8,000; after the state 2 × 99,000,000 − 6,000, then −2,000 − 6,000.
     assert_eq!(joined.total, bound_of(3, 3) + 2 * LARGEST_B as i64);
     assert_eq!(agreed_join(&sample, joined, two).0, (21, 1));
     assert_eq!(agreed_join(&sample, two, joined).0, (21, 2));

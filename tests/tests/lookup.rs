@@ -86,10 +86,10 @@ fn packed_limits() {
     let mut arrays = built(&lists::sample(), 0);
     let marker = marker_of(&arrays, &[2, 4]);
     let ends: [RangeInclusive<i32>; 5] =
-        [i32::MIN..=i32::MIN + 9, -3_960_009..=-3_959_990, -9..=9, 3_959_990..=3_960_009, i32::MAX - 9..=i32::MAX];
+        [i32::MIN..=i32::MIN + 9, -396_000_009..=-395_999_990, -9..=9, 395_999_990..=396_000_009, i32::MAX - 9..=i32::MAX];
     for packed in ends.into_iter().flatten() {
         arrays.base[marker] = packed;
-        let sound = (-3_960_000..=3_960_003).contains(&packed);
+        let sound = (-396_000_000..=396_000_003).contains(&packed);
         let b = packed.div_euclid(4);
         assert_eq!(sound, (-LARGEST_B..=LARGEST_B).contains(&b));
         let expected = if sound { (ACCEPTED, true, -4_000, b, packed.rem_euclid(4) >= 2) } else { ((12, 0), false, 0, 0, false) };
@@ -322,14 +322,14 @@ fn lengths_and_head() {
     }
 }
 
-/// CHECK[0] is n + 8 with n 1..5, so 9 to 13; "any other head gives 11": n itself, as older arrays have it, too.
+/// CHECK[0] is n + 40 with n 1..5, so 41 to 45; "any other head gives 11": n and n + 8, as older arrays have them, too.
 #[test]
 fn other_heads() {
     let mut arrays = built(&lists::sample(), 0);
-    let extremes = [i32::MIN, i32::MIN + 11, -11, 11 + 65_536, i32::MAX - 8, i32::MAX];
+    let extremes = [i32::MIN, i32::MIN + 43, -43, 43 + 65_536, i32::MAX - 40, i32::MAX];
     for head in (-20..=60).chain(extremes) {
         arrays.check[0] = head;
-        let expected = if (9..=13).contains(&head) { (ACCEPTED, true, -6_000, -2_000, true) } else { ((11, 0), false, 0, 0, false) };
+        let expected = if (41..=45).contains(&head) { (ACCEPTED, true, -6_000, -2_000, true) } else { ((11, 0), false, 0, 0, false) };
         assert_eq!(agreed(&arrays, &[4]), expected, "{head}");
     }
 }

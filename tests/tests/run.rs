@@ -161,9 +161,18 @@ fn extended_as_the_marker_says() {
 fn live_but_not_by_e() {
     let mut random = Random::new(17);
     let mut arrays = build(&lists::sample());
-    for (packed, live) in
-        [(0, false), (2, false), (1, true), (3, true), (4, true), (6, true), (-4, true), (-2, true), (-3_960_000, true), (3_960_002, true)]
-    {
+    for (packed, live) in [
+        (0, false),
+        (2, false),
+        (1, true),
+        (3, true),
+        (4, true),
+        (6, true),
+        (-4, true),
+        (-2, true),
+        (-396_000_000, true),
+        (396_000_002, true),
+    ] {
         // The markers of rows 1 and 4 5; that of row 5 has b.
         (arrays.base[7], arrays.base[17]) = (packed, packed);
         let b = packed >> 2;
@@ -285,12 +294,12 @@ fn packed_limits() {
     let mut random = Random::new(18);
     let mut arrays = build(&lists::sample());
     for (packed, sound) in [
-        (-3_960_001, false),
-        (-3_960_000, true),
-        (-3_959_997, true),
-        (3_960_000, true),
-        (3_960_003, true),
-        (3_960_004, false),
+        (-396_000_001, false),
+        (-396_000_000, true),
+        (-395_999_997, true),
+        (396_000_000, true),
+        (396_000_003, true),
+        (396_000_004, false),
         (i32::MIN, false),
         (i32::MIN + 3, false),
         (i32::MAX, false),
@@ -304,14 +313,14 @@ fn packed_limits() {
     }
 }
 
-/// CHECK[0] is n + 8 with n 1..5; any other head gives 11 to start and run, the n of older arrays too.
+/// CHECK[0] is n + 40 with n 1..5; any other head gives 11 to start and run, the n and n + 8 of older arrays too.
 #[test]
 fn other_heads() {
     let mut random = Random::new(19);
     let mut arrays = built(&lists::sample(), 0);
     for head in (-20..=60).chain([i32::MIN, i32::MAX]) {
         arrays.check[0] = head;
-        let expected = if (9..=13).contains(&head) { ACCEPTED } else { (11, 0) };
+        let expected = if (41..=45).contains(&head) { ACCEPTED } else { (11, 0) };
         assert_eq!(agreed_start(&arrays, &[3; 9]).0, expected, "{head}");
         assert_eq!(agreed_exact(&mut random, &arrays, &EMPTY, &[4, 5]).refusal, expected, "{head}");
     }

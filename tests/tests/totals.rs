@@ -8,10 +8,10 @@ use tests::damage::{self, Cells};
 use tests::lists;
 use tests::random::Random;
 use tests::reference::list::Row;
-use tests::reference::totals::{output, refused, MOST_LINES, MOST_WORDS, SLOTS};
+use tests::reference::totals::{output, refused, LIST_WIDTH, MOST_LINES, MOST_WORDS, SLOTS, TEXT_WIDTH};
 
-/// Columns that are not in form.
-const BAD_COLUMNS: [&[u8; 8]; 22] = [
+/// Columns of TEXT that are not in form; four characters in front make columns of LIST of them.
+const BAD_COLUMNS: [&[u8; TEXT_WIDTH]; 22] = [
     b"        ",
     b"       +",
     b"      +1",
@@ -35,6 +35,9 @@ const BAD_COLUMNS: [&[u8; 8]; 22] = [
     b"      \xc2\xa0",
     b"     1\x001",
 ];
+
+/// A line of LIST: eight columns and LF.
+const LIST_LINE: usize = 8 * LIST_WIDTH + 1;
 
 /// A folder for one run, removed with all that it holds when it is dropped.
 struct Folder(PathBuf);
@@ -88,12 +91,16 @@ fn differing(ours: &str, second: &str, list: &[u8], text: &[u8]) -> String {
     format!("line {}: {:?}, by document 01 {:?}\n{}\n{}", at + 1, line(ours), line(second), shown(list), shown(text))
 }
 
+fn columns(numbers: impl IntoIterator<Item = i64>, width: usize) -> String {
+    numbers.into_iter().map(|number| format!("{number:>width$}")).collect::<String>() + "\n"
+}
+
 fn line(numbers: impl IntoIterator<Item = i64>) -> String {
-    numbers.into_iter().map(|number| format!("{number:>8}")).collect::<String>() + "\n"
+    columns(numbers, TEXT_WIDTH)
 }
 
 fn list_of(cells: &[Cells]) -> String {
-    cells.iter().map(|cells| line(cells.map(i64::from))).collect()
+    cells.iter().map(|cells| columns(cells.map(i64::from), LIST_WIDTH)).collect()
 }
 
 fn list(rows: &[Row]) -> String {
@@ -181,7 +188,7 @@ fn sentence_end_within_a_line() {
     assert_eq!(agreed(sample(), text), expected);
 }
 
-/// All that a list can be refused for comes through its file: 3 to 9 by damage; numbers that leave their columns give 13.
+/// All that a list can be refused for comes through its file: 3 to 9 by damage. Every number of 32 bits fits its column, so that none gives 13.
 #[test]
 fn damaged_lists() {
     let mut numbers = [0; 17];
@@ -197,23 +204,26 @@ fn damaged_lists() {
             }
         }
     }
-    assert!([3, 4, 5, 6, 7, 8, 9, 10, 13].iter().all(|&number| numbers[number] > 0), "{numbers:?}");
+    assert!([3, 4, 5, 6, 7, 8, 9, 10].iter().all(|&number| numbers[number] > 0) && numbers[13] == 0, "{numbers:?}");
 }
 
 /// Each fault of a column, in each column of a line of LIST and in the first, a middle and the last of a sentence.
 #[test]
 fn columns_not_in_form() {
-    let spoilt = |line: &str, column: usize, bad: &[u8; 8]| {
+    let spoilt = |line: &str, column: usize, bad: &[u8]| {
         let mut bytes = line.as_bytes().to_vec();
-        bytes[8 * column..8 * column + 8].copy_from_slice(bad);
+        bytes[bad.len() * column..bad.len() * (column + 1)].copy_from_slice(bad);
         bytes
     };
     let (rows, sentence) = (sample(), line([4, 5, 5, 4, 4]));
-    let (before, third) = rows.split_at(2 * 65);
+    let (before, third) = rows.split_at(2 * LIST_LINE);
     for bad in BAD_COLUMNS {
         for column in 0..8 {
-            let list = [before.as_bytes(), &spoilt(third, column, bad)].concat();
-            assert_eq!(agreed(list, &sentence), refusal(13, 3), "{bad:?} in column {column}");
+            for front in [b"    ", b"0000", b"-000"] {
+                let wide = [&front[..], bad].concat();
+                let list = [before.as_bytes(), &spoilt(third, column, &wide)].concat();
+                assert_eq!(agreed(list, &sentence), refusal(13, 3), "{front:?} {bad:?} in column {column}");
+            }
         }
         for column in [0, 2, 4] {
             let text = [sentence.as_bytes(), &spoilt(&sentence, column, bad), b"\n"].concat();
@@ -229,29 +239,50 @@ fn columns_not_in_form() {
 fn every_byte() {
     let (rows, sentence) = (sample(), line([4, 5]));
     for byte in 0..=255 {
-        for at in [6, 7] {
+        for back in [1, 2] {
             let (mut bytes, mut text) = (rows.clone().into_bytes(), sentence.clone().into_bytes());
-            bytes[65 + at] = byte;
+            bytes[LIST_LINE + LIST_WIDTH - back] = byte;
             agreed(&bytes, &sentence);
-            text[8 + at] = byte;
+            text[2 * TEXT_WIDTH - back] = byte;
             agreed(&rows, &text);
         }
     }
 }
 
-/// A full column is in form; what its number says is another matter.
+/// A number of LIST that signed 32 bits hold is in form; what it says is another matter. One that they don't hold gives 13 at its line, also where its
+/// lowest 32 bits are a number that would be accepted.
 #[test]
-fn full_columns() {
-    let mut cells: Vec<Cells> = lists::sample().iter().map(Row::cells).collect();
-    for (column, number, expected) in [(6, -9_999_999, 5), (7, 99_999_999, 6), (0, -9_999_999, 3), (1, 99_999_999, 4)] {
-        let before = std::mem::replace(&mut cells[2][column], number);
-        assert_eq!(agreed(list_of(&cells), ""), refusal(expected, 3));
-        cells[2][column] = before;
+fn numbers_of_32_bits() {
+    let cells: Vec<Vec<i64>> = lists::sample().iter().map(|row| row.cells().map(i64::from).to_vec()).collect();
+    let with = |column: usize, number: &str| {
+        let mut lines: Vec<Vec<String>> = cells.iter().map(|row| row.iter().map(i64::to_string).collect()).collect();
+        lines[2][column] = number.to_string();
+        let line = |line: &Vec<String>| line.iter().map(|number| format!("{number:>LIST_WIDTH$}")).collect::<String>() + "\n";
+        agreed(lines.iter().map(line).collect::<String>(), "")
+    };
+    for (column, expected) in [(0, 3), (1, 4), (2, 4), (5, 4), (6, 5), (7, 6)] {
+        for held in ["2147483647", "-2147483648", "99999999", "-999999999", "1000000000"] {
+            assert_eq!(with(column, held), refusal(expected, 3), "{held} in column {column}");
+        }
+        for number in ["2147483648", "-2147483649", "4294967295", "4294967296", "-4294967296", "8589934593", "999999999999", "-99999999999"]
+        {
+            assert_eq!(with(column, number), refusal(13, 3), "{number} in column {column}");
+        }
     }
-    for number in [100_000_000, -10_000_000] {
-        cells[2][6] = number;
-        assert_eq!(agreed(list_of(&cells), ""), refusal(13, 3));
+    for accepted in ["-99000000", "0"] {
+        assert_eq!(with(6, accepted), "", "{accepted}");
     }
+    for (column, number, expected) in [(6, "-99000001", 5), (6, "1", 5), (7, "99000001", 6), (7, "-99000001", 6)] {
+        assert_eq!(with(column, number), refusal(expected, 3), "{number}");
+    }
+    assert_eq!((with(7, "99000000"), with(7, "-99000000")), (String::new(), String::new()));
+}
+
+/// LIST in columns of eight is not in form.
+#[test]
+fn a_list_of_narrow_columns() {
+    let narrow: String = lists::sample().iter().map(|row| line(row.cells().map(i64::from))).collect();
+    assert_eq!(agreed(narrow, line([4])), refusal(13, 1));
 }
 
 #[test]
@@ -291,7 +322,7 @@ fn line_513() {
     let sentence = line([4, 600]);
     let full = list(&one_word_rows(MOST_LINES));
     assert_eq!(agreed(&full, &sentence).lines().count(), 1);
-    for last in [&list(&one_word_rows(1))[..], "\n", "x", "       1", "\n\n", " "] {
+    for last in [&list(&one_word_rows(1))[..], "\n", "x", "           1", "\n\n", " "] {
         assert_eq!(agreed(full.clone() + last, &sentence), refusal(13, 513), "{last:?}");
     }
     let mut rows = one_word_rows(MOST_LINES + 100);

@@ -13,7 +13,7 @@ use lib.Seq.{take-all}
 use borrow.Author.Tests.{eq-eqb, ne-eqb, le-leb, lt-ltb, le-ltb}
 use Rattle.integer.proofs.Arithmetic.{zarith, abs}
 use Rattle.integer.proofs.Ranges.{lt-or-ge, between-low, between-high}
-use Rattle.backoff.specs.Limits.{orderLimit, rowLimit, largestBackoff}
+use Rattle.backoff.specs.Limits.{orderLimit, rowLimit, leastProbability, largestBackoff}
 use Rattle.backoff.specs.Words.{sameWords}
 use Rattle.backoff.specs.Model.{inProbability, inBackoff}
 use Rattle.backoff.specs.NineNumbers.{padded}
@@ -173,8 +173,8 @@ three-texts texts e =
 probability-size : (z : ℤ) → inProbability z ≡ true → natAbs z ≤ largestBackoff
 unfolding inProbability
 probability-size z e =
-    let low = between-low (negℤ (pos 990000)) (pos 0) z e in
-    let high = between-high (negℤ (pos 990000)) (pos 0) z e in
+    let low = between-low leastProbability (pos 0) z e in
+    let high = between-high leastProbability (pos 0) z e in
     omega (zarith, abs z)
 
 backoff-size : (z : ℤ) → inBackoff z ≡ true → natAbs z ≤ largestBackoff

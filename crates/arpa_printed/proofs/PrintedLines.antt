@@ -3,20 +3,21 @@ use mathlib.Core.Path.{_≡_, refl, sym, ap, _∙_}
 use mathlib.Core.Bool.{Bool, true, false, cond, _&&_}
 use mathlib.Core.List.{List, [], _∷_, _++_}
 use mathlib.Core.Option.{some}
-use Prim.Native.Nat.{ℕ, suc, _+_, _*_, _/_, _%_, _^_, _<_, _≤_}
+use Prim.Native.Nat.{ℕ, zero, suc, _+_, _*_, _-_, _/_, _%_, _^_, _<_, _≤_}
 use native.Mathlib.Omega.{arith}
 use lib.Dec.{eqb, leb, ltb}
 use lib.IntN.{ℤ, pos, negsuc, negℤ, natAbs}
-use lib.ListN.{length, getD}
-use borrow.Author.Tests.{eq-eqb, ne-eqb, le-leb, leb-true}
+use lib.Arith.{mod-mul}
+use lib.ListN.{length, getD, length-append}
+use borrow.Author.Tests.{eq-eqb, ne-eqb, leb-true}
 use Rattle.integer.proofs.Ranges.{and-left, and-right}
 use Rattle.backoff.specs.Limits.{largestBackoff, textLimit}
 use Rattle.backoff.specs.Words.{sameWords}
 use Rattle.backoff.proofs.Words.{same-refl}
 use Rattle.totals_text.specs.Columns.{digits, allDigits, valueFrom}
-use Rattle.totals_text.proofs.Digits.{digits-lead, digits-le, digits-all, value-digits, digit-range}
+use Rattle.totals_text.proofs.Digits.{digits-lead, digits-le, digits-all, value-append, value-digits, all-append, one-digit, digit-range}
 use Rattle.arpa_text.specs.Parts.{parts, before}
-use Rattle.arpa_text.specs.Logs.{digitsUpTo, fraction, unsigned, readLog, nearest, roundLog, readPoints}
+use Rattle.arpa_text.specs.Logs.{digitsUpTo, decimals, fraction, unsigned, readLog, pointDecimals, unitsOfPoint, nearest, roundLog, readPoints}
 use Rattle.arpa_text.specs.Lines.{countHead, isCountHead, countIn, readCount, allAbove, isText, areTexts, listedIn, readRow}
 use Rattle.arpa_text.specs.declared.Points.the-variants.{Of}
 use Rattle.arpa_text.specs.declared.Count.the-variants.{Announced}
@@ -24,7 +25,7 @@ use Rattle.arpa_text.proofs.Parts.{parts-one, before-other}
 use Rattle.arpa_text.proofs.Logs.{few-enough, digits-lack, unsigned-point, round-negative}
 use Rattle.arpa_text.proofs.Lines.{count-fields, space-absent}
 use Rattle.arpa.specs.Reading.{closes}
-use Rattle.arpa_printed.specs.Printed.{withEnds, fourDigits, printSize, printLog, spaced, printRow, printCount}
+use Rattle.arpa_printed.specs.Printed.{withEnds, lastDigits, printSize, printLog, spaced, printRow, printCount}
 
 -- ---- parts
 
@@ -106,58 +107,54 @@ digits-some n e = let h = digits-lead n in let f = ap length (h .is) in omega ar
 digits-within : (k n : ℕ) → n < 10 ^ suc k → digitsUpTo (suc k) (digits n) ≡ true
 digits-within k n h = few-enough (suc k) (digits n) (digits-some n) (digits-le k n h) ∙ digits-all n
 
-digit-front : (d : ℕ) (text : List ℕ) → d < 10 → allDigits text ≡ true → allDigits ((48 + d) ∷ text) ≡ true
-unfolding allDigits
-digit-front d text h e = rw (le-leb 48 (48 + d) (omega arith), le-leb (48 + d) 57 (omega arith)) e
+pow-positive : (k : ℕ) → 0 < 10 ^ k
+pow-positive zero = omega arith
+pow-positive (suc k) = omega (arith, pow-positive k)
 
-four-all : (n : ℕ) → allDigits (fourDigits n) ≡ true
-unfolding fourDigits allDigits
-four-all n =
-    let one = digit-front (n % 10) [] (omega arith) refl in
-    let two = digit-front (n / 10 % 10) ((48 + n % 10) ∷ []) (omega arith) one in
-    let three = digit-front (n / 100 % 10) ((48 + n / 10 % 10) ∷ (48 + n % 10) ∷ []) (omega arith) two in
-    digit-front (n / 1000 % 10) ((48 + n / 100 % 10) ∷ (48 + n / 10 % 10) ∷ (48 + n % 10) ∷ []) (omega arith) three
+last-all : (k n : ℕ) → allDigits (lastDigits k n) ≡ true
+unfolding lastDigits
+last-all zero n = unfold allDigits in refl
+last-all (suc k) n = all-append (lastDigits k (n / 10)) ((48 + n % 10) ∷ []) (last-all k (n / 10)) (one-digit (n % 10) (omega arith))
 
-value-four : (a b c d : ℕ) → valueFrom 0 ((48 + a) ∷ (48 + b) ∷ (48 + c) ∷ (48 + d) ∷ []) ≡ 1000 * a + 100 * b + 10 * c + d
-unfolding valueFrom
-value-four a b c d = omega arith
+last-value : (k n : ℕ) → valueFrom 0 (lastDigits k n) ≡ n % 10 ^ k
+unfolding lastDigits
+last-value zero n = unfold valueFrom in omega arith
+last-value (suc k) n =
+    let v : valueFrom (valueFrom 0 (lastDigits k (n / 10))) ((48 + n % 10) ∷ []) ≡ 10 * valueFrom 0 (lastDigits k (n / 10)) + (48 + n % 10 - 48) = unfold valueFrom in refl in
+    let m = mod-mul n {m = 10 ^ k} {c = 10} (pow-positive k) (omega arith) in
+    let q : 10 ^ suc k ≡ 10 ^ k * 10 = omega arith in
+    value-append 0 (lastDigits k (n / 10)) ((48 + n % 10) ∷ []) ∙ v ∙ rw (last-value k (n / 10), q) (omega (arith, m))
 
-four-value : (n : ℕ) → valueFrom 0 (fourDigits n) ≡ n % 10000
-unfolding fourDigits
-four-value n =
-    value-four (n / 1000 % 10) (n / 100 % 10) (n / 10 % 10) (n % 10)
-    ∙ sum (n % 10000) (n % 1000) (n % 100) (n % 10) (n / 1000 % 10) (n / 100 % 10) (n / 10 % 10) (omega arith) (omega arith) (omega arith)
-  where
-    sum : (x y z w a b c : ℕ) → x ≡ 1000 * a + y → y ≡ 100 * b + z → z ≡ 10 * c + w → 1000 * a + 100 * b + 10 * c + w ≡ x
-    sum x y z w a b c e f g = omega arith
-
-four-length : (n : ℕ) → length (fourDigits n) ≡ 4
-unfolding fourDigits
-four-length n = refl
+last-length : (k n : ℕ) → length (lastDigits k n) ≡ k
+unfolding lastDigits
+last-length zero n = refl
+last-length (suc k) n = length-append (lastDigits k (n / 10)) ((48 + n % 10) ∷ []) ∙ omega (arith, last-length k (n / 10))
 
 -- ---- a log
 
-size-read : (n : ℕ) → n ≤ largestBackoff → unsigned (parts 46 (printSize n)) ≡ some (n * 1000)
+size-read : (n : ℕ) → n ≤ largestBackoff → unsigned (parts 46 (printSize n)) ≡ some (n * unitsOfPoint)
 unfolding printSize fraction
 size-read n h =
-    let w = digits-within 2 (n / 10000) (omega arith) in
-    let l = four-length n in
-    let f : digitsUpTo 7 (fourDigits n) ≡ true = few-enough 7 (fourDigits n) (λ z. omega arith) (omega arith) ∙ four-all n in
-    let v = four-value n in
-    let d = value-digits (n / 10000) in
-    let e : n / 10000 * 10000000 + n % 10000 * 1000 ≡ n * 1000 = omega arith in
-    rw (parts-append 46 (digits (n / 10000)) (fourDigits n) (digits-lack 46 (digits (n / 10000)) (λ c a b z. omega arith) (digits-all (n / 10000))), unsigned-point, w, f, l, v, d) (ap some e)
+    let whole = n / 10 ^ pointDecimals in
+    let rest = lastDigits pointDecimals n in
+    let w = digits-within 2 whole (omega arith) in
+    let l = last-length pointDecimals n in
+    let f : digitsUpTo decimals rest ≡ true = few-enough decimals rest (λ z. omega arith) (omega arith) ∙ last-all pointDecimals n in
+    let v = last-value pointDecimals n in
+    let d = value-digits whole in
+    let e : whole * 10 ^ decimals + n % 10 ^ pointDecimals * 10 ^ (decimals - pointDecimals) ≡ n * unitsOfPoint = omega arith in
+    rw (parts-append 46 (digits whole) rest (digits-lack 46 (digits whole) (λ c a b z. omega arith) (digits-all whole)), unsigned-point, w, f, l, v, d) (ap some e)
 
-nearest-thousand : (n : ℕ) → nearest (n * 1000) ≡ n
+nearest-whole : (n : ℕ) → nearest (n * unitsOfPoint) ≡ n
 unfolding nearest
-nearest-thousand n = omega arith
+nearest-whole n = omega arith
 
 size-lead : (n : ℕ) → (c : ℕ) × (rest : List ℕ) × (printSize n ≡ c ∷ rest) × (48 ≤ c) × (c ≤ 57)
 unfolding printSize
 size-lead n =
-    let d = digits-lead (n / 10000) in
-    let r = digit-range (d .first) (d .rest) (ap allDigits (sym (d .is)) ∙ digits-all (n / 10000)) in
-    (d .first, d .rest ++ (46 ∷ fourDigits n), ap (λ (l : List ℕ). l ++ (46 ∷ fourDigits n)) (d .is), r .0, r .1)
+    let d = digits-lead (n / 10 ^ pointDecimals) in
+    let r = digit-range (d .first) (d .rest) (ap allDigits (sym (d .is)) ∙ digits-all (n / 10 ^ pointDecimals)) in
+    (d .first, d .rest ++ (46 ∷ lastDigits pointDecimals n), ap (λ (l : List ℕ). l ++ (46 ∷ lastDigits pointDecimals n)) (d .is), r .0, r .1)
 
 -- a log begins with a digit or a minus
 pub log-lead : (z : ℤ) → (c : ℕ) × (rest : List ℕ) × (printLog z ≡ c ∷ rest) × (c ≤ 57)
@@ -175,26 +172,26 @@ minus-log : (text : List ℕ) (n : ℕ) → unsigned (parts 46 text) ≡ some n 
 unfolding readPoints readLog
 minus-log text n e = rw e refl
 
-round-positive : (n : ℕ) → roundLog (pos (n * 1000)) ≡ pos n
+round-positive : (n : ℕ) → roundLog (pos (n * unitsOfPoint)) ≡ pos n
 unfolding roundLog
-round-positive n = ap pos (nearest-thousand n)
+round-positive n = ap pos (nearest-whole n)
 
 pub log-read : (z : ℤ) → natAbs z ≤ largestBackoff → readPoints (printLog z) ≡ Of z
 unfolding printLog
 log-read (pos n) h =
     let d = size-lead n in
     let l = d .3 in
-    unsigned-log (printSize n) (d .0) (d .1) (n * 1000) (d .2) (λ e. omega arith) (size-read n h) ∙ ap Of (round-positive n)
-log-read (negsuc n) h = minus-log (printSize (suc n)) (suc n * 1000) (size-read (suc n) h) ∙ ap Of (round-negative (suc n * 1000) ∙ ap (λ (k : ℕ). negℤ (pos k)) (nearest-thousand (suc n)))
+    unsigned-log (printSize n) (d .0) (d .1) (n * unitsOfPoint) (d .2) (λ e. omega arith) (size-read n h) ∙ ap Of (round-positive n)
+log-read (negsuc n) h = minus-log (printSize (suc n)) (suc n * unitsOfPoint) (size-read (suc n) h) ∙ ap Of (round-negative (suc n * unitsOfPoint) ∙ ap (λ (k : ℕ). negℤ (pos k)) (nearest-whole (suc n)))
 
 pub log-lacks : (c : ℕ) (z : ℤ) → c < 45 → Lacks c (printLog z)
 unfolding printLog printSize
 log-lacks c z l = signed z
   where
-    size : (n : ℕ) → Lacks c (digits (n / 10000) ++ (46 ∷ fourDigits n))
+    size : (n : ℕ) → Lacks c (digits (n / 10 ^ pointDecimals) ++ (46 ∷ lastDigits pointDecimals n))
     size n =
-        lacks-append c (digits (n / 10000)) (46 ∷ fourDigits n) (digits-lack c (digits (n / 10000)) (λ d a b e. omega arith) (digits-all (n / 10000)))
-        (before-other c 46 (fourDigits n) (λ e. omega arith) (digits-lack c (fourDigits n) (λ d a b e. omega arith) (four-all n)))
+        lacks-append c (digits (n / 10 ^ pointDecimals)) (46 ∷ lastDigits pointDecimals n) (digits-lack c (digits (n / 10 ^ pointDecimals)) (λ d a b e. omega arith) (digits-all (n / 10 ^ pointDecimals)))
+        (before-other c 46 (lastDigits pointDecimals n) (λ e. omega arith) (digits-lack c (lastDigits pointDecimals n) (λ d a b e. omega arith) (last-all pointDecimals n)))
 
     signed : (y : ℤ) → Lacks c (printLog y)
     signed (pos n) = size n

@@ -2,7 +2,7 @@
 use mathlib.Core.Path.{_≡_}
 use mathlib.Core.Bool.{true, cond, false}
 use mathlib.Core.List.{List, [], _∷_, _++_, map}
-use Prim.Native.Nat.{ℕ, zero, suc, _+_, _*_, _-_, _/_, _%_, _<_, _≤_}
+use Prim.Native.Nat.{ℕ, zero, suc, _+_, _*_, _-_, _/_, _%_, _^_, _<_, _≤_}
 use lib.Dec.{eqb}
 use lib.IntN.{ℤ, pos, negsuc}
 use lib.ListN.{length, getD}
@@ -11,6 +11,7 @@ use Rattle.backoff.specs.declared.Verdict.the-variants.{Accepted}
 use Rattle.list.specs.Table.{rowsOf, lengthOf, orderOf, words, probabilityAt, backoffAt}
 use Rattle.list.specs.Check.{verdict}
 use Rattle.totals_text.specs.Columns.{digits}
+use Rattle.arpa_text.specs.Logs.{pointDecimals}
 use Rattle.arpa_text.specs.Lines.{dataLine, sectionLine, endLine, countHead, isText}
 use Rattle.arpa.specs.Words.{unknownText, startText, endText, storeWith}
 use Rattle.arpa.specs.Outcome.{readArpa}
@@ -23,13 +24,14 @@ withEnds (line ∷ lines) = line ++ (10 ∷ withEnds lines)
 
 -- ---- a line
 
--- the last four decimal digits
-unfoldable pub fourDigits : ℕ → List ℕ
-fourDigits n = (48 + n / 1000 % 10) ∷ (48 + n / 100 % 10) ∷ (48 + n / 10 % 10) ∷ (48 + n % 10) ∷ []
+-- the last k decimal digits of n, zeros in front among them
+unfoldable pub lastDigits : ℕ → ℕ → List ℕ
+lastDigits zero n = []
+lastDigits (suc k) n = lastDigits k (n / 10) ++ ((48 + n % 10) ∷ [])
 
--- so many points, 1/10,000 each, with four decimals
+-- so many points as a log with the decimals of a point
 unfoldable pub printSize : ℕ → List ℕ
-printSize n = digits (n / 10000) ++ (46 ∷ fourDigits n)
+printSize n = digits (n / 10 ^ pointDecimals) ++ (46 ∷ lastDigits pointDecimals n)
 
 unfoldable pub printLog : ℤ → List ℕ
 printLog (pos n) = printSize n

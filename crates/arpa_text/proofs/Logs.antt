@@ -15,7 +15,7 @@ use Rattle.integer.proofs.Ranges.{and-left, and-right, and-both, lt-or-ge}
 use Rattle.totals_text.specs.Columns.{allDigits, valueFrom}
 use Rattle.totals_text.proofs.Digits.{digit-range}
 use Rattle.arpa_text.specs.Parts.{parts, before}
-use Rattle.arpa_text.specs.Logs.{digitsUpTo, decimals, fraction, unsigned, negative, positive, readLog, nearest, roundLog, pointsOf, readPoints, RoundNearest}
+use Rattle.arpa_text.specs.Logs.{digitsUpTo, decimals, fraction, unsigned, negative, positive, readLog, unitsOfPoint, nearest, roundLog, pointsOf, readPoints, RoundNearest}
 use Rattle.arpa_text.specs.declared.Points.{Points}
 use Rattle.arpa_text.specs.declared.Points.the-variants.{NotInForm}
 use Rattle.arpa_text.proofs.Parts.{parts-one, parts-more, lacks-or-has, before-other, parts-end, parts-front}
@@ -200,14 +200,14 @@ round-negative (suc n) = refl
 pub round-nearest : (z : ℤ) → RoundNearest z
 unfolding roundLog nearest
 round-nearest (pos n) =
-    let q = pos ((n + 500) / 1000) in
+    let q = pos ((n + unitsOfPoint / 2) / unitsOfPoint) in
     record {
-      near = omega (zarith, mul 1000 q, sub (pos 1000 *ℤ q) (pos n), abs (pos 1000 *ℤ q -ℤ pos n));
-      half = λ h. omega (zarith, mul 1000 q, sub (pos 1000 *ℤ q) (pos n), abs (pos 1000 *ℤ q -ℤ pos n), abs q);
+      near = omega (zarith, mul unitsOfPoint q, sub (pos unitsOfPoint *ℤ q) (pos n), abs (pos unitsOfPoint *ℤ q -ℤ pos n));
+      half = λ h. omega (zarith, mul unitsOfPoint q, sub (pos unitsOfPoint *ℤ q) (pos n), abs (pos unitsOfPoint *ℤ q -ℤ pos n), abs q);
     }
 round-nearest (negsuc n) =
-    let q = pos ((suc n + 500) / 1000) in
+    let q = pos ((suc n + unitsOfPoint / 2) / unitsOfPoint) in
     record {
-      near = omega (zarith, mul 1000 (negℤ q), up-neg q, down-neg q, sub (pos 1000 *ℤ negℤ q) (negsuc n), abs (pos 1000 *ℤ negℤ q -ℤ negsuc n));
-      half = λ h. omega (zarith, mul 1000 (negℤ q), up-neg q, down-neg q, sub (pos 1000 *ℤ negℤ q) (negsuc n), abs (pos 1000 *ℤ negℤ q -ℤ negsuc n), abs (negℤ q));
+      near = omega (zarith, mul unitsOfPoint (negℤ q), up-neg q, down-neg q, sub (pos unitsOfPoint *ℤ negℤ q) (negsuc n), abs (pos unitsOfPoint *ℤ negℤ q -ℤ negsuc n));
+      half = λ h. omega (zarith, mul unitsOfPoint (negℤ q), up-neg q, down-neg q, sub (pos unitsOfPoint *ℤ negℤ q) (negsuc n), abs (pos unitsOfPoint *ℤ negℤ q -ℤ negsuc n), abs (negℤ q));
     }

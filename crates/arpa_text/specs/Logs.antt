@@ -44,12 +44,15 @@ unfoldable pub readLog : List ℕ → Option ℤ
 readLog [] = none
 readLog (c ∷ text) = cond (eqb c 45) (negative (unsigned (parts 46 text))) (positive (unsigned (parts 46 (c ∷ text))))
 
--- a point is 1/10,000 of a logarithm
+-- document 02, T-08: a point is "1/1,000,000 of a logarithm", and "ARPA logs round to six decimals from now on"
+abbrev pub pointDecimals : ℕ
+pointDecimals = 6
+
 abbrev pub unitsOfPoint : ℕ
-unitsOfPoint = 1000
+unitsOfPoint = 10 ^ (decimals - pointDecimals)
 
 unfoldable pub nearest : ℕ → ℕ
-nearest n = (n + 500) / unitsOfPoint
+nearest n = (n + unitsOfPoint / 2) / unitsOfPoint
 
 -- "rounded to the nearest point, a half away from zero"
 unfoldable pub roundLog : ℤ → ℤ

@@ -23,6 +23,11 @@ const DECIMALS: usize = 7;
 // Units of a log, 1/10,000,000 each, to a whole.
 const UNITS: u64 = 10000000;
 
+// Units to a point, and to half of one.
+const UNITS_OF_POINT: u64 = 10;
+
+const HALF_POINT: u64 = UNITS_OF_POINT / 2;
+
 // What a field holds: a log in points, or none.
 pub enum Points {
     Of(i32),
@@ -131,7 +136,7 @@ fn read_fraction(text: &[u8]) -> u64
     ensures units { λ r. ⌜ r ≡ fraction (now (text .entry)) ⌝ }
     ensures part { λ r. ⌜ r < 10 ^ decimals ⌝ }
 {
-    let mut units = totals_text::value(text) as u64;
+    let mut units = totals_text::value(text);
     let mut k = text.len();
     while k < DECIMALS {
         units *= 10;
@@ -149,7 +154,7 @@ fn read_size(text: &[u8]) -> Size
     if !digits_up_to(&text[..point], 3) {
         return Size::NoLog;
     }
-    let whole = totals_text::value(&text[..point]) as u64 * UNITS;
+    let whole = totals_text::value(&text[..point]) * UNITS;
     if point == text.len() {
         return Size::Units(whole);
     }
@@ -165,7 +170,7 @@ fn nearest_point(units: u64) -> i32
     requires { ⌜ units < 1000 * 10 ^ decimals ⌝ }
     ensures points { λ r. ⌜ r ≡ pos (nearest units) ⌝ }
 {
-    ((units + 500) / 1000) as i32
+    ((units + HALF_POINT) / UNITS_OF_POINT) as i32
 }
 
 // The points of a log.
@@ -283,7 +288,7 @@ fn read_digits(text: &[u8]) -> Count
     if !digits_up_to(text, 9) {
         return Count::NotInForm;
     }
-    Count::Announced(totals_text::value(text))
+    Count::Announced(totals_text::value(text) as u32)
 }
 
 // Where the text begins behind one space that may be absent.

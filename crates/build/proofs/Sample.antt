@@ -30,7 +30,7 @@ abbrev builtBase : List ℤ
 builtBase = pos 1 ∷ pos 9 ∷ pos 7 ∷ pos 8 ∷ pos 9 ∷ pos 10 ∷ pos 11 ∷ pos 0 ∷ negℤ (pos 11999) ∷ pos 2 ∷ negℤ (pos 7997) ∷ negℤ (pos 3997) ∷ pos 16 ∷ pos 0 ∷ pos 13 ∷ pos 17 ∷ negℤ (pos 1999) ∷ pos 2 ∷ pos 0 ∷ pos 18 ∷ []
 
 abbrev builtCheck : List ℤ
-builtCheck = pos 11 ∷ negℤ (pos 1) ∷ pos 0 ∷ pos 0 ∷ pos 0 ∷ pos 0 ∷ pos 0 ∷ negℤ (pos 20001) ∷ negℤ (pos 990001) ∷ negℤ (pos 10001) ∷ negℤ (pos 6001) ∷ negℤ (pos 9001) ∷ pos 5 ∷ negℤ (pos 1501) ∷ pos 4 ∷ pos 6 ∷ negℤ (pos 4001) ∷ negℤ (pos 3001) ∷ negℤ (pos 1001) ∷ pos 15 ∷ []
+builtCheck = pos 43 ∷ negℤ (pos 1) ∷ pos 0 ∷ pos 0 ∷ pos 0 ∷ pos 0 ∷ pos 0 ∷ negℤ (pos 20001) ∷ negℤ (pos 990001) ∷ negℤ (pos 10001) ∷ negℤ (pos 6001) ∷ negℤ (pos 9001) ∷ pos 5 ∷ negℤ (pos 1501) ∷ pos 4 ∷ pos 6 ∷ negℤ (pos 4001) ∷ negℤ (pos 3001) ∷ negℤ (pos 1001) ∷ pos 15 ∷ []
 
 pub record SampleCases : Type 0 where
   pub enough : sampleBuilt 20 ≡ record { answer = Accepted; base = builtBase; check = builtCheck; work = 2 ∷ 3 ∷ 4 ∷ 5 ∷ 6 ∷ 14 ∷ 12 ∷ 15 ∷ 19 ∷ 7 ∷ [] }

@@ -22,9 +22,9 @@ use Rattle.double_array.specs.declared.Child.the-variants.{At, Nothing}
 abbrev pub freeCheck : ℤ
 freeCheck = negsuc 2147483647
 
--- "CHECK[0] becomes n + 8, and any other head gives 11": the order, and what is added to it there
+-- "CHECK[0] becomes n + 40, and any other head gives 11": the order, and what is added to it there
 abbrev pub headOffset : ℕ
-headOffset = 8
+headOffset = 40
 
 abbrev pub headCheck : ℕ → ℤ
 headCheck n = pos (n + headOffset)

@@ -14,7 +14,7 @@ ghost use Rattle.double_array.specs.Lookup.{lookupOf, lookupOutcome, num
 pub const FREE: i32 = -2147483648;
 
 // CHECK[0] is the order and this.
-const HEAD_OFFSET: i32 = 8;
+const HEAD_OFFSET: i32 = 40;
 
 const LEAST_HEAD: i32 = 1 + HEAD_OFFSET;
 

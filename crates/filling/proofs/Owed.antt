@@ -88,7 +88,7 @@ pub record Owed (t : List ℤ) (a past : ℕ) (owed : ℤ) (at : ℕ) : Type 0 w
   pub from : a ≤ at
   pub to : at ≤ past
   pub rest : placePoints t a (past - a) ≡ owed +ℤ placePoints t at (past - at)
-  -- at most 990,000 for each history passed
+  -- at most the largest back-off for each history passed
   pub low : down owed ≤ up owed + largestBackoff * (at - a)
   pub high : up owed ≤ down owed + largestBackoff * (at - a)
 

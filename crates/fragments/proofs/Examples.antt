@@ -3,9 +3,10 @@ use mathlib.Core.Path.{_≡_, refl}
 use mathlib.Core.Bool.{Bool, true, false, cond}
 use mathlib.Core.List.{List, [], _∷_}
 use mathlib.Core.Option.{Option, none, some}
-use Prim.Native.Nat.{ℕ}
+use Prim.Native.Nat.{ℕ, _+_, _*_}
 use lib.IntN.{ℤ, pos, negℤ}
 use Rattle.integer.specs.Integer.{between}
+use Rattle.backoff.specs.Limits.{largestBackoff}
 use Rattle.backoff.specs.Refusal.{badFragment}
 use Rattle.backoff.specs.Words.{sameWords}
 use Rattle.backoff.specs.Model.{Entry, Model, inBackoff, listed, probability, backoff, extended, continued, live, reach}
@@ -76,12 +77,12 @@ two-sentences = refl
 
 -- Fragments of the caller's own may pass 21 and join to one that does not: the total is returned, and the next join refuses it.
 abbrev own : ℕ → Numbers
-own w = record { total = pos 2970000; count = 1; kept = 1; first = w ∷ 0 ∷ 0 ∷ 0 ∷ []; state = stateFrom (nine (record { words = w ∷ []; backoffs = pos 990000 ∷ [] })) }
+own w = record { total = pos (3 * largestBackoff); count = 1; kept = 1; first = w ∷ 0 ∷ 0 ∷ 0 ∷ []; state = stateFrom (nine (record { words = w ∷ []; backoffs = pos largestBackoff ∷ [] })) }
 
 abbrev joinedOwn : Joined
 joinedOwn = joinOutcome (some (storeOf sample)) (own 4) (own 5)
 
-own-joined : joinedOwn .fragment .total ≡ pos 5946000
+own-joined : joinedOwn .fragment .total ≡ pos (2 * (3 * largestBackoff) + 6000)
 unfolding computed
 own-joined = refl
 

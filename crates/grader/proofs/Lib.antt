@@ -11,3 +11,4 @@ pub mod Crossing
 pub mod Fragments
 pub mod PrunedRuns
 pub mod AnswersAlike
+pub mod Hundredfold

@@ -82,16 +82,16 @@ module _ (S : Store) (W : Whole S) (A : AcceptedModel (modelIn S)) (started : Bo
       go false = unfold firstState in sym (first-nine M)
 
   -- what the runs return and leave is what they do over the model
-  returned-is : answers (runOutcome (some S)) (firstState (some S) started lent) rs ≡ map packed (answers (run M) (first M started) rs)
+  pub returned-is : answers (runOutcome (some S)) (firstState (some S) started lent) rs ≡ map packed (answers (run M) (first M started) rs)
   returned-is = ap (λ (l : List ℤ). answers (runOutcome (some S)) l rs) first-state ∙ answers-over-a-store S W A started rs
 
-  points-are : standingPoints (runOutcome (some S)) (firstState (some S) started lent) rs ≡ standingPoints (run M) (first M started) rs
+  pub points-are : standingPoints (runOutcome (some S)) (firstState (some S) started lent) rs ≡ standingPoints (run M) (first M started) rs
   points-are = ap (λ (l : List ℤ). standingPoints (runOutcome (some S)) l rs) first-state ∙ standingPoints-over-a-store S W A started rs
 
-  lengths-are : standingLengths (runOutcome (some S)) (firstState (some S) started lent) rs ≡ standingLengths (run M) (first M started) rs
+  pub lengths-are : standingLengths (runOutcome (some S)) (firstState (some S) started lent) rs ≡ standingLengths (run M) (first M started) rs
   lengths-are = ap (λ (l : List ℤ). standingLengths (runOutcome (some S)) l rs) first-state ∙ standingLengths-over-a-store S W A started rs
 
-  last-is : lastState (runOutcome (some S)) (firstState (some S) started lent) rs ≡ nine (lastState (run M) (first M started) rs)
+  pub last-is : lastState (runOutcome (some S)) (firstState (some S) started lent) rs ≡ nine (lastState (run M) (first M started) rs)
   last-is = ap (λ (l : List ℤ). lastState (runOutcome (some S)) l rs) first-state ∙ lastState-over-a-store S W A started rs
 
   standing-plain : {X : Type 0} (r : Run) (slice : List X) → refusal r ≡ 0 → standing 0 r slice ≡ standing (plain M started r .number) r slice
@@ -117,7 +117,7 @@ module _ (S : Store) (W : Whole S) (A : AcceptedModel (modelIn S)) (started : Bo
       }
 
 -- plain scoring over an accepted list is the rule over its model
-plain-accepted : (table : List ℤ) (b : Bool) (M : Model) → verdict table ≡ Accepted → M ≡ modelOf table → plain M b ≡ plainOutcome table b
+pub plain-accepted : (table : List ℤ) (b : Bool) (M : Model) → verdict table ≡ Accepted → M ≡ modelOf table → plain M b ≡ plainOutcome table b
 unfolding plainOutcome
 plain-accepted table b M v e = λ i r. each r i
   where

@@ -7,3 +7,4 @@ pub mod MarkedCases
 pub mod Returns
 pub mod PrunedRuns
 pub mod AnswersAlike
+pub mod Hundredfold

@@ -50,7 +50,7 @@ unfolding samplePlaced
 sample-base = refl
 
 sample-check : slots 20 (placing 3 sampleNodes .check)
-    ≡ pos 11 ∷ negsuc 0 ∷ pos 0 ∷ pos 0 ∷ pos 0 ∷ pos 0 ∷ pos 0 ∷ negsuc 20000 ∷ negsuc 990000 ∷ negsuc 10000 ∷ negsuc 6000 ∷ negsuc 9000 ∷ pos 5 ∷ negsuc 1500 ∷ pos 4 ∷ pos 6 ∷ negsuc 4000 ∷ negsuc 3000 ∷ negsuc 1000 ∷ pos 15 ∷ []
+    ≡ pos 43 ∷ negsuc 0 ∷ pos 0 ∷ pos 0 ∷ pos 0 ∷ pos 0 ∷ pos 0 ∷ negsuc 20000 ∷ negsuc 990000 ∷ negsuc 10000 ∷ negsuc 6000 ∷ negsuc 9000 ∷ pos 5 ∷ negsuc 1500 ∷ pos 4 ∷ pos 6 ∷ negsuc 4000 ∷ negsuc 3000 ∷ negsuc 1000 ∷ pos 15 ∷ []
 unfolding samplePlaced
 sample-check = refl
 

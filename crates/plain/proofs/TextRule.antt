@@ -70,7 +70,7 @@ module _ {M : Model} (A : AcceptedModel M) where
       go (yes q) = A .longest l (omega (arith, A .order-high))
       go (no q) = dead-backoff M l (unlisted-dead M l (long-unlisted l (omega arith)))
 
--- at most 990,000 for the row and for each history passed that may be listed
+-- at most the largest back-off for the row and for each history passed that may be listed
 pub record Small (z : ℤ) (histories : ℕ) : Type 0 where
   pub low : down z ≤ up z + largestBackoff * suc histories
   pub high : up z ≤ down z + largestBackoff * suc histories

@@ -18,7 +18,7 @@ use Rattle.backoff.specs.Model.{Model}
 use Rattle.backoff.specs.Runs.{flat}
 use Rattle.backoff.specs.declared.Verdict.the-variants.{Refused}
 use Rattle.score.specs.Meaning.{rowsIn}
-use Rattle.totals_text.specs.Lines.{isListLine, listRow, refusedLine}
+use Rattle.totals_text.specs.Lines.{listWidth, isListLine, listRow, refusedLine}
 use Rattle.totals.specs.declared.Progress.{Progress}
 use Rattle.totals.specs.Totals.{Line, ended, unended, longer, linesOf, ListText, rows, notInForm, behind, readList, built, textOutput, totalsOutput}
 use Rattle.totals.specs.Steps.{lineEnd, HoldsBuilt, Begun, outputFrom, Fed, finished}
@@ -55,26 +55,34 @@ lineEnd-take (suc n) (c ∷ text) = go (lineEnd-take n text) (eqb c 10) refl
     go ih true e = rw e (omega arith)
     go ih false e = rw e (omega arith)
 
--- a first line that is not of 64 characters is refused, and so is any line 513
-module _ (k : ℕ) where
-  not-64 : (l : List ℕ) → (length l ≡ 64 → ⊥) → isListLine l ≡ false
-  unfolding isListLine
-  not-64 l n = rw (ne-eqb (length l) 64 n) refl
+-- the characters of a line of LIST
+abbrev long : ℕ
+long = 8 * listWidth
 
-  -- the first line is longer than 64 characters, or does not end
-  first-bad : (text : List ℕ) → 0 < length text → (lineEnd text < length text → lineEnd text ≡ 64 → ⊥) → readList k (linesOf text) ≡ notInForm k
+-- the bytes that decide: 512 lines with their LF, and one more
+abbrev pub enoughBytes : ℕ
+enoughBytes = suc long * 512 + 1
+
+-- a first line that is not of so many characters is refused, and so is any line 513
+module _ (k : ℕ) where
+  not-long : (l : List ℕ) → (length l ≡ long → ⊥) → isListLine l ≡ false
+  unfolding isListLine
+  not-long l n = rw (ne-eqb (length l) long n) refl
+
+  -- the first line is longer than that, or does not end
+  first-bad : (text : List ℕ) → 0 < length text → (lineEnd text < length text → lineEnd text ≡ long → ⊥) → readList k (linesOf text) ≡ notInForm k
   first-bad text h n = go (decLe (suc (lineEnd text)) (length text))
     where
       go : Dec (suc (lineEnd text) ≤ length text) → readList k (linesOf text) ≡ notInForm k
-      go (yes q) = rw (line-ended text q) (read-bad k (take (lineEnd text) text) _ (not-64 (take (lineEnd text) text) (λ e. n q (omega (arith, length-take (lineEnd text) text)))))
+      go (yes q) = rw (line-ended text q) (read-bad k (take (lineEnd text) text) _ (not-long (take (lineEnd text) text) (λ e. n q (omega (arith, length-take (lineEnd text) text)))))
       go (no q) = rw (line-unended text (omega (arith, lineEnd-le text)) h) (unfold readList in refl)
 
-list-line-64 : (l : List ℕ) → isListLine l ≡ true → length l ≡ 64
+list-line-long : (l : List ℕ) → isListLine l ≡ true → length l ≡ long
 unfolding isListLine
-list-line-64 l e = go (eqb (length l) 64) refl
+list-line-long l e = go (eqb (length l) long) refl
   where
-    go : (b : Bool) → eqb (length l) 64 ≡ b → length l ≡ 64
-    go true q = eqb-true (length l) 64 q
+    go : (b : Bool) → eqb (length l) long ≡ b → length l ≡ long
+    go true q = eqb-true (length l) long q
     go false q = absurd (false≢true (rw q at e))
 
 -- a line 513, whatever it holds
@@ -88,9 +96,9 @@ line-513 c text = go (eqb c 10) (linesOf text)
     go false (ended l ∷ ls) = refl
     go false (unended l ∷ ls) = refl
 
--- the lines from number i + 1 on, where j more may follow: the first 65 × j + 1 characters decide
+-- the lines from number i + 1 on, where j more may follow: the characters of j lines and one more decide
 Decided : ℕ → Type 0
-Decided j = (i n : ℕ) (text : List ℕ) → i + j ≡ 512 → 65 * j + 1 ≤ n → readList (suc i) (linesOf (take n text)) ≡ readList (suc i) (linesOf text)
+Decided j = (i n : ℕ) (text : List ℕ) → i + j ≡ 512 → suc long * j + 1 ≤ n → readList (suc i) (linesOf (take n text)) ≡ readList (suc i) (linesOf text)
 
 no-more : Decided 0
 unfolding Decided
@@ -104,7 +112,7 @@ one-more : (j : ℕ) → Decided j → Decided (suc j)
 unfolding Decided
 one-more j ih i zero text e h = absurd (omega arith)
 one-more j ih i (suc n) [] e h = refl
-one-more j ih i (suc n) (c ∷ text) e h = go (decLe (suc (lineEnd all)) (length all)) (decLe (lineEnd all) 64)
+one-more j ih i (suc n) (c ∷ text) e h = go (decLe (suc (lineEnd all)) (length all)) (decLe (lineEnd all) long)
   where
     all : List ℕ
     all = c ∷ text
@@ -118,7 +126,7 @@ one-more j ih i (suc n) (c ∷ text) e h = go (decLe (suc (lineEnd all)) (length
     same-end : lineEnd read ≡ min (suc n) (lineEnd all)
     same-end = lineEnd-take (suc n) all
 
-    go : Dec (suc (lineEnd all) ≤ length all) → Dec (lineEnd all ≤ 64) → readList (suc i) (linesOf read) ≡ readList (suc i) (linesOf all)
+    go : Dec (suc (lineEnd all) ≤ length all) → Dec (lineEnd all ≤ long) → readList (suc i) (linesOf read) ≡ readList (suc i) (linesOf all)
     go (yes q) (yes s) = line-here (isListLine (take (lineEnd all) all)) refl
       where
         here : linesOf all ≡ ended (take (lineEnd all) all) ∷ linesOf (drop (suc (lineEnd all)) all)
@@ -132,7 +140,7 @@ one-more j ih i (suc n) (c ∷ text) e h = go (decLe (suc (lineEnd all)) (length
         line-here : (b : Bool) → isListLine (take (lineEnd all) all) ≡ b → readList (suc i) (linesOf read) ≡ readList (suc i) (linesOf all)
         line-here false f = rw (here, there) (read-bad (suc i) (take (lineEnd all) all) _ f ∙ sym (read-bad (suc i) (take (lineEnd all) all) _ f))
         line-here true f =
-            let l : lineEnd all ≡ 64 = omega (arith, list-line-64 (take (lineEnd all) all) f, length-take (lineEnd all) all) in
+            let l : lineEnd all ≡ long = omega (arith, list-line-long (take (lineEnd all) all) f, length-take (lineEnd all) all) in
             rw (here, there)
             (read-good (suc i) (take (lineEnd all) all) _ f
             ∙ ap (λ (x : ListText). cond (leb (suc i) 512) (behind (listRow (take (lineEnd all) all)) x) (notInForm (suc i))) (ih (suc i) (suc n - suc (lineEnd all)) (drop (suc (lineEnd all)) all) (omega arith) (omega arith))
@@ -146,15 +154,15 @@ decided : (j : ℕ) → Decided j
 decided zero = no-more
 decided (suc j) = one-more j (decided j)
 
--- the first 33,281 bytes of LIST decide
-pub list-bytes : (n : ℕ) (list : List ℕ) → 33281 ≤ n → readList 1 (linesOf (take n list)) ≡ readList 1 (linesOf list)
+-- so many bytes of LIST decide
+pub list-bytes : (n : ℕ) (list : List ℕ) → enoughBytes ≤ n → readList 1 (linesOf (take n list)) ≡ readList 1 (linesOf list)
 unfolding Decided
 list-bytes n list h = decided 512 0 n list refl h
 
 -- ---- the program
 
 -- The program reads the first n bytes of LIST.
-module _ (n : ℕ) (enough : 33281 ≤ n) (list : List ℕ) where
+module _ (n : ℕ) (enough : enoughBytes ≤ n) (list : List ℕ) where
   whole : {x : ListText} → readList 1 (linesOf (take n list)) ≡ x → readList 1 (linesOf list) ≡ x
   whole e = sym (list-bytes n list enough) ∙ e
 

@@ -410,7 +410,7 @@ fn build_list(table: &[i32]) {
     }
 }
 
-// The first bytes of LIST, as many as fit, and how many there are. The first 33,281 decide: 512 lines of 65, and one more.
+// The first bytes of LIST, as many as fit, and how many there are. The first 49,665 decide: 512 lines of 97, and one more.
 fn load_list(text: &mut [u8]) -> usize
     ensures { λ r. ⌜ Counts r (now (text .exit)) ⌝ }
 {

@@ -94,7 +94,7 @@ digits-bound =
 
 -- ---- reading them
 
-value-append : (v : ℕ) (s t : List ℕ) → valueFrom v (s ++ t) ≡ valueFrom (valueFrom v s) t
+pub value-append : (v : ℕ) (s t : List ℕ) → valueFrom v (s ++ t) ≡ valueFrom (valueFrom v s) t
 unfolding valueFrom
 value-append v [] t = refl
 value-append v (c ∷ s) t = value-append (10 * v + (c - 48)) s t
@@ -106,13 +106,13 @@ value-digits =
     (λ n h. rw (digits-one n h) (omega arith))
     (λ n h r. rw (digits-more n h, value-append, r) (omega arith))
 
-all-append : (s t : List ℕ) → allDigits s ≡ true → allDigits t ≡ true → allDigits (s ++ t) ≡ true
+pub all-append : (s t : List ℕ) → allDigits s ≡ true → allDigits t ≡ true → allDigits (s ++ t) ≡ true
 unfolding allDigits
 all-append [] t e f = f
 all-append (c ∷ s) t e f =
     and-both (leb 48 c && leb c 57) (allDigits (s ++ t)) (and-left (leb 48 c && leb c 57) (allDigits s) e) (all-append s t (and-right (leb 48 c && leb c 57) (allDigits s) e) f)
 
-one-digit : (d : ℕ) → d < 10 → allDigits ((48 + d) ∷ []) ≡ true
+pub one-digit : (d : ℕ) → d < 10 → allDigits ((48 + d) ∷ []) ≡ true
 unfolding allDigits
 one-digit d h = rw (le-leb 48 (48 + d) (omega arith), le-leb (48 + d) 57 (omega arith))
 

@@ -4,6 +4,7 @@ use mathlib.Core.Bool.{Bool, true, false, cond, _&&_, false≢true}
 use mathlib.Core.List.{List, [], _∷_, _++_, map, append-nil}
 use Prim.Native.Nat.{ℕ, zero, suc, _+_, _*_, _-_, _/_, _%_, _^_, _≤_, _<_, max}
 use native.Mathlib.Omega.{arith}
+use native.Mathlib.Nat.{mul-le-mul-left}
 use native.Mathlib.Numerals.{add-one}
 use lib.Dec.{eqb, leb}
 use lib.IntN.{ℤ, pos, negsuc, natAbs}
@@ -19,10 +20,10 @@ use Rattle.backoff.specs.Run.{written}
 use Rattle.totals_text.specs.declared.Column.{Column}
 use Rattle.totals_text.specs.declared.Column.the-variants.{Number, NotInForm}
 use Rattle.totals_text.specs.declared.TextLine.the-variants.{Words, NotInForm as NoWords}
-use Rattle.totals_text.specs.Columns.{digits, signed, numeral, justified, column, leastNumber, readColumn}
-use Rattle.totals_text.specs.Lines.{columns, inForm, allInForm, numberOf, wordOf, isListLine, listRow, isTextLine, textWords, textAnswer, lineOf, AllHeld, ListForm, ListLineMeans, TextForm, TextLineMeans, refusedWord, countColumns, sentenceLine, refusedLine}
+use Rattle.totals_text.specs.Columns.{digits, signed, numeral, justified, column, leastNumber, Held, readColumn}
+use Rattle.totals_text.specs.Lines.{listWidth, textWidth, columns, inForm, allInForm, numberOf, wordOf, isListLine, listRow, isTextLine, textWords, textAnswer, lineOf, AllHeld, ListForm, ListLineMeans, TextForm, TextLineMeans, refusedWord, countColumns, sentenceLine, refusedLine}
 use Rattle.totals_text.proofs.Digits.{digits-le}
-use Rattle.totals_text.proofs.Columns.{length-justified, read-eight, printed-read, column-eight, column-range}
+use Rattle.totals_text.proofs.Columns.{length-justified, read-column-printed, printed-read}
 
 -- ---- printed lines
 
@@ -82,49 +83,56 @@ word-natural NotInForm e = refl
 -- ---- a loop over the columns of a line
 
 -- the columns from i on: the one at i, and those behind it
-pub columns-step : (line : List ℕ) (count i : ℕ) → i < count → columns (count - i) (drop (8 * i) line) ≡ readColumn (take (8 * i + 8 - 8 * i) (drop (8 * i) line)) ∷ columns (count - (i + 1)) (drop (8 * (i + 1)) line)
+pub columns-step : (width : ℕ) (line : List ℕ) (count i : ℕ) → i < count → columns width (count - i) (drop (width * i) line) ≡ readColumn width (take (width * i + width - width * i) (drop (width * i) line)) ∷ columns width (count - (i + 1)) (drop (width * (i + 1)) line)
 unfolding columns
-columns-step line count i h =
+columns-step width line count i h =
     let e : count - i ≡ suc (count - (i + 1)) = omega arith in
-    let f : 8 * i + 8 - 8 * i ≡ 8 = omega arith in
-    let g : 8 * (i + 1) ≡ 8 * i + 8 = omega arith in
-    rw (e, f, g, ← drop-drop 8 (8 * i) line) refl
+    let f : width * i + width - width * i ≡ width = omega arith in
+    let g : width * (i + 1) ≡ width * i + width = omega arith in
+    rw (e, f, g, ← drop-drop width (width * i) line) refl
 
-pub columns-none : (line : List ℕ) (count i : ℕ) → count ≤ i → columns (count - i) (drop (8 * i) line) ≡ []
+pub columns-none : (width : ℕ) (line : List ℕ) (count i : ℕ) → count ≤ i → columns width (count - i) (drop (width * i) line) ≡ []
 unfolding columns
-columns-none line count i h = let e : count - i ≡ 0 = omega arith in rw e refl
+columns-none width line count i h = let e : count - i ≡ 0 = omega arith in rw e refl
 
-pub columns-start : (line : List ℕ) (count : ℕ) → columns count line ≡ columns (count - 0) (drop (8 * 0) line)
-columns-start line count = let e : count - 0 ≡ count = omega arith in rw e refl
+pub columns-start : (width : ℕ) (line : List ℕ) (count : ℕ) → columns width count line ≡ columns width (count - 0) (drop (width * 0) line)
+columns-start width line count =
+    let e : count - 0 ≡ count = omega arith in
+    let f : width * 0 ≡ 0 = omega arith in
+    rw (e, f) refl
+
+-- the column at i ends within the columns
+pub column-end : (width count i : ℕ) → i < count → width * i + width ≤ width * count
+column-end width count i h = let e : width * (i + 1) ≡ width * i + width = omega arith in rw (← e) (mul-le-mul-left width (omega arith))
 
 -- what each column gives is stored: the column at i is next
-sets-columns : {A : Type 0} (f : Column → A) (out : List A) (line : List ℕ) (count i : ℕ) → i < count
-    → sets out i (map f (columns (count - i) (drop (8 * i) line)))
-    ≡ sets (set out i (f (readColumn (take (8 * i + 8 - 8 * i) (drop (8 * i) line))))) (i + 1) (map f (columns (count - (i + 1)) (drop (8 * (i + 1)) line)))
-sets-columns f out line count i h = rw (columns-step line count i h, add-one) refl
+sets-columns : {A : Type 0} (f : Column → A) (out : List A) (width : ℕ) (line : List ℕ) (count i : ℕ) → i < count
+    → sets out i (map f (columns width (count - i) (drop (width * i) line)))
+    ≡ sets (set out i (f (readColumn width (take (width * i + width - width * i) (drop (width * i) line))))) (i + 1) (map f (columns width (count - (i + 1)) (drop (width * (i + 1)) line)))
+sets-columns f out width line count i h = rw (columns-step width line count i h, add-one) refl
 
-sets-columns-none : {A : Type 0} (f : Column → A) (out : List A) (line : List ℕ) (count i : ℕ) → count ≤ i → sets out i (map f (columns (count - i) (drop (8 * i) line))) ≡ out
-sets-columns-none f out line count i h = rw (columns-none line count i h) refl
+sets-columns-none : {A : Type 0} (f : Column → A) (out : List A) (width : ℕ) (line : List ℕ) (count i : ℕ) → count ≤ i → sets out i (map f (columns width (count - i) (drop (width * i) line))) ≡ out
+sets-columns-none f out width line count i h = rw (columns-none width line count i h) refl
 
 -- the columns still to be stored make, with those that are, all of them
-pub record Filling {A : Type 0} (f : Column → A) (line : List ℕ) (count : ℕ) (out₀ out : List A) (i : ℕ) : Type 0 where
+pub record Filling {A : Type 0} (f : Column → A) (width : ℕ) (line : List ℕ) (count : ℕ) (out₀ out : List A) (i : ℕ) : Type 0 where
   pub within : i ≤ count
-  pub left : sets out₀ 0 (map f (columns count line)) ≡ sets out i (map f (columns (count - i) (drop (8 * i) line)))
+  pub left : sets out₀ 0 (map f (columns width count line)) ≡ sets out i (map f (columns width (count - i) (drop (width * i) line)))
   pub long : length out ≡ length out₀
 
-module _ {A : Type 0} (f : Column → A) (line : List ℕ) (count : ℕ) (out₀ : List A) where
-  pub fill-start : Filling f line count out₀ out₀ 0
-  fill-start = record { within = omega arith; left = ap (λ (cs : List Column). sets out₀ 0 (map f cs)) (columns-start line count); long = refl }
+module _ {A : Type 0} (f : Column → A) (width : ℕ) (line : List ℕ) (count : ℕ) (out₀ : List A) where
+  pub fill-start : Filling f width line count out₀ out₀ 0
+  fill-start = record { within = omega arith; left = ap (λ (cs : List Column). sets out₀ 0 (map f cs)) (columns-start width line count); long = refl }
 
-  pub fill-step : (out : List A) (i : ℕ) (v : A) → i < count → v ≡ f (readColumn (take (8 * i + 8 - 8 * i) (drop (8 * i) line))) → Filling f line count out₀ out i → Filling f line count out₀ (set out i v) (i + 1)
+  pub fill-step : (out : List A) (i : ℕ) (v : A) → i < count → v ≡ f (readColumn width (take (width * i + width - width * i) (drop (width * i) line))) → Filling f width line count out₀ out i → Filling f width line count out₀ (set out i v) (i + 1)
   fill-step out i v h e r = record {
     within = omega arith;
-    left = r .left ∙ sets-columns f out line count i h ∙ rw e refl;
+    left = r .left ∙ sets-columns f out width line count i h ∙ rw e refl;
     long = simp length-set (r .long);
   }
 
-  pub fill-end : (out : List A) (i : ℕ) → count ≤ i → Filling f line count out₀ out i → out ≡ sets out₀ 0 (map f (columns count line))
-  fill-end out i h r = sym (r .left ∙ sets-columns-none f out line count i h)
+  pub fill-end : (out : List A) (i : ℕ) → count ≤ i → Filling f width line count out₀ out i → out ≡ sets out₀ 0 (map f (columns width count line))
+  fill-end out i h r = sym (r .left ∙ sets-columns-none f out width line count i h)
 
 -- ---- a line in form is its numbers printed
 
@@ -134,28 +142,35 @@ unfolding inForm numberOf
 in-form-number least (Number z) e = refl
 in-form-number least NotInForm e = absurd (false≢true e)
 
-length-columns : (count : ℕ) (line : List ℕ) → length (columns count line) ≡ count
+length-columns : (width count : ℕ) (line : List ℕ) → length (columns width count line) ≡ count
 unfolding columns
-length-columns zero line = refl
-length-columns (suc count) line = ap suc (length-columns count (drop 8 line))
+length-columns width zero line = refl
+length-columns width (suc count) line = ap suc (length-columns width count (drop width line))
 
-numbers-printed : (least : ℤ) (count : ℕ) (line : List ℕ) → length line ≡ 8 * count → allInForm least (columns count line) ≡ true → line ≡ lineOf (map numberOf (columns count line))
-unfolding columns allInForm lineOf
-numbers-printed least zero line h e = drop-of-length-le line {i = 0} (omega arith)
-numbers-printed least (suc count) line h e =
-    let r = readColumn (take 8 line) in
-    let n : length (drop 8 line) ≡ 8 * count = rw length-drop (omega arith) in
-    let p = printed-read (take 8 line) (numberOf r) (in-form-number least r (and-left (inForm least r) (allInForm least (columns count (drop 8 line))) e)) in
-    sym (take-append-drop 8 line) ∙ ap₂ (λ (a b : List ℕ). a ++ b) (p .0) (numbers-printed least count (drop 8 line) n (and-right (inForm least r) (allInForm least (columns count (drop 8 line))) e))
+module _ (width : ℕ) (least : ℤ) where
+  -- a line whose columns are all in form: the first is a number as it is printed, and the others are in form
+  first-printed : (count : ℕ) (line : List ℕ) → allInForm least (columns width (suc count) line) ≡ true → (take width line ≡ column width (numberOf (readColumn width (take width line)))) × Held width (numberOf (readColumn width (take width line)))
+  unfolding columns allInForm
+  first-printed count line e =
+      let r = readColumn width (take width line) in
+      printed-read width (take width line) (numberOf r) (in-form-number least r (and-left (inForm least r) (allInForm least (columns width count (drop width line))) e))
 
-numbers-held : (least : ℤ) (count : ℕ) (line : List ℕ) → allInForm least (columns count line) ≡ true → AllHeld (map numberOf (columns count line))
-unfolding columns allInForm
-numbers-held least zero line e j l = absurd (omega arith)
-numbers-held least (suc count) line e zero l =
-    let r = readColumn (take 8 line) in
-    column-range (take 8 line) (numberOf r) (in-form-number least r (and-left (inForm least r) (allInForm least (columns count (drop 8 line))) e))
-numbers-held least (suc count) line e (suc j) l =
-    numbers-held least count (drop 8 line) (and-right (inForm least (readColumn (take 8 line))) (allInForm least (columns count (drop 8 line))) e) j (omega arith)
+  others-in-form : (count : ℕ) (line : List ℕ) → allInForm least (columns width (suc count) line) ≡ true → allInForm least (columns width count (drop width line)) ≡ true
+  unfolding columns allInForm
+  others-in-form count line e = and-right (inForm least (readColumn width (take width line))) (allInForm least (columns width count (drop width line))) e
+
+  numbers-printed : (count : ℕ) (line : List ℕ) → length line ≡ width * count → allInForm least (columns width count line) ≡ true → line ≡ lineOf width (map numberOf (columns width count line))
+  unfolding columns lineOf
+  numbers-printed zero line h e = drop-of-length-le line {i = 0} (omega arith)
+  numbers-printed (suc count) line h e =
+      let n : length (drop width line) ≡ width * count = rw length-drop (omega arith) in
+      sym (take-append-drop width line) ∙ ap₂ (λ (a b : List ℕ). a ++ b) (first-printed count line e .0) (numbers-printed count (drop width line) n (others-in-form count line e))
+
+  numbers-held : (count : ℕ) (line : List ℕ) → allInForm least (columns width count line) ≡ true → AllHeld width (map numberOf (columns width count line))
+  unfolding columns
+  numbers-held zero line e j l = absurd (omega arith)
+  numbers-held (suc count) line e zero l = first-printed count line e .1
+  numbers-held (suc count) line e (suc j) l = numbers-held count (drop width line) (others-in-form count line e) j (omega arith)
 
 -- numbers that are not negative are words
 words-of : (cs : List Column) → allInForm (pos 0) cs ≡ true → map numberOf cs ≡ map pos (map wordOf cs)
@@ -167,32 +182,30 @@ words-of (NotInForm ∷ cs) e = absurd (false≢true e)
 
 -- ---- and numbers printed are a line in form
 
--- what is held of all is held of all but the first, and the first fills its column
-later-held : (z : ℤ) (zs : List ℤ) → AllHeld (z ∷ zs) → AllHeld zs
-later-held z zs h j l = h (suc j) (omega arith)
+-- what is held of all is held of all but the first
+module _ (width : ℕ) where
+  later-held : (z : ℤ) (zs : List ℤ) → AllHeld width (z ∷ zs) → AllHeld width zs
+  later-held z zs h j l = h (suc j) (omega arith)
 
-first-fits : (z : ℤ) (zs : List ℤ) → AllHeld (z ∷ zs) → length (column 8 z) ≡ 8
-first-fits z zs h = let b = h 0 (omega arith) in column-eight z (b .0) (b .1)
+  line-fits : (zs : List ℤ) → AllHeld width zs → length (lineOf width zs) ≡ width * length zs
+  unfolding lineOf
+  line-fits [] h = omega arith
+  line-fits (z ∷ zs) h = omega (arith, length-append (column width z) (lineOf width zs), h 0 (omega arith) .wide, line-fits zs (later-held z zs h))
 
-line-fits : (zs : List ℤ) → AllHeld zs → length (lineOf zs) ≡ 8 * length zs
-unfolding lineOf
-line-fits [] h = refl
-line-fits (z ∷ zs) h = omega (arith, length-append (column 8 z) (lineOf zs), first-fits z zs h, line-fits zs (later-held z zs h))
+  line-columns : (zs : List ℤ) → AllHeld width zs → columns width (length zs) (lineOf width zs) ≡ map Number zs
+  unfolding columns lineOf
+  line-columns [] h = refl
+  line-columns (z ∷ zs) h =
+      let f = h 0 (omega arith) in
+      rw (take-at (column width z) (lineOf width zs) width (f .wide), drop-at (column width z) (lineOf width zs) width (f .wide), read-column-printed width z f)
+      (ap (λ (cs : List Column). Number z ∷ cs) (line-columns zs (later-held z zs h)))
 
-line-columns : (zs : List ℤ) → AllHeld zs → columns (length zs) (lineOf zs) ≡ map Number zs
-unfolding columns lineOf
-line-columns [] h = refl
-line-columns (z ∷ zs) h =
-    let e = first-fits z zs h in
-    rw (take-at (column 8 z) (lineOf zs) 8 e, drop-at (column 8 z) (lineOf zs) 8 e, read-eight z e)
-    (ap (λ (cs : List Column). Number z ∷ cs) (line-columns zs (later-held z zs h)))
-
-all-numbers : (zs : List ℤ) → AllHeld zs → allInForm leastNumber (map Number zs) ≡ true
-unfolding allInForm inForm
-all-numbers [] h = refl
-all-numbers (z ∷ zs) h =
-    let b = h 0 (omega arith) in
-    and-both (leZ leastNumber z) (allInForm leastNumber (map Number zs)) (omega zarith) (all-numbers zs (later-held z zs h))
+  all-numbers : (zs : List ℤ) → AllHeld width zs → allInForm leastNumber (map Number zs) ≡ true
+  unfolding allInForm inForm
+  all-numbers [] h = refl
+  all-numbers (z ∷ zs) h =
+      let b = h 0 (omega arith) .least in
+      and-both (leZ leastNumber z) (allInForm leastNumber (map Number zs)) (omega zarith) (all-numbers zs (later-held z zs h))
 
 all-words : (ws : List ℕ) → allInForm (pos 0) (map Number (map pos ws)) ≡ true
 unfolding allInForm inForm
@@ -213,26 +226,27 @@ words-back (w ∷ ws) = ap (λ (ys : List ℕ). w ∷ ys) (words-back ws)
 
 pub list-line-length : (line : List ℕ) → length (listRow line) ≡ 8
 unfolding listRow
-list-line-length line = length-map (columns 8 line) numberOf ∙ length-columns 8 line
+list-line-length line = length-map (columns listWidth 8 line) numberOf ∙ length-columns listWidth 8 line
 
 list-line-form : (line : List ℕ) → isListLine line ≡ true → ListForm line (listRow line)
 unfolding isListLine listRow
 list-line-form line e =
-    let l = eqb (length line) 64 in
-    let a = allInForm leastNumber (columns 8 line) in
+    let l = eqb (length line) (8 * listWidth) in
+    let a = allInForm leastNumber (columns listWidth 8 line) in
     let all = and-right l a e in
     record {
       eight = list-line-length line;
-      held = numbers-held leastNumber 8 line all;
-      is = numbers-printed leastNumber 8 line (eqb-true (length line) 64 (and-left l a e)) all;
+      held = numbers-held listWidth leastNumber 8 line all;
+      is = numbers-printed listWidth leastNumber 8 line (eqb-true (length line) (8 * listWidth) (and-left l a e)) all;
     }
 
-list-line-read : (zs : List ℤ) → length zs ≡ 8 → AllHeld zs → (isListLine (lineOf zs) ≡ true) × (listRow (lineOf zs) ≡ zs)
+list-line-read : (zs : List ℤ) → length zs ≡ 8 → AllHeld listWidth zs → (isListLine (lineOf listWidth zs) ≡ true) × (listRow (lineOf listWidth zs) ≡ zs)
 unfolding isListLine listRow
 list-line-read zs n h =
-    let k = line-fits zs h in
-    let c : columns 8 (lineOf zs) ≡ map Number zs = ap (λ (m : ℕ). columns m (lineOf zs)) (sym n) ∙ line-columns zs h in (
-      and-both (eqb (length (lineOf zs)) 64) (allInForm leastNumber (columns 8 (lineOf zs))) (eq-eqb (length (lineOf zs)) 64 (omega arith)) (ap (allInForm leastNumber) c ∙ all-numbers zs h),
+    let line = lineOf listWidth zs in
+    let k = line-fits listWidth zs h in
+    let c : columns listWidth 8 line ≡ map Number zs = ap (λ (m : ℕ). columns listWidth m line) (sym n) ∙ line-columns listWidth zs h in (
+      and-both (eqb (length line) (8 * listWidth)) (allInForm leastNumber (columns listWidth 8 line)) (eq-eqb (length line) (8 * listWidth) (omega arith)) (ap (allInForm leastNumber) c ∙ all-numbers listWidth zs h),
       ap (map numberOf) c ∙ numbers-back zs,
     )
 
@@ -248,36 +262,36 @@ list-line-means line row = record {
 
 -- ---- TEXT lines
 
-pub length-words : (line : List ℕ) → length (textWords line) ≡ length line / 8
+pub length-words : (line : List ℕ) → length (textWords line) ≡ length line / textWidth
 unfolding textWords
-length-words line = length-map (columns (length line / 8) line) wordOf ∙ length-columns (length line / 8) line
+length-words line = length-map (columns textWidth (length line / textWidth) line) wordOf ∙ length-columns textWidth (length line / textWidth) line
 
 text-line-form : (line : List ℕ) → isTextLine line ≡ true → TextForm line (textWords line)
 unfolding isTextLine textWords
 text-line-form line e =
-    let a = leb (length line) 512 in
-    let b = eqb (length line % 8) 0 in
-    let cs = columns (length line / 8) line in
+    let a = leb (length line) (64 * textWidth) in
+    let b = eqb (length line % textWidth) 0 in
+    let cs = columns textWidth (length line / textWidth) line in
     let r = and-right a (b && allInForm (pos 0) cs) e in
     let all = and-right b (allInForm (pos 0) cs) r in
-    let h = leb-true (length line) 512 (and-left a (b && allInForm (pos 0) cs) e) in
-    let m = eqb-true (length line % 8) 0 (and-left b (allInForm (pos 0) cs) r) in
+    let h = leb-true (length line) (64 * textWidth) (and-left a (b && allInForm (pos 0) cs) e) in
+    let m = eqb-true (length line % textWidth) 0 (and-left b (allInForm (pos 0) cs) r) in
     record {
       most = omega (arith, length-words line);
-      held = subst AllHeld (words-of cs all) (numbers-held (pos 0) (length line / 8) line all);
-      is = numbers-printed (pos 0) (length line / 8) line (omega arith) all ∙ ap lineOf (words-of cs all);
+      held = subst (AllHeld textWidth) (words-of cs all) (numbers-held textWidth (pos 0) (length line / textWidth) line all);
+      is = numbers-printed textWidth (pos 0) (length line / textWidth) line (omega arith) all ∙ ap (lineOf textWidth) (words-of cs all);
     }
 
-text-line-read : (ws : List ℕ) → length ws ≤ 64 → AllHeld (map pos ws) → (isTextLine (lineOf (map pos ws)) ≡ true) × (textWords (lineOf (map pos ws)) ≡ ws)
+text-line-read : (ws : List ℕ) → length ws ≤ 64 → AllHeld textWidth (map pos ws) → (isTextLine (lineOf textWidth (map pos ws)) ≡ true) × (textWords (lineOf textWidth (map pos ws)) ≡ ws)
 unfolding isTextLine textWords
 text-line-read ws n h =
-    let line = lineOf (map pos ws) in
+    let line = lineOf textWidth (map pos ws) in
     let m = length-map ws pos in
-    let k = line-fits (map pos ws) h in
-    let q : length line / 8 ≡ length (map pos ws) = omega arith in
-    let c : columns (length line / 8) line ≡ map Number (map pos ws) = ap (λ (k : ℕ). columns k line) q ∙ line-columns (map pos ws) h in (
-      and-both (leb (length line) 512) (eqb (length line % 8) 0 && allInForm (pos 0) (columns (length line / 8) line)) (le-leb (length line) 512 (omega arith))
-          (and-both (eqb (length line % 8) 0) (allInForm (pos 0) (columns (length line / 8) line)) (eq-eqb (length line % 8) 0 (omega arith)) (ap (allInForm (pos 0)) c ∙ all-words ws)),
+    let k = line-fits textWidth (map pos ws) h in
+    let q : length line / textWidth ≡ length (map pos ws) = omega arith in
+    let c : columns textWidth (length line / textWidth) line ≡ map Number (map pos ws) = ap (λ (k : ℕ). columns textWidth k line) q ∙ line-columns textWidth (map pos ws) h in (
+      and-both (leb (length line) (64 * textWidth)) (eqb (length line % textWidth) 0 && allInForm (pos 0) (columns textWidth (length line / textWidth) line)) (le-leb (length line) (64 * textWidth) (omega arith))
+          (and-both (eqb (length line % textWidth) 0) (allInForm (pos 0) (columns textWidth (length line / textWidth) line)) (eq-eqb (length line % textWidth) 0 (omega arith)) (ap (allInForm (pos 0)) c ∙ all-words ws)),
       ap (map wordOf) c ∙ words-back ws,
     )
 

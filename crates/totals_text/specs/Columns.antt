@@ -8,6 +8,8 @@ use Prim.Native.Nat.{ℕ, zero, suc, _+_, _*_, _-_, _/_, _%_}
 use lib.Dec.{eqb, ltb, leb}
 use lib.IntN.{ℤ, pos, negsuc, negℤ}
 use lib.ListN.{length, replicate}
+use lib.Signed.{_≤ℤ_}
+use Rattle.integer.specs.Integer.{between}
 use Rattle.totals_text.specs.declared.Column.{Column}
 use Rattle.totals_text.specs.declared.Column.the-variants.{Number, NotInForm}
 
@@ -37,14 +39,24 @@ justified width text = replicate (width - length text) 32 ++ text
 unfoldable pub column : ℕ → ℤ → List ℕ
 column width z = justified width (numeral z)
 
--- a column of eight holds −9,999,999 to 99,999,999
+-- what signed 32 bits hold
 abbrev pub leastNumber : ℤ
-leastNumber = negsuc 9999998
+leastNumber = negsuc 2147483647
 
 abbrev pub greatestNumber : ℤ
-greatestNumber = pos 99999999
+greatestNumber = pos 2147483647
+
+-- a number that 32 bits hold, and that stands in a column of so many characters
+pub record Held (width : ℕ) (z : ℤ) : Type 0 where
+  pub least : leastNumber ≤ℤ z
+  pub greatest : z ≤ℤ greatestNumber
+  pub wide : length (column width z) ≡ width
 
 -- ---- reading
+
+-- 63 bits hold every number of so many digits; how the code reads digits, and no column is wider
+abbrev pub mostDigits : ℕ
+mostDigits = 18
 
 unfoldable pub withoutSpaces : List ℕ → List ℕ
 withoutSpaces [] = []
@@ -64,21 +76,25 @@ unfoldable pub valueFrom : ℕ → List ℕ → ℕ
 valueFrom v [] = v
 valueFrom v (c ∷ text) = valueFrom (10 * v + (c - 48)) text
 
+-- document 02, T-08: "a number there that signed 32 bits don't hold gives 13"
+unfoldable pub ifHeld : ℤ → Column
+ifHeld z = cond (between leastNumber greatestNumber z) (Number z) NotInForm
+
 unfoldable pub readNatural : List ℕ → Column
-readNatural text = cond (isNatural text) (Number (pos (valueFrom 0 text))) NotInForm
+readNatural text = cond (isNatural text) (ifHeld (pos (valueFrom 0 text))) NotInForm
 
 -- what stands behind a minus: no −0
 unfoldable pub readNegative : List ℕ → Column
-readNegative text = cond (isNatural text && not (eqb (valueFrom 0 text) 0)) (Number (negℤ (pos (valueFrom 0 text)))) NotInForm
+readNegative text = cond (isNatural text && not (eqb (valueFrom 0 text) 0)) (ifHeld (negℤ (pos (valueFrom 0 text)))) NotInForm
 
 unfoldable pub readNumeral : List ℕ → Column
 readNumeral [] = NotInForm
 readNumeral (c ∷ text) = cond (eqb c 45) (readNegative text) (readNatural (c ∷ text))
 
--- "columns of eight characters, a number right-justified in each, spaces before it, no leading zeros, no −0"
-unfoldable pub readColumn : List ℕ → Column
-readColumn text = cond (eqb (length text) 8) (readNumeral (withoutSpaces text)) NotInForm
+-- a column of `width` characters, "a number right-justified in each, spaces before it, no leading zeros, no −0"
+unfoldable pub readColumn : ℕ → List ℕ → Column
+readColumn width text = cond (eqb (length text) width) (readNumeral (withoutSpaces text)) NotInForm
 
--- what a column's reading means: it is z exactly where the text is the eight characters that z is printed as
-pub record ColumnMeans (text : List ℕ) (r : Column) : Type 0 where
-  pub number : (z : ℤ) → (r ≡ Number z) ↔ ((text ≡ column 8 z) × (length text ≡ 8))
+-- what a column's reading means: it is z exactly where the column and 32 bits hold z, and the text is z as it is printed there
+pub record ColumnMeans (width : ℕ) (text : List ℕ) (r : Column) : Type 0 where
+  pub number : (z : ℤ) → (r ≡ Number z) ↔ ((text ≡ column width z) × Held width z)

@@ -2,21 +2,28 @@
 use mathlib.Core.Path.{_≡_}
 use mathlib.Core.Bool.{Bool, true, false, cond, _&&_}
 use mathlib.Core.List.{List, [], _∷_, _++_, map}
-use Prim.Native.Nat.{ℕ, zero, suc, _/_, _%_, _≤_, _<_}
+use Prim.Native.Nat.{ℕ, zero, suc, _*_, _/_, _%_, _≤_, _<_}
 use lib.Dec.{eqb, leb}
 use lib.IntN.{ℤ, pos, negsuc}
-use lib.Signed.{leZ, _≤ℤ_}
+use lib.Signed.{leZ}
 use lib.ListN.{length, getD, take, drop}
 use Rattle.totals_text.specs.declared.Column.{Column}
 use Rattle.totals_text.specs.declared.Column.the-variants.{Number, NotInForm}
 use Rattle.totals_text.specs.declared.TextLine.{TextLine}
 use Rattle.totals_text.specs.declared.TextLine.the-variants.{Words, NotInForm as NoWords}
-use Rattle.totals_text.specs.Columns.{column, leastNumber, greatestNumber, readColumn}
+use Rattle.totals_text.specs.Columns.{column, leastNumber, Held, readColumn}
 
--- the first columns of a line, read
-unfoldable pub columns : ℕ → List ℕ → List Column
-columns zero line = []
-columns (suc count) line = readColumn (take 8 line) ∷ columns count (drop 8 line)
+-- document 02, T-08: "Columns of LIST grow to twelve characters .. TEXT and the printed columns don't change."
+abbrev pub listWidth : ℕ
+listWidth = 12
+
+abbrev pub textWidth : ℕ
+textWidth = 8
+
+-- the first columns of a line, each of `width` characters, read
+unfoldable pub columns : ℕ → ℕ → List ℕ → List Column
+columns width zero line = []
+columns width (suc count) line = readColumn width (take width line) ∷ columns width count (drop width line)
 
 -- a number that is not below `least`
 unfoldable pub inForm : ℤ → Column → Bool
@@ -38,37 +45,37 @@ wordOf (Number (pos n)) = n
 wordOf (Number (negsuc n)) = 0
 wordOf NotInForm = 0
 
--- "eight columns of eight characters"
+-- "eight columns"
 unfoldable pub isListLine : List ℕ → Bool
-isListLine line = eqb (length line) 64 && allInForm leastNumber (columns 8 line)
+isListLine line = eqb (length line) (8 * listWidth) && allInForm leastNumber (columns listWidth 8 line)
 
 unfoldable pub listRow : List ℕ → List ℤ
-listRow line = map numberOf (columns 8 line)
+listRow line = map numberOf (columns listWidth 8 line)
 
 -- "up to 64 words, each in such a column and none negative, an empty line being an empty sentence"
 unfoldable pub isTextLine : List ℕ → Bool
-isTextLine line = leb (length line) 512 && (eqb (length line % 8) 0 && allInForm (pos 0) (columns (length line / 8) line))
+isTextLine line = leb (length line) (64 * textWidth) && (eqb (length line % textWidth) 0 && allInForm (pos 0) (columns textWidth (length line / textWidth) line))
 
 unfoldable pub textWords : List ℕ → List ℕ
-textWords line = map wordOf (columns (length line / 8) line)
+textWords line = map wordOf (columns textWidth (length line / textWidth) line)
 
 unfoldable pub textAnswer : List ℕ → TextLine
 textAnswer line = cond (isTextLine line) (Words (length (textWords line))) NoWords
 
 -- the numbers side by side, each in its column
-unfoldable pub lineOf : List ℤ → List ℕ
-lineOf [] = []
-lineOf (z ∷ zs) = column 8 z ++ lineOf zs
+unfoldable pub lineOf : ℕ → List ℤ → List ℕ
+lineOf width [] = []
+lineOf width (z ∷ zs) = column width z ++ lineOf width zs
 
--- each is a number that a column of eight holds
-abbrev pub AllHeld : List ℤ → Type 0
-AllHeld zs = (j : ℕ) → j < length zs → (leastNumber ≤ℤ getD zs j (pos 0)) × (getD zs j (pos 0) ≤ℤ greatestNumber)
+-- each is a number that its column and 32 bits hold
+abbrev pub AllHeld : ℕ → List ℤ → Type 0
+AllHeld width zs = (j : ℕ) → j < length zs → Held width (getD zs j (pos 0))
 
 -- the line is this row, in form
 pub record ListForm (line : List ℕ) (row : List ℤ) : Type 0 where
   pub eight : length row ≡ 8
-  pub held : AllHeld row
-  pub is : line ≡ lineOf row
+  pub held : AllHeld listWidth row
+  pub is : line ≡ lineOf listWidth row
 
 -- a line is accepted exactly where it is in form, and its row is then the one that is left
 pub record ListLineMeans (line : List ℕ) (r : Bool) (row : List ℤ) : Type 0 where
@@ -78,8 +85,8 @@ pub record ListLineMeans (line : List ℕ) (r : Bool) (row : List ℤ) : Type 0 
 -- the line is these words, in form
 pub record TextForm (line ws : List ℕ) : Type 0 where
   pub most : length ws ≤ 64
-  pub held : AllHeld (map pos ws)
-  pub is : line ≡ lineOf (map pos ws)
+  pub held : AllHeld textWidth (map pos ws)
+  pub is : line ≡ lineOf textWidth (map pos ws)
 
 -- a line is accepted exactly where it is in form, and its words are then the first that are left
 pub record TextLineMeans (line : List ℕ) (r : TextLine) (words : List ℕ) : Type 0 where

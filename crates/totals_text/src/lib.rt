@@ -1,4 +1,4 @@
-// The column forms of the totals program: numbers read from columns of eight characters, and printed right-justified.
+// The column forms of the totals program: numbers read from columns, of twelve characters in LIST and of eight in TEXT, and printed right-justified.
 ghost use mathlib.Core.Path.{_≡_};
 ghost use mathlib.Core.Bool.{true, cond};
 ghost use mathlib.Core.List.{map};
@@ -7,11 +7,23 @@ ghost use lib.IntN.{pos, natAbs};
 ghost use lib.ListN.{length, drop, replicate};
 ghost use lib.Seq.{sets};
 ghost use Rattle.backoff.specs.Run.{written};
-ghost use Rattle.totals_text.specs.Columns.{digits, signed, justified, column, withoutSpaces, allDigits, isNatural, valueFrom, readNatural, readNegative, readNumeral, readColumn, ColumnMeans};
+ghost use Rattle.totals_text.specs.Columns.{digits, signed, justified, column, mostDigits, withoutSpaces, allDigits, isNatural, valueFrom, ifHeld, readNatural, readNegative, readNumeral, readColumn, ColumnMeans};
 ghost use Rattle.totals_text.specs.Lines.{columns, allInForm, numberOf, wordOf, isListLine, listRow, isTextLine, textWords, textAnswer, ListLineMeans, TextLineMeans, refusedWord, countColumns, sentenceLine, refusedLine};
 
-// The least number that a column holds.
-const LEAST_NUMBER: i32 = -9999999;
+// What 32 bits hold.
+const LEAST_NUMBER: i32 = -2147483648;
+
+const GREATEST_NUMBER: i32 = 2147483647;
+
+// The characters of a column.
+const LIST_WIDTH: usize = 12;
+
+const TEXT_WIDTH: usize = 8;
+
+// The characters of a line of LIST, and the most of a line of TEXT.
+const LIST_LINE: usize = 8 * LIST_WIDTH;
+
+const LONGEST_TEXT: usize = 64 * TEXT_WIDTH;
 
 // What a column holds.
 pub enum Column {
@@ -71,37 +83,49 @@ fn is_natural(text: &[u8]) -> bool
     all_digits(text)
 }
 
-// The number that up to nine digits make.
-pub fn value(text: &[u8]) -> u32
-    requires { ⌜ (allDigits (now text) ≡ true) × (length (now text) ≤ 9) ⌝ }
+// The number that digits make, as many as 63 bits always hold.
+pub fn value(text: &[u8]) -> u64
+    requires { ⌜ (allDigits (now text) ≡ true) × (length (now text) ≤ mostDigits) ⌝ }
     ensures number { λ r. ⌜ r ≡ valueFrom 0 (now (text .entry)) ⌝ }
-    ensures fits { λ r. ⌜ r < 1000000000 ⌝ }
     ensures small { λ r. ⌜ r < 10 ^ length (now (text .entry)) ⌝ }
 {
-    let mut sum: u32 = 0;
+    let mut sum: u64 = 0;
     let mut i = 0;
     while i < text.len() {
         let c = text[i];
-        sum = 10 * sum + (c - b'0') as u32;
+        sum = 10 * sum + (c - b'0') as u64;
         i += 1;
     }
     sum
 }
 
-// The number 0 or more that up to eight characters spell.
+// The number z, if 32 bits hold it.
+fn if_held(z: i64) -> Column
+    ensures { λ r. ⌜ r ≡ ifHeld z ⌝ }
+{
+    if z < LEAST_NUMBER as i64 {
+        return Column::NotInForm;
+    }
+    if z > GREATEST_NUMBER as i64 {
+        return Column::NotInForm;
+    }
+    Column::Number(z as i32)
+}
+
+// The number 0 or more that so many characters spell.
 fn read_natural(text: &[u8]) -> Column
-    requires { ⌜ length (now text) ≤ 8 ⌝ }
+    requires { ⌜ length (now text) ≤ mostDigits ⌝ }
     ensures { λ r. ⌜ r ≡ readNatural (now (text .entry)) ⌝ }
 {
     if !is_natural(text) {
         return Column::NotInForm;
     }
-    Column::Number(value(text) as i32)
+    if_held(value(text) as i64)
 }
 
-// The negative number that up to eight characters behind a minus spell.
+// The negative number that so many characters behind a minus spell.
 fn read_negative(text: &[u8]) -> Column
-    requires { ⌜ length (now text) ≤ 8 ⌝ }
+    requires { ⌜ length (now text) ≤ mostDigits ⌝ }
     ensures { λ r. ⌜ r ≡ readNegative (now (text .entry)) ⌝ }
 {
     if !is_natural(text) {
@@ -111,12 +135,12 @@ fn read_negative(text: &[u8]) -> Column
     if size == 0 {
         return Column::NotInForm;
     }
-    Column::Number(-(size as i32))
+    if_held(-(size as i64))
 }
 
-// The number that up to eight characters without spaces before them spell.
+// The number that so many characters without spaces before them spell.
 fn read_numeral(text: &[u8]) -> Column
-    requires { ⌜ length (now text) ≤ 8 ⌝ }
+    requires { ⌜ length (now text) ≤ mostDigits ⌝ }
     ensures { λ r. ⌜ r ≡ readNumeral (now (text .entry)) ⌝ }
 {
     if text.len() == 0 {
@@ -128,12 +152,13 @@ fn read_numeral(text: &[u8]) -> Column
     read_natural(text)
 }
 
-// The number in a column of eight characters.
-pub fn read_column(text: &[u8]) -> Column
-    ensures answer { λ r. ⌜ r ≡ readColumn (now (text .entry)) ⌝ }
-    ensures meaning { λ r. ⌜ ColumnMeans (now (text .entry)) r ⌝ }
+// The number in a column of so many characters.
+pub fn read_column(text: &[u8], width: usize) -> Column
+    requires { ⌜ width ≤ mostDigits ⌝ }
+    ensures answer { λ r. ⌜ r ≡ readColumn width (now (text .entry)) ⌝ }
+    ensures meaning { λ r. ⌜ ColumnMeans width (now (text .entry)) r ⌝ }
 {
-    if text.len() != 8 {
+    if text.len() != width {
         return Column::NotInForm;
     }
     let start = skip_spaces(text);
@@ -141,14 +166,14 @@ pub fn read_column(text: &[u8]) -> Column
 }
 
 // Whether each of the first columns of a line is a number, and none below the least.
-fn all_in_form(line: &[u8], count: usize, least: i32) -> bool
-    requires { ⌜ 8 * count ≤ length (now line) ⌝ }
-    ensures { λ r. ⌜ r ≡ allInForm least (columns count (now (line .entry))) ⌝ }
+fn all_in_form(line: &[u8], width: usize, count: usize, least: i32) -> bool
+    requires { ⌜ (width ≤ mostDigits) × (width * count ≤ length (now line)) ⌝ }
+    ensures { λ r. ⌜ r ≡ allInForm least (columns width count (now (line .entry))) ⌝ }
 {
     let mut i = 0;
     while i < count {
-        let at = 8 * i;
-        let Column::Number(z) = read_column(&line[at..at + 8]) else {
+        let at = width * i;
+        let Column::Number(z) = read_column(&line[at..at + width], width) else {
             return false;
         };
         if z < least {
@@ -160,45 +185,47 @@ fn all_in_form(line: &[u8], count: usize, least: i32) -> bool
 }
 
 // The number in a column, 0 where it is not in form.
-fn number_in(text: &[u8]) -> i32
-    ensures { λ r. ⌜ r ≡ numberOf (readColumn (now (text .entry))) ⌝ }
+fn number_in(text: &[u8], width: usize) -> i32
+    requires { ⌜ width ≤ mostDigits ⌝ }
+    ensures { λ r. ⌜ r ≡ numberOf (readColumn width (now (text .entry))) ⌝ }
 {
-    match read_column(text) {
+    match read_column(text, width) {
         Column::Number(z) => z,
         Column::NotInForm => 0,
     }
 }
 
 // The word in a column, 0 where it is not in form or negative.
-fn word_in(text: &[u8]) -> u32
-    ensures { λ r. ⌜ r ≡ wordOf (readColumn (now (text .entry))) ⌝ }
+fn word_in(text: &[u8], width: usize) -> u32
+    requires { ⌜ width ≤ mostDigits ⌝ }
+    ensures { λ r. ⌜ r ≡ wordOf (readColumn width (now (text .entry))) ⌝ }
 {
-    let z = number_in(text);
+    let z = number_in(text, width);
     if z < 0 { 0 } else { z as u32 }
 }
 
 // Leaves the numbers of a line's first columns in row.
-fn fill_row(line: &[u8], count: usize, row: &mut [i32])
-    requires { ⌜ (8 * count ≤ length (now line)) × (count ≤ length (now row)) ⌝ }
-    ensures { λ _. ⌜ now (row .exit) ≡ sets (now (row .entry)) 0 (map numberOf (columns count (now (line .entry)))) ⌝ }
+fn fill_row(line: &[u8], width: usize, count: usize, row: &mut [i32])
+    requires { ⌜ (width ≤ mostDigits) × (width * count ≤ length (now line)) × (count ≤ length (now row)) ⌝ }
+    ensures { λ _. ⌜ now (row .exit) ≡ sets (now (row .entry)) 0 (map numberOf (columns width count (now (line .entry)))) ⌝ }
 {
     let mut i = 0;
     while i < count {
-        let at = 8 * i;
-        row[i] = number_in(&line[at..at + 8]);
+        let at = width * i;
+        row[i] = number_in(&line[at..at + width], width);
         i += 1;
     }
 }
 
 // Leaves the words of a line's first columns in words.
-fn fill_words(line: &[u8], count: usize, words: &mut [u32])
-    requires { ⌜ (8 * count ≤ length (now line)) × (count ≤ length (now words)) ⌝ }
-    ensures { λ _. ⌜ now (words .exit) ≡ sets (now (words .entry)) 0 (map wordOf (columns count (now (line .entry)))) ⌝ }
+fn fill_words(line: &[u8], width: usize, count: usize, words: &mut [u32])
+    requires { ⌜ (width ≤ mostDigits) × (width * count ≤ length (now line)) × (count ≤ length (now words)) ⌝ }
+    ensures { λ _. ⌜ now (words .exit) ≡ sets (now (words .entry)) 0 (map wordOf (columns width count (now (line .entry)))) ⌝ }
 {
     let mut i = 0;
     while i < count {
-        let at = 8 * i;
-        words[i] = word_in(&line[at..at + 8]);
+        let at = width * i;
+        words[i] = word_in(&line[at..at + width], width);
         i += 1;
     }
 }
@@ -210,13 +237,13 @@ pub fn read_list_line(line: &[u8], row: &mut [i32; 8]) -> bool
     ensures numbers { λ _. ⌜ now (row .exit) ≡ cond (isListLine (now (line .entry))) (listRow (now (line .entry))) (now (row .entry)) ⌝ }
     ensures meaning { λ r. ⌜ ListLineMeans (now (line .entry)) r (now (row .exit)) ⌝ }
 {
-    if line.len() != 64 {
+    if line.len() != LIST_LINE {
         return false;
     }
-    if !all_in_form(line, 8, LEAST_NUMBER) {
+    if !all_in_form(line, LIST_WIDTH, 8, LEAST_NUMBER) {
         return false;
     }
-    fill_row(line, 8, row);
+    fill_row(line, LIST_WIDTH, 8, row);
     true
 }
 
@@ -227,17 +254,17 @@ pub fn read_text_line(line: &[u8], words: &mut [u32; 65]) -> TextLine
     ensures words { λ _. ⌜ now (words .exit) ≡ cond (isTextLine (now (line .entry))) (written (textWords (now (line .entry))) (now (words .entry))) (now (words .entry)) ⌝ }
     ensures meaning { λ r. ⌜ TextLineMeans (now (line .entry)) r (now (words .exit)) ⌝ }
 {
-    if 512 < line.len() {
+    if LONGEST_TEXT < line.len() {
         return TextLine::NotInForm;
     }
-    if line.len() % 8 != 0 {
+    if line.len() % TEXT_WIDTH != 0 {
         return TextLine::NotInForm;
     }
-    let count = line.len() / 8;
-    if !all_in_form(line, count, 0) {
+    let count = line.len() / TEXT_WIDTH;
+    if !all_in_form(line, TEXT_WIDTH, count, 0) {
         return TextLine::NotInForm;
     }
-    fill_words(line, count, words);
+    fill_words(line, TEXT_WIDTH, count, words);
     TextLine::Words(count as u32)
 }
 

@@ -204,9 +204,9 @@ fn points(log: &[u8]) -> Option<i32> {
         Some(point) => (number(&log[..point], 3)?, decimals(&log[point + 1..])?),
         None => (number(log, 3)?, 0),
     };
-    // A point is 1/10,000: 1,000 of the units of the seventh decimal.
+    // A point is 1/1,000,000: ten of the units of the seventh decimal.
     let units = 10_000_000 * whole + decimals;
-    Some(sign * ((units + 500) / 1_000) as i32)
+    Some(sign * ((units + 5) / 10) as i32)
 }
 
 /// One to seven decimals, in units of the seventh.

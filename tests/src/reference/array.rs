@@ -1,4 +1,4 @@
-//! "The double array" of document 01, with the markers and the head of T-01, as it is read: any two lent slices, whoever wrote them.
+//! "The double array" of document 01, with the markers of T-01 and the head of T-08, as it is read: any two lent slices, whoever wrote them.
 
 use super::list::{Refusal, ACCEPTED, LARGEST_B, LARGEST_WORD, LOWEST_P, MOST_ROWS};
 use std::collections::HashMap;
@@ -6,8 +6,8 @@ use std::collections::HashMap;
 pub const MOST_SLOTS: usize = 1_048_576;
 pub const ROOT: usize = 0;
 
-/// "CHECK[0] becomes n + 8" (T-01).
-pub const HEAD: i32 = 8;
+/// "CHECK[0] becomes n + 40" (T-08).
+pub const HEAD: i32 = 40;
 
 /// What a sound marker holds.
 #[derive(Clone, Copy, Debug, PartialEq, Eq)]

@@ -1,4 +1,4 @@
-//! The placing rule of document 01, in room without an upper end, and the build, with the markers and the head of T-01.
+//! The placing rule of document 01, in room without an upper end, and the build, with the markers of T-01 and the head of T-08.
 
 use super::array::{lengths_fit, HEAD};
 use super::list::{continued, extended, rows, verdict, Refusal, Row, ACCEPTED};

@@ -1,11 +1,12 @@
-//! "The list" of document 01 and the refusals 1 and 3 to 9, of a list that is to be filled too (T-07).
+//! "The list" of document 01 and the refusals 1 and 3 to 9, in the points of T-08; of a list that is to be filled too (T-07).
 
 use std::collections::HashSet;
 
 pub const MOST_ROWS: usize = 65_535;
 pub const LARGEST_WORD: i32 = 65_535;
-pub const LOWEST_P: i32 = -990_000;
-pub const LARGEST_B: i32 = 990_000;
+/// "p is −99,000,000..0, b is ±99,000,000, in rows, markers and states alike."
+pub const LOWEST_P: i32 = -99_000_000;
+pub const LARGEST_B: i32 = 99_000_000;
 
 /// Number and place of a refusal, (0, 0) for accepted.
 pub type Refusal = (u32, u32);

@@ -1,4 +1,4 @@
-//! "The totals program" of document 01: what it prints for the bytes of LIST and TEXT; a file that is not there has none.
+//! "The totals program" of document 01, with the columns of T-08: what it prints for the bytes of LIST and TEXT; a file that is not there has none.
 
 use super::build::build;
 use super::list::{rows, Refusal, ACCEPTED};
@@ -8,6 +8,10 @@ use std::str::from_utf8;
 pub const MOST_LINES: usize = 512;
 pub const MOST_WORDS: usize = 64;
 pub const SLOTS: usize = 4_096;
+
+/// "Columns of LIST grow to twelve characters .. TEXT and the printed columns don't change."
+pub const LIST_WIDTH: usize = 12;
+pub const TEXT_WIDTH: usize = 8;
 
 pub fn output(list: &[u8], text: &[u8]) -> String {
     match read_list(list).and_then(accepted) {
@@ -24,7 +28,8 @@ pub fn refused((number, place): Refusal) -> String {
 /// LIST is read whole: its numbers, or 13 at its first line that is not in form.
 fn read_list(bytes: &[u8]) -> Result<Vec<i32>, Refusal> {
     let row = |(i, line): (usize, &[u8])| {
-        let numbers = line.strip_suffix(b"\n").and_then(columns).filter(|numbers| numbers.len() == 8 && i < MOST_LINES);
+        let numbers = line.strip_suffix(b"\n").and_then(|line| columns(line, LIST_WIDTH));
+        let numbers = numbers.filter(|numbers| numbers.len() == 8 && i < MOST_LINES);
         numbers.ok_or((13, i as u32 + 1))
     };
     let rows: Result<Vec<Vec<i32>>, Refusal> = lines(bytes).enumerate().map(row).collect();
@@ -44,7 +49,7 @@ fn accepted(table: Vec<i32>) -> Result<Rule, Refusal> {
 fn totals(rule: &Rule, text: &[u8]) -> String {
     let mut printed = String::new();
     for (number, line) in (1..).zip(lines(text)) {
-        let Some(words) = line.strip_suffix(b"\n").and_then(columns).and_then(words) else {
+        let Some(words) = line.strip_suffix(b"\n").and_then(|line| columns(line, TEXT_WIDTH)).and_then(words) else {
             return printed + &refused((13, number));
         };
         printed += &sentence(rule, number, &words);
@@ -77,12 +82,13 @@ fn lines(bytes: &[u8]) -> impl Iterator<Item = &[u8]> {
     bytes.split_inclusive(|&byte| byte == b'\n')
 }
 
-fn columns(line: &[u8]) -> Option<Vec<i32>> {
-    line.chunks(8).map(column).collect()
+fn columns(line: &[u8], width: usize) -> Option<Vec<i32>> {
+    line.chunks(width).map(|text| column(text, width)).collect()
 }
 
-/// A column's number: it must stand there as it is printed, "right-justified .., spaces before it, no leading zeros, no −0".
-fn column(text: &[u8]) -> Option<i32> {
+/// A column's number: it must stand there as it is printed, "right-justified .., spaces before it, no leading zeros, no −0". One "that signed 32 bits
+/// don't hold gives 13".
+fn column(text: &[u8], width: usize) -> Option<i32> {
     let number: i32 = from_utf8(text).ok()?.trim_start_matches(' ').parse().ok()?;
-    (format!("{number:>8}").as_bytes() == text).then_some(number)
+    (format!("{number:>width$}").as_bytes() == text).then_some(number)
 }

@@ -23,15 +23,12 @@ value-requires c κs =
     let m = at-most 7 (s .args .text .now) (s .pre) in
     (all-digits 7 (s .args .text .now) (s .pre), omega arith)
 
-cast-units : tie.Need-cast-units Inv-loop μ-loop
-cast-units c = search needs
-
 loop-holds : tie.Need-loop-holds Inv-loop μ-loop
 unfolding fraction
 loop-holds c =
     let s = c .before .before in
     let v = c .value .ensures in
-    (at-most 7 (s .args .text .now) (s .pre), v .1 .1, ap (λ (n : ℕ). n * 10 ^ (7 - length (s .args .text .now))) (sym (v .0)))
+    (at-most 7 (s .args .text .now) (s .pre), v .1, ap (λ (n : ℕ). n * 10 ^ (7 - length (s .args .text .now))) (sym (v .0)))
 
 -- there is room for one more digit
 tenth : (c : tie.In-loop Inv-loop μ-loop) → 10 ^ c .before .loop .k ≤ 10 ^ 6
@@ -70,7 +67,6 @@ read-fraction-spec =
     Inv-loop
     μ-loop
     value-requires
-    cast-units
     loop-holds
     mul-units
     add-k

@@ -4,7 +4,7 @@ use mathlib.Core.Logic.{⊎-elim}
 use mathlib.Core.Bool.{Bool, cond}
 use mathlib.Core.List.{List}
 use mathlib.Core.Option.{some}
-use Prim.Native.Nat.{ℕ, _*_, _^_, _<_, _≤_}
+use Prim.Native.Nat.{ℕ, _*_, _/_, _^_, _<_, _≤_}
 use native.Mathlib.Omega.{arith}
 use lib.Dec.{eqb}
 use lib.IntN.{ℤ, pos, negℤ, _-ℤ_, +ℤ-idl}
@@ -17,7 +17,7 @@ use Rattle.totals_text.proofs.Scans.{rest-is}
 use Rattle.arpa_text.specs.declared.Points.the-variants.{Of}
 use Rattle.arpa_text.specs.declared.Size.{Size}
 use Rattle.arpa_text.specs.Parts.{parts}
-use Rattle.arpa_text.specs.Logs.{decimals, unsigned, nearest, roundLog, readPoints}
+use Rattle.arpa_text.specs.Logs.{decimals, unsigned, unitsOfPoint, nearest, roundLog, readPoints}
 use Rattle.arpa_text.specs.Held.{sizeRead, SmallSize}
 use Rattle.arpa_text.proofs.Logs.{withSign, points-none, points-signed, no-size, round-negative}
 use borrow.Author.Needs.{needs, sfits-of}
@@ -93,7 +93,7 @@ points c = toZ-ofZ (fits c) ∙ c .nearest-point .ensures
     fits : (c : tie.After-nearest-point) → SFits w32 (c .nearest-point .result)
     fits c = sfits-of (c .nearest-point .ok)
 
-few : (c : tie.After-nearest-point) → nearest (c .before .before .units .given .0 .0) ≤ 10000000
+few : (c : tie.After-nearest-point) → nearest (c .before .before .units .given .0 .0) ≤ 1000 * 10 ^ decimals / unitsOfPoint
 unfolding nearest
 few c = omega (arith, small (c .before))
 

@@ -54,12 +54,6 @@ value-requires c κs =
     let m = at-most 3 (take (place f) (text f)) (whole (c .before)) in
     (all-digits 3 (take (place f) (text f)) (whole (c .before)), omega arith)
 
-cast-whole : tie.Need-cast-whole
-cast-whole c = search needs
-
-mul-whole : tie.Need-mul-whole
-mul-whole c = search needs
-
 -- three digits make less than 1,000
 below : (c : tie.After-value) → c .value .result < 1000
 below c =
@@ -67,6 +61,9 @@ below c =
     let m = at-most 3 (take (place f) (text f)) (whole (c .before .before)) in
     let p : 10 ^ length (take (place f) (text f)) ≤ 10 ^ 3 = pow-le-pow-right (omega arith) m in
     omega (arith, c .value .ensures)
+
+mul-whole : tie.Need-mul-whole
+mul-whole c = omega (arith, below c)
 
 returns-2 : tie.Need-returns-2
 returns-2 c =
@@ -128,8 +125,8 @@ behind c = sym (c .before .digits-up-to2 .ensures) ∙ not-false _ (c .if3 .left
 read-fraction-requires : tie.Need-read-fraction-requires
 read-fraction-requires c κs = behind (c .before)
 
-add-t20 : tie.Need-add-t20
-add-t20 c = search needs
+add-t19 : tie.Need-add-t19
+add-t19 c = let v = c .before .before .before .before .before .before in omega (arith, below v, c .read-fraction .ensures .1)
 
 returns-4 : tie.Need-returns-4
 returns-4 c =
@@ -155,7 +152,6 @@ read-size-spec =
     returns
     slice-aggregate-value
     value-requires
-    cast-whole
     mul-whole
     returns-2
     add-rest
@@ -168,5 +164,5 @@ read-size-spec =
     part-read-fraction-start
     part-read-fraction-end
     read-fraction-requires
-    add-t20
+    add-t19
     returns-4)

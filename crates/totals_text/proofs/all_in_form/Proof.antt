@@ -14,33 +14,33 @@ use mir.Facts.{toZ-ofZ}
 use Rattle.integer.proofs.Arithmetic.{zarith}
 use Rattle.totals_text.specs.declared.Column.{Column}
 use Rattle.totals_text.specs.Lines.{columns, inForm, allInForm}
-use Rattle.totals_text.proofs.Lines.{columns-step, columns-none, columns-start}
+use Rattle.totals_text.proofs.Lines.{columns-step, columns-none, columns-start, column-end}
 use Rattle.totals_text.proofs.all_in_form.Statement.{statement}
 use Rattle.totals_text.proofs.all_in_form.Tie as tie
 
 abbrev Inv-loop : tie.InvT-loop
-Inv-loop line count least i₀ i = (i ≤ count) × (allInForm (toZ w32 least) (columns count line) ≡ allInForm (toZ w32 least) (columns (count - i) (drop (8 * i) line)))
+Inv-loop line width count least i₀ i = (i ≤ count) × (allInForm (toZ w32 least) (columns width count line) ≡ allInForm (toZ w32 least) (columns width (count - i) (drop (width * i) line)))
 
 abbrev μ-loop : tie.MeasureT-loop
-μ-loop line count least i₀ i = count - i
+μ-loop line width count least i₀ i = count - i
 
 loop-holds : tie.Need-loop-holds Inv-loop μ-loop
-loop-holds c = (search needs, ap (allInForm (toZ w32 (ofZ w32 (c .before .args .least)))) (columns-start (c .before .args .line .now) (c .before .args .count)))
+loop-holds c = (search needs, ap (allInForm (toZ w32 (ofZ w32 (c .before .args .least)))) (columns-start (c .before .args .width) (c .before .args .line .now) (c .before .args .count)))
 
 mul-at : tie.Need-mul-at Inv-loop μ-loop
-mul-at c = omega arith
+mul-at c = let a = c .before .before .before .args in omega (arith, column-end (a .width) (a .count) (c .before .loop .i) (c .loop-test .taken))
 
 add-read-column : tie.Need-add-read-column Inv-loop μ-loop
-add-read-column c = omega arith
+add-read-column c = let a = c .before .before .before .args in omega (arith, column-end (a .width) (a .count) (c .before .loop .i) (c .loop-test .taken))
 
 sub-read-column : tie.Need-sub-read-column Inv-loop μ-loop
-sub-read-column c = omega arith
+sub-read-column c = let a = c .before .before .before .args in omega (arith, column-end (a .width) (a .count) (c .before .loop .i) (c .loop-test .taken))
 
 part-read-column-start : tie.Need-part-read-column-start Inv-loop μ-loop
-part-read-column-start c = omega arith
+part-read-column-start c = let a = c .before .before .before .args in omega (arith, column-end (a .width) (a .count) (c .before .loop .i) (c .loop-test .taken))
 
 part-read-column-end : tie.Need-part-read-column-end Inv-loop μ-loop
-part-read-column-end c = omega arith
+part-read-column-end c = let a = c .before .before .before .args in omega (arith, column-end (a .width) (a .count) (c .before .loop .i) (c .loop-test .taken))
 
 read-column-requires : tie.Need-read-column-requires Inv-loop μ-loop
 read-column-requires c κs = search needs
@@ -52,20 +52,21 @@ low c = toZ w32 (ofZ w32 (c .before .before .before .before .before .args .least
 abbrev later : tie.After-read-column Inv-loop μ-loop → List Column
 later c =
     let l = c .before .before .before in
-    columns (l .before .before .args .count - (l .loop .i + 1)) (drop (8 * (l .loop .i + 1)) (l .before .before .args .line .now))
+    let a = l .before .before .args in
+    columns (a .width) (a .count - (l .loop .i + 1)) (drop (a .width * (l .loop .i + 1)) (a .line .now))
 
 -- what was read stands first among the columns that are left
-told : (c : tie.After-read-column Inv-loop μ-loop) → allInForm (low c) (columns (c .before .before .before .before .before .args .count) (c .before .before .before .before .before .args .line .now)) ≡ allInForm (low c) (c .read-column .result ∷ later c)
+told : (c : tie.After-read-column Inv-loop μ-loop) → allInForm (low c) (columns (c .before .before .before .before .before .args .width) (c .before .before .before .before .before .args .count) (c .before .before .before .before .before .args .line .now)) ≡ allInForm (low c) (c .read-column .result ∷ later c)
 told c =
     let l = c .before .before .before in
     let a = l .before .before .args in
     l .loop .inv .1
-    ∙ ap (allInForm (low c)) (columns-step (a .line .now) (a .count) (l .loop .i) (c .before .before .loop-test .taken) ∙ ap {B = List Column} (λ x. x ∷ later c) (sym (c .read-column .ensures .0)))
+    ∙ ap (allInForm (low c)) (columns-step (a .width) (a .line .now) (a .count) (l .loop .i) (c .before .before .loop-test .taken) ∙ ap {B = List Column} (λ x. x ∷ later c) (sym (c .read-column .ensures .0)))
 
-turn : (c : tie.After-read-column Inv-loop μ-loop) → allInForm (c .before .before .before .before .before .args .least) (columns (c .before .before .before .before .before .args .count) (c .before .before .before .before .before .args .line .now)) ≡ allInForm (low c) (c .read-column .result ∷ later c)
+turn : (c : tie.After-read-column Inv-loop μ-loop) → allInForm (c .before .before .before .before .before .args .least) (columns (c .before .before .before .before .before .args .width) (c .before .before .before .before .before .args .count) (c .before .before .before .before .before .args .line .now)) ≡ allInForm (low c) (c .read-column .result ∷ later c)
 turn c =
     let s = c .before .before .before .before .before in
-    ap (λ (y : ℤ). allInForm y (columns (s .args .count) (s .args .line .now))) (sym (toZ-ofZ (s .fits .least))) ∙ told c
+    ap (λ (y : ℤ). allInForm y (columns (s .args .width) (s .args .count) (s .args .line .now))) (sym (toZ-ofZ (s .fits .least))) ∙ told c
 
 z-fits : (c : tie.After-known-told Inv-loop μ-loop) → SFits w32 (c .before .z .given .0 .0)
 z-fits c = search needs
@@ -109,8 +110,8 @@ unfolding allInForm
 returns-3 c =
     let l = c .before in
     let a = l .before .before .args in
-    sym (ap (λ (y : ℤ). allInForm y (columns (a .count) (a .line .now))) (sym (toZ-ofZ (l .before .before .fits .least))) ∙ l .loop .inv .1
-    ∙ ap (allInForm (toZ w32 (ofZ w32 (a .least)))) (columns-none (a .line .now) (a .count) (l .loop .i) (c .loop-test .left)))
+    sym (ap (λ (y : ℤ). allInForm y (columns (a .width) (a .count) (a .line .now))) (sym (toZ-ofZ (l .before .before .fits .least))) ∙ l .loop .inv .1
+    ∙ ap (allInForm (toZ w32 (ofZ w32 (a .least)))) (columns-none (a .width) (a .line .now) (a .count) (l .loop .i) (c .loop-test .left)))
 
 pub all-in-form-spec : {M : Type 1} → statement M
 all-in-form-spec =

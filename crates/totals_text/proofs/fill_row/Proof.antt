@@ -7,35 +7,35 @@ use mir.Syntax.{w32}
 use mir.Val.{SFits, toZ, ofZ}
 use mir.Facts.{toZ-ofZ}
 use Rattle.totals_text.specs.Lines.{numberOf}
-use Rattle.totals_text.proofs.Lines.{Filling, fill-start, fill-step, fill-end}
+use Rattle.totals_text.proofs.Lines.{column-end, Filling, fill-start, fill-step, fill-end}
 use Rattle.totals_text.proofs.fill_row.Statement.{statement}
 use Rattle.totals_text.proofs.fill_row.Tie as tie
 
 abbrev Inv-loop : tie.InvT-loop
-Inv-loop line count row₀ i₀ row i = Filling numberOf line count row₀ row i
+Inv-loop line width count row₀ i₀ row i = Filling numberOf width line count row₀ row i
 
 abbrev μ-loop : tie.MeasureT-loop
-μ-loop line count row₀ i₀ row i = count - i
+μ-loop line width count row₀ i₀ row i = count - i
 
 loop-holds : tie.Need-loop-holds Inv-loop μ-loop
 loop-holds c =
     let a = c .before .args in
-    fill-start numberOf (a .line .now) (a .count) (a .row .now)
+    fill-start numberOf (a .width) (a .line .now) (a .count) (a .row .now)
 
 mul-at : tie.Need-mul-at Inv-loop μ-loop
-mul-at c = omega arith
+mul-at c = let a = c .before .before .before .args in omega (arith, column-end (a .width) (a .count) (c .before .loop .i) (c .loop-test .taken))
 
 add-number-in : tie.Need-add-number-in Inv-loop μ-loop
-add-number-in c = omega arith
+add-number-in c = let a = c .before .before .before .args in omega (arith, column-end (a .width) (a .count) (c .before .loop .i) (c .loop-test .taken))
 
 sub-number-in : tie.Need-sub-number-in Inv-loop μ-loop
-sub-number-in c = omega arith
+sub-number-in c = let a = c .before .before .before .args in omega (arith, column-end (a .width) (a .count) (c .before .loop .i) (c .loop-test .taken))
 
 part-number-in-start : tie.Need-part-number-in-start Inv-loop μ-loop
-part-number-in-start c = omega arith
+part-number-in-start c = let a = c .before .before .before .args in omega (arith, column-end (a .width) (a .count) (c .before .loop .i) (c .loop-test .taken))
 
 part-number-in-end : tie.Need-part-number-in-end Inv-loop μ-loop
-part-number-in-end c = omega arith
+part-number-in-end c = let a = c .before .before .before .args in omega (arith, column-end (a .width) (a .count) (c .before .loop .i) (c .loop-test .taken))
 
 number-in-requires : tie.Need-number-in-requires Inv-loop μ-loop
 number-in-requires c κs = search needs
@@ -43,8 +43,8 @@ number-in-requires c κs = search needs
 number-fits : (c : tie.After-number-in Inv-loop μ-loop) → SFits w32 (c .number-in .result)
 number-fits c = sfits-of (c .number-in .ok)
 
-mul-t13 : tie.Need-mul-t13 Inv-loop μ-loop
-mul-t13 c = omega arith
+mul-t14 : tie.Need-mul-t14 Inv-loop μ-loop
+mul-t14 c = omega arith
 
 slice-set-from-row : tie.Need-slice-set-from-row Inv-loop μ-loop
 slice-set-from-row c = omega arith
@@ -59,7 +59,7 @@ loop-again : tie.Need-loop-again Inv-loop μ-loop
 loop-again c =
     let l = c .before .before .before in
     let a = l .before .before .args in
-    fill-step numberOf (a .line .now) (a .count) (a .row .now) (l .loop .row) (l .loop .i) (toZ w32 (ofZ w32 (c .number-in .result))) (c .before .before .loop-test .taken) (toZ-ofZ (number-fits c) ∙ c .number-in .ensures) (l .loop .inv)
+    fill-step numberOf (a .width) (a .line .now) (a .count) (a .row .now) (l .loop .row) (l .loop .i) (toZ w32 (ofZ w32 (c .number-in .result))) (c .before .before .loop-test .taken) (toZ-ofZ (number-fits c) ∙ c .number-in .ensures) (l .loop .inv)
 
 same-length : tie.Need-same-length Inv-loop μ-loop
 same-length c = c .before .loop .inv .long
@@ -68,7 +68,7 @@ returns : tie.Need-returns Inv-loop μ-loop
 returns c =
     let l = c .before in
     let a = l .before .before .args in
-    fill-end numberOf (a .line .now) (a .count) (a .row .now) (l .loop .row) (l .loop .i) (c .loop-test .left) (l .loop .inv)
+    fill-end numberOf (a .width) (a .line .now) (a .count) (a .row .now) (l .loop .row) (l .loop .i) (c .loop-test .left) (l .loop .inv)
 
 pub fill-row-spec : {M : Type 1} → statement M
 fill-row-spec =
@@ -83,7 +83,7 @@ fill-row-spec =
     part-number-in-start
     part-number-in-end
     number-in-requires
-    mul-t13
+    mul-t14
     slice-set-from-row
     add-i
     loop-less

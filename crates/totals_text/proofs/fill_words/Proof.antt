@@ -3,35 +3,35 @@ use Prim.Native.Nat.{_-_}
 use native.Mathlib.Omega.{arith}
 use borrow.Author.Needs.{needs}
 use Rattle.totals_text.specs.Lines.{wordOf}
-use Rattle.totals_text.proofs.Lines.{Filling, fill-start, fill-step, fill-end}
+use Rattle.totals_text.proofs.Lines.{column-end, Filling, fill-start, fill-step, fill-end}
 use Rattle.totals_text.proofs.fill_words.Statement.{statement}
 use Rattle.totals_text.proofs.fill_words.Tie as tie
 
 abbrev Inv-loop : tie.InvT-loop
-Inv-loop line count words₀ i₀ words i = Filling wordOf line count words₀ words i
+Inv-loop line width count words₀ i₀ words i = Filling wordOf width line count words₀ words i
 
 abbrev μ-loop : tie.MeasureT-loop
-μ-loop line count words₀ i₀ words i = count - i
+μ-loop line width count words₀ i₀ words i = count - i
 
 loop-holds : tie.Need-loop-holds Inv-loop μ-loop
 loop-holds c =
     let a = c .before .before .args in
-    fill-start wordOf (a .line .now) (a .count) (a .words .now)
+    fill-start wordOf (a .width) (a .line .now) (a .count) (a .words .now)
 
 mul-at : tie.Need-mul-at Inv-loop μ-loop
-mul-at c = omega arith
+mul-at c = let a = c .before .before .before .before .args in omega (arith, column-end (a .width) (a .count) (c .before .loop .i) (c .loop-test .taken))
 
 add-word-in : tie.Need-add-word-in Inv-loop μ-loop
-add-word-in c = omega arith
+add-word-in c = let a = c .before .before .before .before .args in omega (arith, column-end (a .width) (a .count) (c .before .loop .i) (c .loop-test .taken))
 
 sub-word-in : tie.Need-sub-word-in Inv-loop μ-loop
-sub-word-in c = omega arith
+sub-word-in c = let a = c .before .before .before .before .args in omega (arith, column-end (a .width) (a .count) (c .before .loop .i) (c .loop-test .taken))
 
 part-word-in-start : tie.Need-part-word-in-start Inv-loop μ-loop
-part-word-in-start c = omega arith
+part-word-in-start c = let a = c .before .before .before .before .args in omega (arith, column-end (a .width) (a .count) (c .before .loop .i) (c .loop-test .taken))
 
 part-word-in-end : tie.Need-part-word-in-end Inv-loop μ-loop
-part-word-in-end c = omega arith
+part-word-in-end c = let a = c .before .before .before .before .args in omega (arith, column-end (a .width) (a .count) (c .before .loop .i) (c .loop-test .taken))
 
 word-in-requires : tie.Need-word-in-requires Inv-loop μ-loop
 word-in-requires c κs = search needs
@@ -52,7 +52,7 @@ loop-again : tie.Need-loop-again Inv-loop μ-loop
 loop-again c =
     let l = c .before .before .before in
     let a = l .before .before .before .args in
-    fill-step wordOf (a .line .now) (a .count) (a .words .now) (l .loop .words) (l .loop .i) (c .word-in .result) (c .before .before .loop-test .taken) (c .word-in .ensures) (l .loop .inv)
+    fill-step wordOf (a .width) (a .line .now) (a .count) (a .words .now) (l .loop .words) (l .loop .i) (c .word-in .result) (c .before .before .loop-test .taken) (c .word-in .ensures) (l .loop .inv)
 
 same-length : tie.Need-same-length Inv-loop μ-loop
 same-length c = c .before .loop .inv .long
@@ -61,7 +61,7 @@ returns : tie.Need-returns Inv-loop μ-loop
 returns c =
     let l = c .before in
     let a = l .before .before .before .args in
-    fill-end wordOf (a .line .now) (a .count) (a .words .now) (l .loop .words) (l .loop .i) (c .loop-test .left) (l .loop .inv)
+    fill-end wordOf (a .width) (a .line .now) (a .count) (a .words .now) (l .loop .words) (l .loop .i) (c .loop-test .left) (l .loop .inv)
 
 pub fill-words-spec : {M : Type 1} → statement M
 fill-words-spec =

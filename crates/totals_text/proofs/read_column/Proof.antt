@@ -14,12 +14,12 @@ use Rattle.totals_text.proofs.read_column.Statement.{statement}
 use Rattle.totals_text.proofs.read_column.Tie as tie
 
 -- an answer that is the text's reading has the meaning of one
-read : (text : List ℕ) (r : Column) → r ≡ readColumn text → (r ≡ readColumn text) × ColumnMeans text r
-read text r e = (e, subst (ColumnMeans text) (sym e) (column-means text))
+read : (width : ℕ) (text : List ℕ) (r : Column) → r ≡ readColumn width text → (r ≡ readColumn width text) × ColumnMeans width text r
+read width text r e = (e, subst (ColumnMeans width text) (sym e) (column-means width text))
 
 returns : tie.Need-returns
 unfolding readColumn
-returns c = read (c .before .before .args .text .now) NotInForm (rw (ne-eqb (length (c .before .before .args .text .now)) 8 (c .if1 .taken)) refl)
+returns c = let a = c .before .before .args in read (a .width) (a .text .now) NotInForm (rw (ne-eqb (length (a .text .now)) (a .width) (c .if1 .taken)) refl)
 
 skip-spaces-requires : tie.Need-skip-spaces-requires
 skip-spaces-requires c κs = search needs
@@ -41,10 +41,11 @@ unfolding readColumn
 returns-2 c =
     let s = c .before .before in
     let b = s .before in
+    let width = b .before .before .args .width in
     let text = b .before .before .args .text .now in
-    read text (c .read-numeral .result)
+    read width text (c .read-numeral .result)
     (c .read-numeral .ensures ∙ ap readNumeral (rest-is text (s .skip-spaces .result) ∙ s .skip-spaces .ensures .1)
-    ∙ rw (eq-eqb (length text) 8 (b .if1 .left)) refl)
+    ∙ rw (eq-eqb (length text) width (b .if1 .left)) refl)
 
 pub read-column-spec : {M : Type 1} → statement M
 read-column-spec =

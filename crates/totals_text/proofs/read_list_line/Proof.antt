@@ -2,7 +2,7 @@
 use mathlib.Core.Path.{_≡_, refl, sym, subst, _∙_}
 use mathlib.Core.Bool.{Bool, true, false, cond}
 use mathlib.Core.List.{List}
-use Prim.Native.Nat.{ℕ}
+use Prim.Native.Nat.{ℕ, _*_}
 use borrow.Author.Tests.{eq-eqb, ne-eqb, not-true, not-false}
 use lib.Dec.{eqb}
 use lib.IntN.{ℤ}
@@ -10,7 +10,7 @@ use lib.ListN.{length}
 use Rattle.integer.proofs.Arithmetic.{and-no}
 use Rattle.integer.proofs.Ranges.{and-both}
 use Rattle.totals_text.specs.Columns.{leastNumber}
-use Rattle.totals_text.specs.Lines.{columns, allInForm, isListLine, listRow, ListLineMeans}
+use Rattle.totals_text.specs.Lines.{listWidth, columns, allInForm, isListLine, listRow, ListLineMeans}
 use Rattle.totals_text.proofs.Lines.{list-line-length, list-line-means, sets-whole}
 use borrow.Author.Needs.{needs}
 use Rattle.totals_text.proofs.read_list_line.Statement.{statement}
@@ -33,7 +33,7 @@ returns : tie.Need-returns
 unfolding isListLine
 returns c =
     let a = c .before .before .args in
-    refused (a .line .now) (a .row .now) (rw (ne-eqb (length (a .line .now)) 64 (c .if1 .taken)) refl)
+    refused (a .line .now) (a .row .now) (rw (ne-eqb (length (a .line .now)) (8 * listWidth) (c .if1 .taken)) refl)
 
 all-in-form-requires : tie.Need-all-in-form-requires
 all-in-form-requires c κs = search needs
@@ -43,7 +43,7 @@ unfolding isListLine
 returns-2 c =
     let f = c .before in
     let a = f .before .before .before .args in
-    refused (a .line .now) (a .row .now) (and-no (eqb (length (a .line .now)) 64) (allInForm leastNumber (columns 8 (a .line .now))) (sym (f .all-in-form .ensures) ∙ not-true _ (c .if2 .taken)))
+    refused (a .line .now) (a .row .now) (and-no (eqb (length (a .line .now)) (8 * listWidth)) (allInForm leastNumber (columns listWidth 8 (a .line .now))) (sym (f .all-in-form .ensures) ∙ not-true _ (c .if2 .taken)))
 
 fill-row-requires : tie.Need-fill-row-requires
 fill-row-requires c κs = search needs
@@ -56,8 +56,8 @@ returns-3 c =
     let b = f .before in
     let s = b .before .before in
     let line = s .args .line .now in
-    accepted line (s .args .row .now) (c .fill-row .last .1 .1 .0)
-    (and-both (eqb (length line) 64) (allInForm leastNumber (columns 8 line)) (eq-eqb (length line) 64 (b .if1 .left)) (sym (f .all-in-form .ensures) ∙ not-false _ (t .if2 .left)))
+    accepted line (s .args .row .now) (c .fill-row .last .1 .1 .1 .0)
+    (and-both (eqb (length line) (8 * listWidth)) (allInForm leastNumber (columns listWidth 8 line)) (eq-eqb (length line) (8 * listWidth) (b .if1 .left)) (sym (f .all-in-form .ensures) ∙ not-false _ (t .if2 .left)))
     (c .fill-row .ensures ∙ sets-whole (s .args .row .now) (listRow line) (list-line-length line ∙ sym (eight (c .before))))
 
 pub read-list-line-spec : {M : Type 1} → statement M

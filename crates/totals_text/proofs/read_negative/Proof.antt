@@ -1,15 +1,17 @@
 -- `totals_text::read_negative` meets its contract. Assumes nothing.
 use mathlib.Core.Path.{_≡_, refl, sym, ap, _∙_}
 use mathlib.Core.Bool.{true}
+use Prim.Native.Nat.{_^_, _≤_}
+use native.Mathlib.Nat.{pow-le-pow-right}
+use lib.ListN.{length}
 use native.Mathlib.Omega.{arith}
 use lib.IntN.{ℤ, pos, negℤ, _-ℤ_, +ℤ-idl}
-use mir.Syntax.{w32}
+use mir.Syntax.{w64}
 use mir.Val.{toZ}
 use mir.Facts.{toZ-ofZ, toZ-pos}
 use Rattle.integer.proofs.Arithmetic.{zarith}
-use Rattle.totals_text.specs.declared.Column.the-variants.{Number}
 use borrow.Author.Tests.{not-true, not-false, eq-eqb, ne-eqb}
-use Rattle.totals_text.specs.Columns.{isNatural, valueFrom, readNegative}
+use Rattle.totals_text.specs.Columns.{mostDigits, isNatural, valueFrom, ifHeld, readNegative}
 use Rattle.totals_text.proofs.Digits.{natural-all}
 use borrow.Author.Needs.{needs}
 use Rattle.totals_text.proofs.read_negative.Statement.{statement}
@@ -35,26 +37,34 @@ returns-2 c =
     let v = c .before in
     rw (natural v, eq-eqb (valueFrom 0 (v .before .before .before .before .args .text .now)) 0 (sym (v .value .ensures .0) ∙ c .if2 .taken)) refl
 
-cast-t5 : tie.Need-cast-t5
-cast-t5 c = search needs
+-- so many digits make a number that 63 bits hold
+small : (c : tie.After-value) → 10 ^ length (c .before .before .before .before .args .text .now) ≤ 10 ^ mostDigits
+small c = pow-le-pow-right (omega arith) {j = mostDigits} (c .before .before .before .before .pre)
 
-sub-t6 : tie.Need-sub-t6
-sub-t6 c =
-    let e = c .before .value .ensures .1 in
-    let t : toZ w32 (c .before .value .result) ≡ pos (c .before .value .result) = toZ-pos w32 (omega arith) in
+cast-if-held : tie.Need-cast-if-held
+cast-if-held c = omega (zarith, small (c .before))
+
+sub-if-held : tie.Need-sub-if-held
+sub-if-held c =
+    let s = small (c .before) in
+    let t : toZ w64 (c .before .value .result) ≡ pos (c .before .value .result) = toZ-pos w64 (omega arith) in
     omega (zarith, t)
+
+if-held-requires : tie.Need-if-held-requires
+if-held-requires c κs = search needs
 
 returns-3 : tie.Need-returns-3
 unfolding readNegative
 returns-3 c =
-    let v = c .before in
+    let b = c .before in
+    let v = b .before in
     let r = v .value .ensures in
     let text = v .before .before .before .before .args .text .now in
-    let t : toZ w32 (v .value .result) ≡ pos (valueFrom 0 text) = toZ-pos w32 (omega arith) ∙ ap pos (r .0) in
-    rw (natural v, ne-eqb (valueFrom 0 text) 0 (λ e. c .if2 .left (r .0 ∙ e)))
-    (ap Number (toZ-ofZ (sub-t6 c) ∙ ap (λ (y : ℤ). pos 0 -ℤ y) t ∙ +ℤ-idl (negℤ (pos (valueFrom 0 text)))))
+    let t : toZ w64 (v .value .result) ≡ pos (valueFrom 0 text) = toZ-pos w64 (omega (arith, small v)) ∙ ap pos (r .0) in
+    rw (natural v, ne-eqb (valueFrom 0 text) 0 (λ e. b .if2 .left (r .0 ∙ e)))
+    (c .if-held .ensures ∙ ap ifHeld (toZ-ofZ (sub-if-held b) ∙ ap (λ (y : ℤ). pos 0 -ℤ y) t ∙ +ℤ-idl (negℤ (pos (valueFrom 0 text)))))
 
 pub read-negative-spec : {M : Type 1} → statement M
 read-negative-spec =
     tie.close
-    (tie.spec is-natural-requires returns value-requires returns-2 cast-t5 sub-t6 returns-3)
+    (tie.spec is-natural-requires returns value-requires returns-2 cast-if-held sub-if-held if-held-requires returns-3)

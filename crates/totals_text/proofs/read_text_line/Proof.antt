@@ -2,14 +2,14 @@
 use mathlib.Core.Path.{_≡_, refl, sym, subst, _∙_}
 use mathlib.Core.Bool.{true, false, cond}
 use mathlib.Core.List.{List}
-use Prim.Native.Nat.{ℕ, _/_, _%_}
+use Prim.Native.Nat.{ℕ, _*_, _/_, _%_}
 use native.Mathlib.Omega.{arith}
 use borrow.Author.Tests.{le-leb, lt-leb, eq-eqb, ne-eqb, not-true, not-false}
 use lib.ListN.{length}
 use Rattle.backoff.specs.Run.{written}
 use Rattle.totals_text.specs.declared.TextLine.{TextLine}
 use Rattle.totals_text.specs.declared.TextLine.the-variants.{Words, NotInForm}
-use Rattle.totals_text.specs.Lines.{isTextLine, textWords, textAnswer, TextLineMeans}
+use Rattle.totals_text.specs.Lines.{textWidth, isTextLine, textWords, textAnswer, TextLineMeans}
 use Rattle.totals_text.proofs.Lines.{length-words, text-line-means, sets-written}
 use borrow.Author.Needs.{needs}
 use Rattle.totals_text.proofs.read_text_line.Statement.{statement}
@@ -23,10 +23,10 @@ refused : (line words : List ℕ) → isTextLine line ≡ false → Settled line
 unfolding textAnswer
 refused line words e = (rw e refl, (rw e refl, rw e at (text-line-means line words)))
 
-accepted : (line words₀ words : List ℕ) → isTextLine line ≡ true → words ≡ written (textWords line) words₀ → Settled line words₀ (Words (length line / 8)) words
+accepted : (line words₀ words : List ℕ) → isTextLine line ≡ true → words ≡ written (textWords line) words₀ → Settled line words₀ (Words (length line / textWidth)) words
 unfolding textAnswer
 accepted line words₀ words e f =
-    (rw (e, length-words line) refl, (rw e f, subst (TextLineMeans line (Words (length line / 8))) (sym f) (rw (e, length-words line) at (text-line-means line words₀))))
+    (rw (e, length-words line) refl, (rw e f, subst (TextLineMeans line (Words (length line / textWidth))) (sym f) (rw (e, length-words line) at (text-line-means line words₀))))
 
 room : (c : tie.After-fill-words-arg) → length (c .before .before .before .before .before .before .args .words .now) ≡ 65
 room c = search needs
@@ -35,13 +35,13 @@ returns : tie.Need-returns
 unfolding isTextLine
 returns c =
     let a = c .before .before .args in
-    refused (a .line .now) (a .words .now) (rw (lt-leb (length (a .line .now)) 512 (c .if1 .taken)) refl)
+    refused (a .line .now) (a .words .now) (rw (lt-leb (length (a .line .now)) (64 * textWidth) (c .if1 .taken)) refl)
 
 returns-2 : tie.Need-returns-2
 unfolding isTextLine
 returns-2 c =
     let a = c .before .before .before .args in
-    refused (a .line .now) (a .words .now) (rw (le-leb (length (a .line .now)) 512 (c .before .if1 .left), ne-eqb (length (a .line .now) % 8) 0 (c .if2 .taken)) refl)
+    refused (a .line .now) (a .words .now) (rw (le-leb (length (a .line .now)) (64 * textWidth) (c .before .if1 .left), ne-eqb (length (a .line .now) % textWidth) 0 (c .if2 .taken)) refl)
 
 all-in-form-requires : tie.Need-all-in-form-requires
 all-in-form-requires c κs = search needs
@@ -54,7 +54,7 @@ returns-3 c =
     let s = b .before .before .before in
     let line = s .args .line .now in
     refused line (s .args .words .now)
-    (rw (le-leb (length line) 512 (b .before .if1 .left), eq-eqb (length line % 8) 0 (b .if2 .left)) (sym (f .all-in-form .ensures) ∙ not-true _ (c .if3 .taken)))
+    (rw (le-leb (length line) (64 * textWidth) (b .before .if1 .left), eq-eqb (length line % textWidth) 0 (b .if2 .left)) (sym (f .all-in-form .ensures) ∙ not-true _ (c .if3 .taken)))
 
 fill-words-requires : tie.Need-fill-words-requires
 fill-words-requires c κs = search needs
@@ -70,8 +70,8 @@ returns-4 c =
     let b = f .before in
     let s = b .before .before .before in
     let line = s .args .line .now in
-    accepted line (s .args .words .now) (c .fill-words .last .1 .1 .0)
-    (rw (le-leb (length line) 512 (b .before .if1 .left), eq-eqb (length line % 8) 0 (b .if2 .left)) (sym (f .all-in-form .ensures) ∙ not-false _ (t .if3 .left)))
+    accepted line (s .args .words .now) (c .fill-words .last .1 .1 .1 .0)
+    (rw (le-leb (length line) (64 * textWidth) (b .before .if1 .left), eq-eqb (length line % textWidth) 0 (b .if2 .left)) (sym (f .all-in-form .ensures) ∙ not-false _ (t .if3 .left)))
     (c .fill-words .ensures ∙ sets-written (s .args .words .now) (textWords line) (omega (arith, length-words line, room (c .before))))
 
 pub read-text-line-spec : {M : Type 1} → statement M

@@ -8,7 +8,7 @@ use native.Mathlib.Numerals.{add-one}
 use native.Mathlib.Omega.{arith}
 use borrow.Author.Needs.{needs}
 use lib.ListN.{length, getD, drop}
-use Rattle.totals_text.specs.Columns.{allDigits, valueFrom}
+use Rattle.totals_text.specs.Columns.{mostDigits, allDigits, valueFrom}
 use Rattle.totals_text.proofs.Scans.{digit-here, value-step, value-end}
 use Rattle.totals_text.proofs.value.Statement.{statement}
 use Rattle.totals_text.proofs.value.Tie as tie
@@ -31,8 +31,8 @@ here : (c : tie.After-shared-slice-known Inv-loop μ-loop) → (48 ≤ getD (c .
 here c = let l = c .before .before in digit-here (l .before .args .text .now) (l .loop .i) (search needs) (l .loop .inv .all)
 
 -- there is room for one more digit
-tenth : (c : tie.After-shared-slice-known Inv-loop μ-loop) → 10 ^ c .before .before .loop .i ≤ 10 ^ 8
-tenth c = pow-le-pow-right (omega arith) {j = 8} (omega arith)
+tenth : (c : tie.After-shared-slice-known Inv-loop μ-loop) → 10 ^ c .before .before .loop .i ≤ 10 ^ (mostDigits - 1)
+tenth c = pow-le-pow-right (omega arith) {j = mostDigits - 1} (omega arith)
 
 loop-holds : tie.Need-loop-holds Inv-loop μ-loop
 loop-holds c = record { within = search needs; left = refl; all = c .pre .0; small = omega arith }
@@ -74,8 +74,7 @@ returns c =
     let l = c .before in
     let text = l .before .args .text .now in
     let all : length text ≡ l .loop .i = omega arith in
-    let p : 10 ^ l .loop .i ≤ 10 ^ 9 = pow-le-pow-right (omega arith) {j = 9} (omega arith) in
-    (sym (l .loop .inv .left ∙ value-end text (l .loop .i) (l .loop .sum) (search needs)), (omega arith, rw all (l .loop .inv .small)))
+    (sym (l .loop .inv .left ∙ value-end text (l .loop .i) (l .loop .sum) (search needs)), rw all (l .loop .inv .small))
 
 pub value-spec : {M : Type 1} → statement M
 value-spec =

@@ -25,13 +25,13 @@ cast-result c = let f = z-fits (c .before) in to-nat tt f (omega zarith)
 returns : tie.Need-returns
 returns c =
     let n = c .before in
-    sym (word-negative (readColumn (n .before .before .args .text .now)) (ap (λ (z : ℤ). ltZ z (pos 0)) (sym (toZ-ofZ (z-fits n) ∙ n .number-in .ensures)) ∙ c .if1 .taken))
+    sym (word-negative (readColumn (n .before .before .args .width) (n .before .before .args .text .now)) (ap (λ (z : ℤ). ltZ z (pos 0)) (sym (toZ-ofZ (z-fits n) ∙ n .number-in .ensures)) ∙ c .if1 .taken))
 
 returns-2 : tie.Need-returns-2
 returns-2 c =
     let n = c .before in
     let e = toZ-ofZ (z-fits n) ∙ n .number-in .ensures in
-    ap natAbs e ∙ sym (word-natural (readColumn (n .before .before .args .text .now)) (ap (λ (z : ℤ). ltZ z (pos 0)) (sym e) ∙ c .if1 .left))
+    ap natAbs e ∙ sym (word-natural (readColumn (n .before .before .args .width) (n .before .before .args .text .now)) (ap (λ (z : ℤ). ltZ z (pos 0)) (sym e) ∙ c .if1 .left))
 
 pub word-in-spec : {M : Type 1} → statement M
 word-in-spec = tie.close (tie.spec number-in-requires cast-result returns returns-2)

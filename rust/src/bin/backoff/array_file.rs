@@ -18,7 +18,7 @@ use crate::array::Array;
 use crate::checksum::crc32;
 use crate::list::{is_text, List, RESERVED_TEXTS};
 use backoff::limits::{ORDER_LIMIT, ROW_ITEMS, ROW_LIMIT, SLOT_LIMIT, TEXT_LIMIT, WORD_LIMIT};
-use backoff::number::{ACCEPTED, SHORT_SLICE};
+use backoff::number::{ACCEPTED, ARRAY_HEAD, SHORT_SLICE};
 use std::collections::HashSet;
 
 pub const FIRST_LINE: &[u8; 8] = b"backoff\n";
@@ -26,6 +26,9 @@ const VERSION: u32 = 1;
 const NUMBER_BYTES: usize = 4;
 const HEAD_NUMBERS: usize = 6;
 const HEAD_BYTES: usize = FIRST_LINE.len() + HEAD_NUMBERS * NUMBER_BYTES;
+
+/// What the arrays of earlier versions have as `check[0]` beside their order, and the version.
+const EARLIER_HEADS: [(i32, u32); 1] = [(8, 1)];
 
 /// The sizes that the head gives.
 struct Head {
@@ -130,8 +133,17 @@ fn table(array: &Array, rows: usize) -> Result<Vec<i32>, String> {
     match status.number {
         ACCEPTED if held as usize == rows => Ok(table),
         ACCEPTED | SHORT_SLICE => Err(format!("the head says {rows} rows, but the array has {held}")),
+        ARRAY_HEAD => Err(format!("refused by {ARRAY_HEAD}: {}{}", backoff::reason(ARRAY_HEAD), earlier(array))),
         number => Err(format!("refused by {number}: {}", backoff::reason(number))),
     }
+}
+
+/// The sentence on an array of an earlier version.
+fn earlier(array: &Array) -> String {
+    let head = array.check.first().copied().unwrap_or(0);
+    let is_order = |offset: i32| (1..=ORDER_LIMIT as i32).contains(&head.wrapping_sub(offset));
+    let version = EARLIER_HEADS.iter().find(|&&(offset, _)| is_order(offset));
+    version.map_or(String::new(), |(_, version)| format!(" Version {version} wrote it."))
 }
 
 fn texts(mut bytes: &[u8], words: usize) -> Result<Vec<Vec<u8>>, String> {

@@ -1,33 +1,27 @@
 //! Numbers as they are printed.
 
-/// The points of one base-10 logarithm.
-const POINTS_PER_LOG: i64 = 10_000;
-
-/// As many points have six digits at most.
-const SIX_DIGITS: i64 = 999_999;
+use backoff::limits::POINTS_PER_LOG;
 
 /// The significant digits that a C++ stream prints.
 const SIGNIFICANT: i32 = 6;
 
 /// Points as a base-10 logarithm.
 pub fn log10(points: i64) -> f64 {
-    points as f64 / POINTS_PER_LOG as f64
+    points as f64 / f64::from(POINTS_PER_LOG)
 }
 
-/// Points as a base-10 logarithm, in six significant digits; up to 99.9999 that is exact.
+/// Points as a base-10 logarithm, exactly: as many decimals as it has, and no exponent.
 pub fn write_log10(out: &mut Vec<u8>, points: i64) {
-    if !(-SIX_DIGITS..=SIX_DIGITS).contains(&points) {
-        return out.extend_from_slice(six_digits(log10(points)).as_bytes());
-    }
     if points < 0 {
         out.push(b'-');
     }
-    write_whole(out, points.abs() / POINTS_PER_LOG);
-    let mut fraction = points.abs() % POINTS_PER_LOG;
+    let whole = i64::from(POINTS_PER_LOG);
+    write_whole(out, points.abs() / whole);
+    let mut fraction = points.abs() % whole;
     if fraction > 0 {
         out.push(b'.');
     }
-    let mut place = POINTS_PER_LOG / 10;
+    let mut place = whole / 10;
     while fraction > 0 {
         out.push(b'0' + (fraction / place) as u8);
         fraction %= place;
@@ -88,7 +82,7 @@ pub fn thousands(number: u64) -> String {
 
 #[cfg(test)]
 mod tests {
-    use super::{log10, six_digits, thousands, write_log10, write_whole, SIX_DIGITS};
+    use super::{six_digits, thousands, write_log10, write_whole};
 
     /// What `printf '%g'` prints.
     #[test]
@@ -116,19 +110,38 @@ mod tests {
         }
     }
 
-    /// Points of up to six digits are printed without a division of doubles; it is the same text.
+    /// Six decimals, without the zeros behind the last digit.
     #[test]
     fn points_as_logarithms() {
-        for points in (-SIX_DIGITS - 50..=SIX_DIGITS + 50).step_by(7).chain([-SIX_DIGITS, SIX_DIGITS, i64::MIN / 2, i64::MAX / 2]) {
+        let written = |points: i64| {
             let mut text = Vec::new();
             write_log10(&mut text, points);
-            assert_eq!(String::from_utf8_lossy(&text), six_digits(log10(points)));
+            String::from_utf8_lossy(&text).into_owned()
+        };
+        let known = [
+            (0, "0"),
+            (1, "0.000001"),
+            (-10, "-0.00001"),
+            (-999_999, "-0.999999"),
+            (1_000_000, "1"),
+            (-98_765_432, "-98.765432"),
+            (-99_000_000, "-99"),
+            (-6_487_965_000_000, "-6487965"),
+        ];
+        for (points, text) in known {
+            assert_eq!(written(points), text);
+        }
+        for points in (-2_000_050..=2_000_050).step_by(7).chain([i64::MIN + 1, i64::MAX]) {
+            let text = written(points);
+            let (whole, decimals) = text.split_once('.').unwrap_or((&text, ""));
+            assert!(decimals.len() <= 6 && !decimals.ends_with('0') && text.contains('.') == !decimals.is_empty(), "{text}");
+            assert_eq!(format!("{whole}{decimals:0<6}").parse(), Ok(points), "{text}");
         }
     }
 
     #[test]
     fn whole_numbers() {
-        for number in [0, 7, -10, 65_535, -990_000, i64::MIN, i64::MAX] {
+        for number in [0, 7, -10, 65_535, -99_000_000, i64::MIN, i64::MAX] {
             let mut text = Vec::new();
             write_whole(&mut text, number);
             assert_eq!(String::from_utf8_lossy(&text), number.to_string());
