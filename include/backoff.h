@@ -24,7 +24,9 @@
  *
  * Arrays. Each row of a list has a node, which is reached from the root in slot 0 by the words of the row, newest first:
  * that is the walk. A node in slot s with base[s] = d has its marker in slot d, which holds p and b of the row, and its
- * child for word w in slot d + w, where check is s. docs/double-array.svg is a picture of an array and a walk.
+ * child for word w in slot d + w or in slot d - w, where check is s. A build lays all children of a node on one side of d.
+ * A walk looks at d + w first, then at d - w if that is at least 1. docs/double-array.svg is a picture of an array and a
+ * walk.
  *
  * Slots. base and check have the same length, the number of slots. A list needs at least 2 * rows + 2 slots, and at least
  * its largest word + 2; often it needs more. What a build writes does not depend on how many slots it is lent: the array
@@ -36,10 +38,10 @@
  * Saved arrays. Write the number of slots, base, check, and a checksum of them; each number as four bytes, lowest first,
  * so that every machine reads the file. After loading compare the checksum, then call backoff_unload. Its 0 proves that
  * the array holds an accepted list; only the checksum says that it is the list which you saved. check[0] says which
- * releases read the array: it is the order + 40 in all releases with this BACKOFF_VERSION_MAJOR. Every other number there
- * gives 11, also the order + 8 of version 1 and the order itself, which arrays had before there were versions: build such
- * an array anew from its list. The program's `backoff build` writes such a file; docs/command-line.md has its form, and
- * examples/saved.c follows it.
+ * releases read the array: it is the order + 16 in all releases with this BACKOFF_VERSION_MAJOR. Every other number there
+ * gives 11, also the order + 40 of version 2, the order + 8 of version 1 and the order itself, which arrays had before
+ * there were versions: build such an array anew from its list. The program's `backoff build` writes such a file;
+ * docs/command-line.md has its form, and examples/saved.c follows it.
  *
  * Threads. Calls may run at the same time if no slice that one of them writes is lent to another. So threads may share
  * one array for lookups, starts, runs, batches, fragments and unloading, each with its own slices to be written. */
@@ -57,7 +59,7 @@ extern "C" {
 /* The version. All releases with the same major number have the calls, structs and numbers that stand here, and read each
  * other's lists and arrays. A higher minor number means further calls or numbers. Where a call or a struct changes, a
  * point becomes another part of a logarithm, or arrays get another head (check[0]), the major number changes. */
-#define BACKOFF_VERSION_MAJOR 2
+#define BACKOFF_VERSION_MAJOR 3
 #define BACKOFF_VERSION_MINOR 0
 #define BACKOFF_VERSION_PATCH 0
 
@@ -113,7 +115,7 @@ enum backoff_limit {
     BACKOFF_LEAST_BACKOFF = -99000000,
     BACKOFF_LARGEST_BACKOFF = 99000000,
     BACKOFF_POINTS_PER_LOG = 1000000, /* the points of a base-10 logarithm of 1 */
-    BACKOFF_ORDER_HEAD = 40,          /* check[0] of an array is its order and this */
+    BACKOFF_ORDER_HEAD = 16,          /* check[0] of an array is its order and this */
     BACKOFF_UNKNOWN_WORD = 1,
     BACKOFF_START_WORD = 2,      /* <s> */
     BACKOFF_END_WORD = 3,        /* </s> */
@@ -155,7 +157,7 @@ struct backoff_status backoff_check(const int32_t *table, size_t table_len);
  * Accepted: every slot of base and check is written; work[i - 1] is the slot of row i, and work is untouched past the
  * rows. The marker of row i is in slot base[work[i - 1]]: its check is p - 1, its base is 4 * b + 2 * e + f, where e is 1
  * if some row puts a further word in front of row i, and f is 1 if some row is row i followed by one more word. check[0]
- * is the order + 40, base[1] the number of rows.
+ * is the order + 16, base[1] the number of rows.
  * After 1 to 9: base, check and work are untouched.
  * After 10: every slot is free (base 0, check INT32_MIN); work is 0 for each row and untouched past the rows. */
 struct backoff_status backoff_build(const int32_t *table, size_t table_len, int32_t *base, size_t base_len, int32_t *check,

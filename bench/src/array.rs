@@ -5,7 +5,7 @@ use backoff::{Found, Status};
 
 const FREE: i32 = i32::MIN;
 const MOST_SLOTS: usize = 1_048_576;
-const HEAD: i32 = 40;
+const HEAD: i32 = 16;
 const ACCEPTED: Status = Status { number: 0, place: 0 };
 
 /// Builds the double array of a list: 1, 2, row by row 3 to 8, 9, 10.
@@ -24,7 +24,7 @@ pub fn build(table: &[i32], base: &mut [i32], check: &mut [i32], work: &mut [u32
         work[..rows.len()].fill(0);
         return Status { number: 10, place: 0 };
     }
-    set_continued(rows, base);
+    set_continued(rows, base, check);
     ACCEPTED
 }
 
@@ -65,42 +65,50 @@ fn settle(children: &[Row], slot: usize, front: &mut usize, base: &mut [i32], ch
     while *front < check.len() && check[*front] != FREE {
         *front += 1;
     }
-    let d = first_fit(children, *front, check);
-    let highest = children.last().map_or(d, |child| d + child[1] as usize);
+    let (d, behind) = first_fit(children, *front, check);
+    let highest = if behind { d } else { d + largest_word(children) };
     if highest >= check.len() {
         return None;
     }
     base[slot] = d as i32;
     for (child, item) in children.iter().zip(work) {
-        let place = d + child[1] as usize;
+        let word = child[1] as usize;
+        let place = if behind { d - word } else { d + word };
         check[place] = slot as i32;
         *item = place as u32;
     }
     Some(d)
 }
 
-fn first_fit(children: &[Row], front: usize, check: &[i32]) -> usize {
+/// The last child's word, 0 where there is none.
+fn largest_word(children: &[Row]) -> usize {
+    children.last().map_or(0, |child| child[1] as usize)
+}
+
+/// The smallest d with room for the children behind it or ahead of it, and whether they lie behind.
+fn first_fit(children: &[Row], front: usize, check: &[i32]) -> (usize, bool) {
     let free = |slot: usize| slot >= check.len() || check[slot] == FREE;
+    let largest = largest_word(children);
     let mut d = front;
-    'next: loop {
+    loop {
         if free(d) {
-            for child in children {
-                if !free(d + child[1] as usize) {
-                    d += 1;
-                    continue 'next;
-                }
+            if d > largest && children.iter().all(|child| free(d - child[1] as usize)) {
+                return (d, true);
             }
-            return d;
+            if children.iter().all(|child| free(d + child[1] as usize)) {
+                return (d, false);
+            }
         }
         d += 1;
     }
 }
 
 /// Sets f in the marker of every row that some row continues.
-fn set_continued(rows: &[Row], base: &mut [i32]) {
+fn set_continued(rows: &[Row], base: &mut [i32], check: &[i32]) {
     for row in rows.iter().filter(|row| row[0] > 1) {
         let without_last = &row[1..row[0] as usize];
-        let node = without_last.iter().rev().fold(0, |slot, &word| (base[slot] + word) as usize);
+        let next = |node, &word: &i32| child(base, check, node, word as u32).expect("every part of a row is a row");
+        let node = without_last.iter().rev().fold(0, next);
         base[base[node] as usize] |= 1;
     }
 }
@@ -116,14 +124,18 @@ pub fn order(check: &[i32]) -> i32 {
     check[0] - HEAD
 }
 
-/// The slot of a node's child for a word.
+/// The slot of a node's child for a word: ahead of d, else behind it.
 pub fn child(base: &[i32], check: &[i32], node: usize, word: u32) -> Option<usize> {
     let d = base[node];
     if d < 1 || word.wrapping_sub(1) >= LARGEST_WORD as u32 {
         return None;
     }
-    let slot = d as usize + word as usize;
-    (slot < check.len() && check[slot] == node as i32).then_some(slot)
+    let (d, word) = (d as usize, word as usize);
+    let owned = |slot: usize| slot < check.len() && check[slot] == node as i32;
+    if owned(d + word) {
+        return Some(d + word);
+    }
+    (d > word && owned(d - word)).then(|| d - word)
 }
 
 /// What a node's marker holds: p, and 4 × b + 2 × e + f; nothing where it is not sound.

@@ -115,6 +115,11 @@ impl List {
         List { rows, table, arrays }
     }
 
+    /// A list whose word numbers are drawn from all that there are, so that the children of a node lie far apart.
+    pub fn wide() -> List {
+        List::new(uniform(&mut Random::new(2), 2, LARGEST_WORD, MOST_ROWS))
+    }
+
     /// The longest lists with words up to the largest, in arrays of 262,144 slots.
     pub fn all_words() -> [(&'static str, List); 2] {
         let mut random = Random::new(5);

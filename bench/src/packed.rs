@@ -4,6 +4,7 @@
 use crate::array::{extended_byte, is_live};
 use crate::list::{LARGEST_B, LARGEST_WORD, LOWEST_P};
 use crate::score::{Items, State};
+use std::hint::select_unpredictable;
 
 /// The words, 16 bits each, the newest one lowest, and item i of `sums` the sum of the first i back-offs; what lies past `count` is of no account.
 #[derive(Clone, Copy, Default)]
@@ -63,9 +64,17 @@ impl State for Packed {
             if is_live(packed) && matched < order {
                 kept = matched;
             }
-            let slot = d + (older & 0xffff) as usize;
-            if matched > self.count || slot >= check.len() || check[slot] != node as i32 {
+            if matched > self.count {
                 break (points, packed);
+            }
+            let word = (older & 0xffff) as usize;
+            let mut slot = d + word;
+            if slot >= check.len() || check[slot] != node as i32 {
+                // Where no slot lies behind d, the marker's stands in its place: it has no parent.
+                slot = d - select_unpredictable(d > word, word, 0);
+                if check[slot] != node as i32 {
+                    break (points, packed);
+                }
             }
             older >>= 16;
             node = slot;

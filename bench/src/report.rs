@@ -71,14 +71,14 @@ fn print_filled(results: &[Result]) {
 fn print_memory(results: &[Result]) {
     println!("\n## Memory\n\nThe two arrays at the slots that the list needs, and the work slice. The list itself has 32 bytes a row.\n");
     println!("| list | rows | slots | fill rate | arrays, bytes a row | with work, bytes a row |\n|---|--:|--:|--:|--:|--:|");
-    for result in results {
-        for list in &result.lists {
-            let (rows, slots) = (list.rows(), list.arrays.slots());
-            let fill_rate = 100.0 * (2 * rows + 2) as f64 / slots as f64;
-            let bytes = (8 * slots) as f64 / rows as f64;
-            let (kind, rows, slots) = (result.kind, thousands(rows), thousands(slots));
-            println!("| {kind} | {rows} | {slots} | {fill_rate:.1} % | {bytes:.1} | {:.1} |", bytes + 4.0);
-        }
+    let wide = List::wide();
+    let measured = results.iter().flat_map(|result| result.lists.iter().map(|list| (result.kind, list)));
+    for (kind, list) in measured.chain([("wide", &wide)]) {
+        let (rows, slots) = (list.rows(), list.arrays.slots());
+        let fill_rate = 100.0 * (2 * rows + 2) as f64 / slots as f64;
+        let bytes = (8 * slots) as f64 / rows as f64;
+        let (rows, slots) = (thousands(rows), thousands(slots));
+        println!("| {kind} | {rows} | {slots} | {fill_rate:.1} % | {bytes:.1} | {:.1} |", bytes + 4.0);
     }
 }
 

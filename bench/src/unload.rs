@@ -67,12 +67,19 @@ fn climb(base: &[i32], check: &[i32], slot: usize) -> Option<Row> {
             return None;
         }
         let d = base[parent as usize];
-        let word = node as i64 - d as i64;
-        if d < 1 || !(1..=LARGEST_WORD as i64).contains(&word) {
+        if d < 1 {
+            return None;
+        }
+        let word = (node as i32 - d).abs();
+        if !(1..=LARGEST_WORD).contains(&word) {
+            return None;
+        }
+        // A slot behind d is no child where the slot ahead is one.
+        if (node as i32) < d && check.get((d + word) as usize) == Some(&parent) {
             return None;
         }
         row[0] += 1;
-        row[row[0] as usize] = word as i32;
+        row[row[0] as usize] = word;
         node = parent as usize;
     }
     Some(row)

@@ -27,7 +27,7 @@ pub const LARGEST_BACKOFF: i32 = 99_000_000;
 /// The points of a base-10 logarithm of 1.
 pub const POINTS_PER_LOG: i32 = 1_000_000;
 /// `check[0]` of an array is its order and this.
-pub const ORDER_HEAD: i32 = 40;
+pub const ORDER_HEAD: i32 = 16;
 /// `</s>`, which ends a sentence.
 pub const END_WORD: u32 = 3;
 /// Added to the length byte of an unknown word.

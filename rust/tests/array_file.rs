@@ -284,7 +284,7 @@ fn damaged_arrays() {
     assert!(refusals[11] > 10 && refusals[12] > 10, "{refusals:?}");
 }
 
-/// An array of version 1, whose head was the order and 8, is told to be one; any other head is not.
+/// An array of version 1, whose head was the order and 8, is told to be one, and so is one of version 2, of the order and 40; any other head is not.
 #[test]
 fn heads_of_earlier_versions() {
     let file = built(SAMPLE.as_bytes(), "");
@@ -294,10 +294,12 @@ fn heads_of_earlier_versions() {
         bytes[HEAD + 4 * slots..][..4].copy_from_slice(&head.to_le_bytes());
         refused(&closed(&bytes))
     };
-    for head in 9..=13 {
-        assert_eq!(with(head), format!("{OTHER_HEAD} Version 1 wrote it."), "{head}");
+    for (heads, version) in [(9..=13, 1), (41..=45, 2)] {
+        for head in heads {
+            assert_eq!(with(head), format!("{OTHER_HEAD} Version {version} wrote it."), "{head}");
+        }
     }
-    for head in [3, 8, 14, 19, 27, 40, 46, i32::MIN, i32::MAX] {
+    for head in [3, 8, 14, 16, 22, 27, 40, 46, i32::MIN, i32::MAX] {
         assert_eq!(with(head), OTHER_HEAD, "{head}");
     }
 }

@@ -27,7 +27,7 @@ int main(void) {
     expect("a work slice too short gives 2", is(backoff_build(&SAMPLE[0][0], 72, base, SLOTS, check, SLOTS, work, 8), 2, 0));
     expect("K7: 20 slots are enough", is(build(SLOTS), 0, 0));
     expect("K8: the node and the marker of 2 4", work[6] == 12 && base[12] == 16 && check[16] == -4001 && base[16] == -1999);
-    expect("the head is n + 40, and the rows", check[0] == 43 && base[1] == 9);
+    expect("the head is n + 16, and the rows", check[0] == 19 && base[1] == 9);
     expect("K6: 2 4 is found", finds(listed, 2, 0, row_2_4));
     expect("K6: 5 4 is not found", finds(unlisted, 2, 0, nothing));
     expect("2 4 puts a word in front of 4", finds(listed + 1, 1, 0, row_4));
@@ -36,5 +36,7 @@ int main(void) {
     expect("the head n of older arrays gives 11", finds(listed, 2, 11, nothing));
     check[0] = 3 + 8;
     expect("the head n + 8 of older arrays gives 11", finds(listed, 2, 11, nothing));
+    check[0] = 3 + 40;
+    expect("the head n + 40 of older arrays gives 11", finds(listed, 2, 11, nothing));
     return counted();
 }

@@ -87,7 +87,8 @@ impl Array {
         panic!("slot {slot} is free: the picture shows an array without free slots")
     }
 
-    /// The slots of the nodes from the root on, newest word first; `backoff::lookup` must answer what their markers hold.
+    /// The slots of the nodes from the root on, newest word first, each ahead of its parent's BASE; `backoff::lookup` must answer what their markers
+    /// hold.
     fn walk(&self, words: &[i32]) -> Vec<usize> {
         let mut walk = vec![0];
         for length in 1..=words.len() {
@@ -166,6 +167,7 @@ fn place_below(array: &Array, slot: usize, depth: usize, columns: &mut usize, pl
 fn draw_steps(drawing: &mut Drawing, array: &Array, walk: &[usize]) {
     let (left, mut y) = (590, 92);
     drawing.text("word", left, y, &format!("Lookup of {}, newest word first", spaced(&LOOKED_UP)));
+    drawing.text("small", left, y + 18, "A word is looked for ahead of BASE, then behind it; the sample has all its nodes ahead.");
     for (step, &word) in walk.windows(2).zip(LOOKED_UP.iter().rev()) {
         let (node, slot) = (step[0], step[1]);
         y += 44;
@@ -240,7 +242,7 @@ fn draw_jumps(drawing: &mut Drawing, array: &Array, walk: &[usize]) {
 fn draw_legend(drawing: &mut Drawing) {
     let y = HEIGHT - 24;
     let entries = [
-        ("node", 28, "node: BASE is d, the slot of its marker; CHECK is its parent, at the root the order + 40"),
+        ("node", 28, "node: BASE is d, the slot of its marker; CHECK is its parent, at the root the order + 16"),
         ("marker", 525, "marker: BASE is 4 × b + 2 × e + f, CHECK is p − 1; the root's holds the number of rows and −1"),
     ];
     for (class, x, text) in entries {

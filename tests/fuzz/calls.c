@@ -1,10 +1,10 @@
 /* Each call is made in every placement. Its answer and what it leaves must be the same in all of them, and must be what
- * documents 01 and 02 say wherever that can be told without building or walking. */
+ * documents 01 and 02 say, as far as rules.c and array_rules.c tell it. */
 #include "fuzz.h"
 #include <stdio.h>
 
 /* In one call of LOCKED the slices that are not to be written lie in pages that cannot be written. */
-enum { NUMBERS = 22, SMALL_LIST = 8 * 300, SMALL_TEXT = 1 << 16, LOCKED = 10 };
+enum { NUMBERS = 22, SMALL_LIST = 8 * 300, SMALL_ARRAY = 4000, SMALL_TEXT = 1 << 16, LOCKED = 10 };
 
 #define LIST_NUMBERS (1u << 1 | 0x3Fu << 3 | 1u << 9)
 
@@ -214,6 +214,18 @@ static void see_array(struct slice table, const struct slice *after) {
     }
 }
 
+/* The placing rule: 10 exactly where it uses a slot past the end, else every number as it has it. */
+static void see_placing(const struct slice *before, const struct slice *after, struct answer answer) {
+    struct arrays placed = place_by(before[0], first_fit);
+    size_t used = placed.base.count;
+    require((answer.number == 10) == (used > after[1].count), "10 exactly where the placing rule leaves the array");
+    if (answer.number == 10)
+        return;
+    require(same(part_of(after[1], 0, used), placed.base), "BASE as the placing rule has it");
+    require(same(part_of(after[2], 0, used), placed.check), "CHECK as the placing rule has it");
+    require(same(part_of(after[3], 0, rows_in(before[0])), placed.work), "work as the placing rule has it");
+}
+
 static void see_build(const struct slice *before, const struct slice *after, struct answer answer) {
     size_t rows = rows_in(before[0]);
     bool length_fits = rows >= 1 && before[0].count % 8 == 0 && rows <= BACKOFF_ROW_LIMIT;
@@ -235,6 +247,8 @@ static void see_build(const struct slice *before, const struct slice *after, str
     } else {
         see_array(before[0], after);
     }
+    if (before[0].count <= SMALL_LIST)
+        see_placing(before, after, answer);
 }
 
 static void see_lookup(const struct slice *s, struct answer answer) {
@@ -247,8 +261,11 @@ static void see_lookup(const struct slice *s, struct answer answer) {
     require(answer.number == 0 || answer.found == 0, "nothing found where refused");
     require(answer.p <= 0 && answer.p >= BACKOFF_LEAST_PROBABILITY, "p in range");
     require(answer.b <= BACKOFF_LARGEST_BACKOFF && answer.b >= BACKOFF_LEAST_BACKOFF, "b in range");
-    if (head && counts && s[2].count > (size_t)order_in(s[1]))
-        require(answer.number == 0 && answer.found == 0, "more than n words are not found");
+    if (!head || !counts)
+        return;
+    struct answer ruled = lookup_by_rules(s[0], s[1], s[2]);
+    require(answer.number == ruled.number && answer.found == ruled.found, "found or broken as the walk says");
+    require(answer.p == ruled.p && answer.b == ruled.b && answer.left == ruled.left, "p, b and left as the walk says");
 }
 
 static void see_start(const struct slice *before, const struct slice *after, struct answer answer) {
@@ -462,6 +479,12 @@ static void see_unload(const struct slice *before, const struct slice *after, st
             "table and work past the rows");
     if (answer.number == 12)
         require(is_all(after[2], 8 * rows, 0) && is_all(after[3], rows, 0), "rows and slots 0 after 12");
+    if (8 * rows > SMALL_LIST || before[0].count > SMALL_ARRAY)
+        return;
+    struct slice table = copy_of(before[2]), work = copy_of(before[3]);
+    require(answer.number == unload_by_rules(before[0], before[1], table, work), "12 exactly where the walks find no list");
+    require(same(after[2], table), "the rows as the walks find them");
+    require(same(after[3], work), "the slots as the walks find them");
 }
 
 static void see(enum call call, bool flag, const struct slice *before, const struct slice *after,

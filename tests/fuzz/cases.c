@@ -182,6 +182,13 @@ static void built_case(void) {
 
 /* ---- arrays that no build wrote */
 
+/* The list's nodes as another rule lays them: children of a node on both sides, and slots behind at which no walk looks. */
+static struct arrays spread_arrays(struct slice table) {
+    struct arrays a = place_by(table, drawn_fit);
+    plant_decoys(a.base, a.check);
+    return a;
+}
+
 /* A run is the run of its first words and then of the others; where 12 refuses a word, the words before it are accepted. */
 static void see_split(struct arrays a, struct slice state, struct slice words) {
     struct scored whole = run(a, state, words, words.count, words.count);
@@ -237,6 +244,27 @@ static void see_one_word(struct arrays a, struct slice state, struct slice words
     require((row.left == 1) == ((byte & BACKOFF_EXTENDED_LENGTH) != 0), "16 exactly where the row's lookup says left");
 }
 
+/* Slot 0 is no child, though its CHECK, the head, may be the slot of a node: the row of that node is tried with the word in
+ * front whose slot behind would be 0. */
+static void see_slot_0(struct slice table, struct arrays a) {
+    uint32_t head = (uint32_t)ints(a.check)[0];
+    for (size_t i = 0; i < rows_in(table); i++) {
+        const int32_t *row = row_of(table, i);
+        if (words_of(a.work)[i] != head || row[0] == order_in(a.check) || ints(a.base)[head] > BACKOFF_WORD_LIMIT)
+            continue;
+        uint32_t words[BACKOFF_ORDER_LIMIT] = {(uint32_t)ints(a.base)[head]};
+        memcpy(words + 1, row + 1, (size_t)row[0] * sizeof *row);
+        look_up(a, words, (size_t)row[0] + 1);
+        struct slice state = empty_state();
+        ints(state)[0] = row[0];
+        for (int32_t k = 1; k <= row[0]; k++)
+            ints(state)[k] = (int32_t)words[row[0] - k];
+        struct slice newest = block(1, 4);
+        words_of(newest)[0] = words[row[0]];
+        see_one_word(a, state, newest);
+    }
+}
+
 /* What unloading accepts is an accepted list whose rows the array has, and building it again and unloading gives it back. */
 static void see_unload_of(struct arrays a) {
     struct slice table, slots;
@@ -259,14 +287,27 @@ struct arrays other_arrays(struct slice table) {
         return a;
     }
     size_t rows = rows_in(table), slots = least_slots(table);
-    while (build(table, slots + below(3), rows, &a).number == 10)
+    if (chance(40))
+        a = spread_arrays(table);
+    while (a.base.count == 0 && build(table, slots + below(3), rows, &a).number == 10)
         slots = 2 * slots;
     if (chance(90))
         damage_arrays(a.base, a.check);
-    /* A head that arrays had before T-08, or before T-01. */
+    /* The head of T-08, of T-01, or that before it. */
+    static const int32_t older_heads[] = {40, 8, 0};
     if (chance(5) && is_head(a.base, a.check))
-        ints(a.check)[0] -= chance(70) ? HEAD - OLDER_HEAD : HEAD;
+        ints(a.check)[0] += older_heads[below(3)] - HEAD;
     return a;
+}
+
+static void spread_case(void) {
+    struct slice table = accepted_list();
+    struct arrays spread = spread_arrays(table);
+    see_lookups(table, spread);
+    see_unloaded(table, spread);
+    see_wrong_bit(table, spread);
+    see_slot_0(table, spread);
+    see_runs(table, spread, chance(50));
 }
 
 static void lent_case(void) {
@@ -377,8 +418,10 @@ void run_case(uint64_t number) {
         limit_case(below(LIMITS));
     else if (kind < 300)
         list_case();
-    else if (kind < 500)
+    else if (kind < 450)
         built_case();
+    else if (kind < 550)
+        spread_case();
     else if (kind < 850)
         lent_case();
     else if (kind < 1000)

@@ -68,9 +68,10 @@ int32_t extreme(void) {
         2,          3,
         4,          5,
         6,          9,
-        13,         40,
-        41,         45,
-        46,         65534,
+        13,         16,
+        17,         21,
+        22,         40,
+        43,         65534,
         65535,      65536,
         65537,      990001,
         1048575,    1048576,
@@ -240,6 +241,35 @@ void draw_arrays(struct slice *base, struct slice *check) {
     ints(*base)[1] = between(3, 9);
     ints(*check)[0] = HEAD + between(1, BACKOFF_ORDER_LIMIT);
     ints(*check)[1] = -1;
+}
+
+/* Any d that fits, and for each child a side of its own; the root, which is first, has 1. */
+size_t drawn_fit(struct slice taken, const int32_t *words, size_t count, size_t *slots) {
+    size_t largest = count == 0 ? 0 : (size_t)words[count - 1], most = taken.count - largest - 1, span = 16;
+    for (;;) {
+        size_t d = bytes_of(taken)[1] == 0 ? 1 : 1 + below(span), i = 0;
+        for (; i < count; i++) {
+            size_t word = (size_t)words[i];
+            slots[i] = word < d && chance(50) ? d - word : d + word;
+            if (bytes_of(taken)[slots[i]] != 0)
+                break;
+        }
+        if (i == count && bytes_of(taken)[d] == 0)
+            return d;
+        span = chance(90) || 2 * span > most ? span : 2 * span;
+    }
+}
+
+/* Gives some children ahead of their node's d a second slot behind it, where that is free: no walk looks at it. */
+void plant_decoys(struct slice base, struct slice check) {
+    for (size_t slot = 2; slot < check.count; slot++) {
+        int32_t node = ints(check)[slot];
+        size_t d = node < 0 ? 0 : (size_t)ints(base)[node];
+        if (slot <= d || 2 * d <= slot || ints(check)[2 * d - slot] != INT32_MIN || chance(50))
+            continue;
+        ints(check)[2 * d - slot] = node;
+        ints(base)[2 * d - slot] = chance(50) ? ints(base)[slot] : slot_number(base.count);
+    }
 }
 
 /* A state of the caller's own making; now and then one number of it is out of form. */

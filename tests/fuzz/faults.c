@@ -1,6 +1,7 @@
 /* Wrong libraries, which the fuzzer must catch. Linked with --wrap for every call, so that a call comes here first; the
  * environment variable FAULT says which fault it has. Compiled without sanitizers, as the library is. */
 #include "faults.h"
+#include "fuzz.h"
 
 struct backoff_status __real_backoff_check(const int32_t *, size_t);
 struct backoff_status __real_backoff_build(const int32_t *, size_t, int32_t *, size_t, int32_t *, size_t, uint32_t *,
@@ -16,16 +17,152 @@ struct backoff_status __real_backoff_unload(const int32_t *, size_t, const int32
 
 static volatile int32_t sink;
 
-/* The head of T-01, n + 8, and the range of p and b before T-08. */
-enum { OLDER_HEAD = 8, HEAD_STEP = BACKOFF_ORDER_HEAD - OLDER_HEAD, OLDER_RANGE = 990000 };
+/* The head of T-08, n + 40, and the range of p and b before it. */
+enum { OLDER_HEAD = 40, HEAD_STEP = BACKOFF_ORDER_HEAD - OLDER_HEAD, OLDER_RANGE = 990000 };
 
-/* CHECK with the head of T-08 where it has the older one, for a library that takes both. */
-static const int32_t *with_new_head(const int32_t *check, size_t check_len, int32_t *copy) {
-    if (copy == NULL || check_len == 0 || check[0] <= OLDER_HEAD || check[0] > OLDER_HEAD + BACKOFF_ORDER_LIMIT)
-        return check;
-    memcpy(copy, check, check_len * sizeof *check);
-    copy[0] += HEAD_STEP;
-    return copy;
+/* How a wrong library sees an array: it takes the older head too, or looks for children elsewhere than the walk. */
+enum sight { AS_IT_IS, OLDER_HEAD_TOO, BEHIND_FIRST, NEVER_BEHIND, SLOT_0_TOO };
+
+/* An array in which the walk finds what a wrong library finds; `owned` is the memory of a copy. */
+struct view {
+    const int32_t *base;
+    const int32_t *check;
+    int32_t *owned;
+};
+
+/* A child that is not to be found is freed, in a slot that is read as no marker before and after. */
+static void hide_children(bool hide_behind, int32_t *base, int32_t *check, size_t slots) {
+    for (size_t slot = 2; slot < slots; slot++) {
+        size_t node = (size_t)check[slot];
+        size_t d = check[slot] >= 0 && node < slots && base[node] > 0 ? (size_t)base[node] : 0;
+        size_t mirrored = 2 * d - slot;
+        if (slot >= d)
+            continue;
+        if (hide_behind)
+            check[slot] = INT32_MIN;
+        else if (mirrored < slots && check[mirrored] == (int32_t)node)
+            check[mirrored] = INT32_MIN;
+    }
+}
+
+/* The root in the free slot where the walk looks before it would look at slot 0. */
+static void show_slot_0(int32_t *base, int32_t *check, size_t slots) {
+    size_t node = (size_t)check[0];
+    size_t word = check[0] > 0 && node < slots && base[node] > 0 ? (size_t)base[node] : slots;
+    if (2 * word < slots && check[2 * word] == INT32_MIN) {
+        base[2 * word] = base[0];
+        check[2 * word] = check[0];
+    }
+}
+
+static struct view view_of(enum sight sight, const int32_t *base, size_t base_len, const int32_t *check, size_t check_len) {
+    struct view view = {base, check, NULL};
+    if (sight == AS_IT_IS || base_len != check_len || check_len < 2)
+        return view;
+    view.owned = malloc(2 * check_len * sizeof *check);
+    int32_t *own_base = view.owned, *own_check = view.owned + check_len;
+    memcpy(own_base, base, base_len * sizeof *base);
+    memcpy(own_check, check, check_len * sizeof *check);
+    if (sight == OLDER_HEAD_TOO && check[0] > OLDER_HEAD && check[0] <= OLDER_HEAD + BACKOFF_ORDER_LIMIT)
+        own_check[0] += HEAD_STEP;
+    if (sight == BEHIND_FIRST || sight == NEVER_BEHIND)
+        hide_children(sight == NEVER_BEHIND, own_base, own_check, check_len);
+    if (sight == SLOT_0_TOO)
+        show_slot_0(own_base, own_check, check_len);
+    return (struct view){own_base, own_check, view.owned};
+}
+
+/* ---- wrong placing */
+
+static size_t end_of_array;
+
+static size_t ahead_first(struct slice taken, const int32_t *words, size_t count, size_t *slots) {
+    size_t d = 1;
+    while (bytes_of(taken)[d] != 0 ||
+           !(side_fits(taken, d, false, words, count, slots) || side_fits(taken, d, true, words, count, slots)))
+        d++;
+    return d;
+}
+
+static size_t never_behind(struct slice taken, const int32_t *words, size_t count, size_t *slots) {
+    size_t d = 1;
+    while (bytes_of(taken)[d] != 0 || !side_fits(taken, d, false, words, count, slots))
+        d++;
+    return d;
+}
+
+static bool each_fits(struct slice taken, size_t d, const int32_t *words, size_t count, size_t *slots) {
+    for (size_t i = 0; i < count; i++)
+        if (!side_fits(taken, d, true, words + i, 1, slots + i) && !side_fits(taken, d, false, words + i, 1, slots + i))
+            return false;
+    return true;
+}
+
+static size_t each_on_its_side(struct slice taken, const int32_t *words, size_t count, size_t *slots) {
+    size_t d = 1;
+    while (bytes_of(taken)[d] != 0 || !each_fits(taken, d, words, count, slots))
+        d++;
+    return d;
+}
+
+/* The first fit with slot 0 as a free one: behind d = w, where all other children fit too. */
+static size_t slot_0_too(struct slice taken, const int32_t *words, size_t count, size_t *slots) {
+    size_t d = first_fit(taken, words, count, slots), largest = count == 0 ? 0 : (size_t)words[count - 1];
+    if (largest == 0 || largest > d || bytes_of(taken)[largest] != 0 ||
+        !side_fits(taken, largest, true, words, count - 1, slots))
+        return first_fit(taken, words, count, slots);
+    slots[count - 1] = 0;
+    return largest;
+}
+
+static bool ends_within(size_t d, const size_t *slots, size_t count) {
+    for (size_t i = 0; i < count; i++)
+        if (slots[i] >= end_of_array)
+            return false;
+    return d < end_of_array;
+}
+
+/* The first fit that leaves no slot past the end; where there is none, the first of all, which gives 10. */
+static size_t end_taken(struct slice taken, const int32_t *words, size_t count, size_t *slots) {
+    for (size_t d = 1; d < end_of_array; d++)
+        for (int ahead = 0; ahead < 2 && bytes_of(taken)[d] == 0; ahead++)
+            if (side_fits(taken, d, ahead == 0, words, count, slots) && ends_within(d, slots, count))
+                return d;
+    return first_fit(taken, words, count, slots);
+}
+
+static placing_rule *wrong_rule(void) {
+    return has("build-tries-ahead-first")                    ? ahead_first
+           : has("build-never-lays-behind")                  ? never_behind
+           : has("build-lays-children-on-both-sides")        ? each_on_its_side
+           : has("build-lays-a-child-in-slot-0")             ? slot_0_too
+           : has("build-counts-slots-past-the-end-as-taken") ? end_taken
+                                                             : NULL;
+}
+
+static void refuse_by_10(int32_t *base, int32_t *check, size_t slots, uint32_t *work, size_t rows,
+                         struct backoff_status *status) {
+    memset(base, 0, slots * sizeof *base);
+    for (size_t i = 0; i < slots; i++)
+        check[i] = INT32_MIN;
+    memset(work, 0, rows * sizeof *work);
+    status->number = BACKOFF_NO_ROOM;
+}
+
+/* What a wrong placing rule leaves, in place of what the build left. */
+static void place_again(placing_rule *rule, const int32_t *table, size_t table_len, int32_t *base, int32_t *check,
+                        size_t slots, uint32_t *work, struct backoff_status *status) {
+    struct slice list = {(void *)(uintptr_t)table, table_len, sizeof *table};
+    end_of_array = slots;
+    struct arrays placed = place_by(list, rule);
+    size_t used = placed.base.count;
+    refuse_by_10(base, check, slots, work, table_len / 8, status);
+    if (used > slots)
+        return;
+    memcpy(base, placed.base.items, used * sizeof *base);
+    memcpy(check, placed.check.items, used * sizeof *check);
+    memcpy(work, placed.work.items, table_len / 8 * sizeof *work);
+    status->number = BACKOFF_ACCEPTED;
 }
 
 static bool is_older(int32_t points) { return points >= -OLDER_RANGE && points <= OLDER_RANGE; }
@@ -76,13 +213,10 @@ struct backoff_status __wrap_backoff_build(const int32_t *table, size_t table_le
         work[rows - 1] = 1;
     if (has("build-writes-before-9") && status.number == 9)
         check[0] = 5;
-    if (has("build-says-10-too-early") && status.number == 0 && base_len == 2 * rows + 2) {
-        memset(base, 0, base_len * sizeof *base);
-        for (size_t i = 0; i < check_len; i++)
-            check[i] = INT32_MIN;
-        memset(work, 0, rows * sizeof *work);
-        status.number = 10;
-    }
+    if (has("build-says-10-too-early") && status.number == 0 && base_len == 2 * rows + 2)
+        refuse_by_10(base, check, check_len, work, rows, &status);
+    if (wrong_rule() != NULL && (status.number == 0 || status.number == 10) && rows < 1000)
+        place_again(wrong_rule(), table, table_len, base, check, base_len, work, &status);
     for (size_t i = 0; status.number == 0 && i < rows; i++) {
         int32_t *marker = &base[base[work[i]]];
         if (has("build-takes-e-from-f"))
@@ -99,10 +233,14 @@ struct backoff_status __wrap_backoff_build(const int32_t *table, size_t table_le
 
 struct backoff_found __wrap_backoff_lookup(const int32_t *base, size_t base_len, const int32_t *check, size_t check_len,
                                            const uint32_t *words, size_t words_len) {
-    int32_t *copy = has("lookup-accepts-the-older-head") ? malloc(check_len * sizeof *check) : NULL;
-    struct backoff_found found =
-        __real_backoff_lookup(base, base_len, with_new_head(check, check_len, copy), check_len, words, words_len);
-    free(copy);
+    enum sight sight = has("lookup-accepts-the-older-head")     ? OLDER_HEAD_TOO
+                       : has("lookup-looks-behind-first")       ? BEHIND_FIRST
+                       : has("lookup-never-looks-behind")       ? NEVER_BEHIND
+                       : has("lookup-takes-slot-0-for-a-child") ? SLOT_0_TOO
+                                                                : AS_IT_IS;
+    struct view view = view_of(sight, base, base_len, check, check_len);
+    struct backoff_found found = __real_backoff_lookup(view.base, base_len, view.check, check_len, words, words_len);
+    free(view.owned);
     if (has("lookup-never-finds"))
         found.found = 0, found.p = 0, found.b = 0;
     if (has("lookup-gives-another-b") && found.found == 1 && words_len == 3 && found.b < 0)
@@ -138,10 +276,10 @@ static void live_by_base(const int32_t *base, size_t base_len, const int32_t *ch
 struct backoff_status __wrap_backoff_start(const int32_t *base, size_t base_len, const int32_t *check, size_t check_len,
                                            int32_t *state, size_t state_len) {
     int32_t given = state_len == 9 ? state[8] : 0;
-    int32_t *copy = has("start-accepts-the-older-head") ? malloc(check_len * sizeof *check) : NULL;
-    struct backoff_status status =
-        __real_backoff_start(base, base_len, with_new_head(check, check_len, copy), check_len, state, state_len);
-    free(copy);
+    enum sight sight = has("start-accepts-the-older-head") ? OLDER_HEAD_TOO : AS_IT_IS;
+    struct view view = view_of(sight, base, base_len, check, check_len);
+    struct backoff_status status = __real_backoff_start(view.base, base_len, view.check, check_len, state, state_len);
+    free(view.owned);
     if (has("start-keeps-the-state-after-11") && status.number == 11)
         state[8] = given;
     if (has("start-keeps-a-number") && status.number == 0)
@@ -266,15 +404,20 @@ static struct backoff_total run_without_starts_12(const int32_t *base, const int
 struct backoff_total __wrap_backoff_run(const int32_t *base, size_t base_len, const int32_t *check, size_t check_len,
                                         int32_t *state, size_t state_len, const uint32_t *words, size_t words_len,
                                         int32_t *points, size_t points_len, uint8_t *lengths, size_t lengths_len) {
-    int32_t *copy = has("run-accepts-the-older-head") ? malloc(check_len * sizeof *check) : NULL;
+    enum sight sight = has("run-accepts-the-older-head")     ? OLDER_HEAD_TOO
+                       : has("run-looks-behind-first")       ? BEHIND_FIRST
+                       : has("run-never-looks-behind")       ? NEVER_BEHIND
+                       : has("run-takes-slot-0-for-a-child") ? SLOT_0_TOO
+                                                             : AS_IT_IS;
     int32_t given[9] = {0};
     if (state_len == 9)
         memcpy(given, state, sizeof given);
     if (has("run-has-the-older-range-of-states") && !is_older_state(given))
         return (struct backoff_total){.number = BACKOFF_BAD_STATE};
-    struct backoff_total total = __real_backoff_run(base, base_len, with_new_head(check, check_len, copy), check_len, state,
-                                                    state_len, words, words_len, points, points_len, lengths, lengths_len);
-    free(copy);
+    struct view view = view_of(sight, base, base_len, check, check_len);
+    struct backoff_total total = __real_backoff_run(view.base, base_len, view.check, check_len, state, state_len, words,
+                                                    words_len, points, points_len, lengths, lengths_len);
+    free(view.owned);
     bool at_the_end = words_len > 0 && words[words_len - 1] == BACKOFF_END_WORD && total.place == words_len;
     if (has("run-misses-12-of-start") && total.number == 12 && words[total.place - 1] == BACKOFF_END_WORD)
         return run_without_starts_12(base, check, base_len, state, words, words_len, points, lengths);
@@ -344,12 +487,34 @@ static struct backoff_status unload_without_e(const int32_t *base, size_t base_l
     return status;
 }
 
+/* Whether some node that was unloaded has two children behind its d, or two slots for one word. */
+static bool has_siblings(const int32_t *base, const int32_t *check, size_t slots, const uint32_t *work,
+                         struct backoff_status status, bool of_one_word) {
+    for (size_t i = 0; status.number == 0 && i < (size_t)base[1]; i++) {
+        size_t node = work[i], d = (size_t)base[node], behind = 0;
+        for (size_t slot = 1; slot < d && slot < slots; slot++) {
+            bool ahead = 2 * d - slot < slots && check[2 * d - slot] == (int32_t)node;
+            behind += check[slot] == (int32_t)node && ahead == of_one_word;
+        }
+        if (behind >= (of_one_word ? 1 : 2))
+            return true;
+    }
+    return false;
+}
+
 struct backoff_status __wrap_backoff_unload(const int32_t *base, size_t base_len, const int32_t *check, size_t check_len,
                                             int32_t *table, size_t table_len, uint32_t *work, size_t work_len) {
-    int32_t *copy = has("unload-accepts-the-older-head") ? malloc(check_len * sizeof *check) : NULL;
-    struct backoff_status status = __real_backoff_unload(base, base_len, with_new_head(check, check_len, copy), check_len,
-                                                         table, table_len, work, work_len);
-    free(copy);
+    enum sight sight = has("unload-accepts-the-older-head")     ? OLDER_HEAD_TOO
+                       : has("unload-looks-behind-first")       ? BEHIND_FIRST
+                       : has("unload-never-looks-behind")       ? NEVER_BEHIND
+                       : has("unload-takes-slot-0-for-a-child") ? SLOT_0_TOO
+                                                                : AS_IT_IS;
+    struct view view = view_of(sight, base, base_len, check, check_len);
+    struct backoff_status status =
+        __real_backoff_unload(view.base, base_len, view.check, check_len, table, table_len, work, work_len);
+    free(view.owned);
+    bool unsorted = has("unload-sorts-siblings-by-slot") && has_siblings(base, check, base_len, work, status, false);
+    bool doubled = has("unload-lists-a-word-on-both-sides") && has_siblings(base, check, base_len, work, status, true);
     if (has("unload-ignores-e") && status.number == 12)
         status = unload_without_e(base, base_len, check, check_len, table, table_len, work, work_len);
     if (has("unload-leaves-work-after-12") && status.number == 12)
@@ -363,7 +528,7 @@ struct backoff_status __wrap_backoff_unload(const int32_t *base, size_t base_len
     }
     if (has("unload-loses-b") && status.number == 0)
         table[7] = 0;
-    if (has("unload-refuses-all") && status.number == 0) {
+    if ((has("unload-refuses-all") || unsorted || doubled) && status.number == 0) {
         memset(table, 0, 8 * (size_t)base[1] * sizeof *table);
         memset(work, 0, (size_t)base[1] * sizeof *work);
         status.number = 12;

@@ -71,10 +71,10 @@ struct slice text(struct slice table, size_t count);
 void damage_arrays(struct slice base, struct slice check);
 void draw_arrays(struct slice *base, struct slice *check);
 struct slice own_state(int32_t order);
+void plant_decoys(struct slice base, struct slice check);
 
-/* What documents 01 and 02 say of a list, an array's head and a state, in their own words (rules.c). The older head is that
- * of T-01. */
-enum { HEAD = 40, OLDER_HEAD = 8 };
+/* What documents 01 and 02 say of a list, an array's head and a state, in their own words (rules.c). */
+enum { HEAD = 16 };
 
 struct found {
     bool listed;
@@ -104,6 +104,22 @@ bool is_state(struct slice state, int32_t order);
 bool is_fragment(struct backoff_fragment fragment, int32_t order);
 bool same_fragment(struct backoff_fragment a, struct backoff_fragment b);
 
+/* What documents 01 and 02 say of the double array (array_rules.c). A placing rule gives the d of a node that has children
+ * for these words, and their slots; a slot is taken where its byte is not 0, and there are free ones past all taken. */
+struct arrays {
+    struct slice base;
+    struct slice check;
+    struct slice work;
+};
+
+typedef size_t placing_rule(struct slice taken, const int32_t *words, size_t count, size_t *slots);
+
+placing_rule first_fit, drawn_fit;
+struct arrays place_by(struct slice table, placing_rule *rule);
+bool side_fits(struct slice taken, size_t d, bool behind, const int32_t *words, size_t count, size_t *slots);
+struct answer lookup_by_rules(struct slice base, struct slice check, struct slice words);
+uint32_t unload_by_rules(struct slice base, struct slice check, struct slice table, struct slice work);
+
 /* What document 02 says of an ARPA text (arpa_rules.c): fills table and store as the call must leave them. */
 struct answer arpa_by_rules(struct slice text, bool to_be_filled, struct slice table, struct slice store);
 
@@ -117,12 +133,6 @@ struct answer ask(enum call call, bool flag, struct slice *slices);
 bool report_calls(enum call call);
 
 /* The calls with fresh slices to be written, of the lengths given (cases.c). */
-struct arrays {
-    struct slice base;
-    struct slice check;
-    struct slice work;
-};
-
 struct scored {
     struct answer answer;
     struct slice state;

@@ -175,7 +175,7 @@ struct answer verdict_on(struct slice table, bool to_be_filled) {
     return verdict;
 }
 
-/* "CHECK[0] becomes n + 40." */
+/* "CHECK[0] becomes n + 16." */
 int32_t order_in(struct slice check) { return ints(check)[0] - HEAD; }
 
 /* What 11 lets pass. */

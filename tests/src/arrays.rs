@@ -1,7 +1,7 @@
 //! Arrays to lend: those of the placing rule, those of another rule, changed ones, and ones that no build wrote.
 
 use crate::random::Random;
-use crate::reference::array::HEAD;
+use crate::reference::array::{Side, HEAD};
 use crate::reference::build::{place, place_by, slots_used, write, Node, FREE};
 use crate::reference::list::{Row, LARGEST_B, LOWEST_P};
 
@@ -47,7 +47,7 @@ pub fn built(rows: &[Row], spare: usize) -> Arrays {
     written(rows, &place(rows), spare)
 }
 
-/// An array of the same nodes that another rule placed: each d is drawn until it fits.
+/// An array of the same nodes that another rule placed: each d, and the side on which each child lies, is drawn until all fits.
 pub fn spread(random: &mut Random, rows: &[Row]) -> Arrays {
     let highest = rows.iter().map(|row| row.words[0]).max().unwrap_or(0) as usize;
     let room = 4 * rows.len() + 16;
@@ -56,11 +56,13 @@ pub fn spread(random: &mut Random, rows: &[Row]) -> Arrays {
     let mut root = true;
     let nodes = place_by(rows, |words| loop {
         let d = if root { 1 } else { 2 + random.below(room - 2) };
-        if !taken[d] && words.iter().all(|word| !taken[d + word]) {
+        let drawn = |word: &usize| random.pick(&[Side::Behind, Side::Ahead]).slot(d, *word).unwrap_or(d + word);
+        let slots: Vec<usize> = words.iter().map(drawn).collect();
+        if !taken[d] && slots.iter().all(|&slot| !taken[slot]) {
             root = false;
             taken[d] = true;
-            words.iter().for_each(|word| taken[d + word] = true);
-            break d;
+            slots.iter().for_each(|&slot| taken[slot] = true);
+            break (d, slots);
         }
     });
     written(rows, &nodes, random.below(20))
@@ -83,7 +85,7 @@ pub fn each_change(arrays: &Arrays, mut see: impl FnMut(&Arrays)) {
         let slot_limits = [0, 1, 2, slots / 2, slots - 1, slots];
         let p_limits = [-1, LOWEST_P - 1, LOWEST_P - 2];
         let packed_limits = [-4 * LARGEST_B - 1, -4 * LARGEST_B, 4 * LARGEST_B + 3, 4 * LARGEST_B + 4];
-        let other = [3, 5, 11, HEAD, HEAD + 1, HEAD + 5, HEAD + 6, 65_535, 65_536, i32::MAX, i32::MIN];
+        let other = [3, 5, 11, 43, HEAD, HEAD + 1, HEAD + 5, HEAD + 6, 65_535, 65_536, i32::MAX, i32::MIN];
         for value in near.into_iter().chain(slot_limits).chain(p_limits).chain(packed_limits).chain(other) {
             *changed.item(i) = value;
             see(&changed);

@@ -29,6 +29,11 @@ pub fn sample() -> Vec<Row> {
     ]
 }
 
+/// The list of order 1 that has the words from 1 to this one, with p as many points below 0 as the word.
+pub fn first_words(last: i32) -> Vec<Row> {
+    (1..=last).map(|word| Row { words: vec![word], p: -word, b: 0 }).collect()
+}
+
 /// The longest list of order 1: every word has its row.
 pub fn all_words(random: &mut Random) -> Vec<Row> {
     let row = |w| Row { words: vec![w], p: log_probability(random), b: 0 };
@@ -46,6 +51,26 @@ pub fn small(random: &mut Random, order: usize) -> Vec<Row> {
     };
     let first: Vec<i32> = (0..order).map(|_| random.pick(&words)).collect();
     from_sentences(random, order, MOST_ROWS, first, sentence)
+}
+
+/// A list of few words and many rows, so that nodes have many children and often lay them behind.
+fn dense(random: &mut Random, order: usize) -> Vec<Row> {
+    let mut words = MARKS.to_vec();
+    words.extend((0..2 + random.below(8)).map(|_| random.between(4, 30)));
+    let mut left = 10 + random.below(60);
+    let sentence = |random: &mut Random| {
+        left = left.checked_sub(1)?;
+        Some((0..order + 2).map(|_| random.pick(&words)).collect())
+    };
+    from_sentences(random, order, MOST_ROWS, words.clone(), sentence)
+}
+
+pub fn small_or_dense(random: &mut Random, order: usize) -> Vec<Row> {
+    if random.chance(50) {
+        small(random, order)
+    } else {
+        dense(random, order)
+    }
 }
 
 /// A list of up to 25 rows and words up to 30, whose array is small.

@@ -286,7 +286,7 @@ fn output_lengths() {
 fn random_sheets() {
     let mut random = Random::new(9);
     for i in 0..2_000 {
-        let rows = lists::small(&mut random, 1 + i % 5);
+        let rows = lists::small_or_dense(&mut random, 1 + i % 5);
         let arrays = if i % 2 == 0 { build(&rows) } else { spread(&mut random, &rows) };
         let lent = sheet(&mut random, &rows);
         let outcome = agreed(&mut random, &arrays, &lent);

@@ -66,7 +66,7 @@ fn sample_array() {
     let (refusal, base, check, work) = agreed(&mut Random::new(1), &cells, Lengths::of(20, 9));
     assert_eq!(refusal, ACCEPTED);
     assert_eq!(base, [1, 9, 7, 8, 9, 10, 11, 0, -11999, 2, -7997, -3997, 16, 0, 13, 17, -1999, 2, 0, 18]);
-    let expected = [43, -1, 0, 0, 0, 0, 0, -20001, -990001, -10001, -6001, -9001, 5, -1501, 4, 6, -4001, -3001, -1001, 15];
+    let expected = [19, -1, 0, 0, 0, 0, 0, -20001, -990001, -10001, -6001, -9001, 5, -1501, 4, 6, -4001, -3001, -1001, 15];
     assert_eq!(check, expected);
     assert_eq!(work, [2, 3, 4, 5, 6, 14, 12, 15, 19]);
 }
@@ -82,19 +82,64 @@ fn k7_one_slot_less() {
     assert!(work[..9].iter().all(|&item| item == 0) && work[9..].iter().all(|&item| item != 0));
 }
 
-/// Random lists with N exactly enough, one less, and more than enough.
+/// The answer over so many slots to the list of these rows' words, the slots of the rows' nodes, and the d of each.
+fn placed(words: &[&[i32]], slots: usize) -> (Refusal, Vec<u32>, Vec<i32>) {
+    let rows: Vec<Row> = words.iter().map(|words| Row { words: words.to_vec(), p: -1, b: 0 }).collect();
+    let (refusal, base, _, work) = agreed(&mut Random::new(9), &table(&rows), Lengths::of(slots, rows.len()));
+    let ds = work.iter().map(|&slot| base[slot as usize]).collect();
+    (refusal, work, ds)
+}
+
+/// Children behind their node's d, worked by hand: once the root and row 1 are placed, slots 1 to 5, 7 and 11 are taken. Row 2 has words 1 and 3 in
+/// front. At d = 6 slots 5 and 7 are taken, at d = 8 slots 7 and 11; at d = 9 slots 8 and 6, behind, are free. So are 10 and 12, ahead, which are
+/// tried later.
+#[test]
+fn children_behind() {
+    let words: [&[i32]; 7] = [&[1], &[2], &[3], &[6], &[6, 1], &[1, 2], &[3, 2]];
+    assert_eq!(placed(&words, 16), (ACCEPTED, vec![2, 3, 4, 7, 11, 8, 6], vec![5, 9, 10, 12, 13, 14, 15]));
+    assert_eq!(placed(&words, 15).0, (10, 0));
+}
+
+/// "Slots ≥ N counting as free here": row 2 has its children, 1 and 6, ahead of 8 in 9 and 14, the smallest d that fits. In 14 slots this leaves the
+/// array and gives 10, though with 12 for its d they would lie behind it, in 11 and 6, and all would fit.
+#[test]
+fn slots_past_the_end_count_as_free() {
+    let words: [&[i32]; 6] = [&[1], &[2], &[3], &[6], &[1, 2], &[6, 2]];
+    assert_eq!(placed(&words, 15), (ACCEPTED, vec![2, 3, 4, 7, 9, 14], vec![5, 8, 6, 10, 11, 12]));
+    assert_eq!(placed(&words, 14).0, (10, 0));
+}
+
+/// "All children of a node lie on one side": row 2 has words 1 and 2 in front, and at d = 8 slot 6 behind is free, but slot 7 is not.
+#[test]
+fn children_on_one_side() {
+    let words: [&[i32]; 6] = [&[1], &[2], &[3], &[2, 1], &[1, 2], &[2, 2]];
+    assert_eq!(placed(&words, 14), (ACCEPTED, vec![2, 3, 4, 7, 9, 10], vec![5, 8, 6, 11, 12, 13]));
+}
+
+/// "All ≥ 1": at d = 5 the child for word 5 would lie in slot 0 behind; it lies ahead.
+#[test]
+fn no_child_in_slot_0() {
+    let words: [&[i32]; 5] = [&[1], &[2], &[3], &[5], &[5, 1]];
+    assert_eq!(placed(&words, 12), (ACCEPTED, vec![2, 3, 4, 6, 10], vec![5, 7, 8, 9, 11]));
+}
+
+/// Random lists with N exactly enough, one less, and more than enough; many lay children behind.
 #[test]
 fn random_lists() {
     let mut random = Random::new(2);
+    let mut behind = 0;
     for i in 0..1_500 {
-        let rows = lists::small(&mut random, 1 + i % 5);
+        let rows = lists::small_or_dense(&mut random, 1 + i % 5);
         let (cells, slots) = (table(&rows), needed(&rows));
         let work = rows.len() + random.below(3);
-        assert_eq!(agreed(&mut random, &cells, Lengths::of(slots, work)).0, ACCEPTED);
+        let (refusal, base, check, _) = agreed(&mut random, &cells, Lengths::of(slots, work));
+        assert_eq!(refusal, ACCEPTED);
+        behind += (1..slots).any(|slot| check[slot] >= 0 && (slot as i32) < base[check[slot] as usize]) as usize;
         assert_eq!(agreed(&mut random, &cells, Lengths::of(slots - 1, work)).0, (10, 0));
         let more = slots + random.below(100);
         assert_eq!(agreed(&mut random, &cells, Lengths::of(more, work)).0, ACCEPTED);
     }
+    assert!(behind > 300, "{behind}");
 }
 
 /// A marker's BASE for each pair of e and f: no row on either side, one in front, one behind, both; and b at its limits.
@@ -106,7 +151,7 @@ fn left_extension_in_markers() {
     let rows =
         [row(&[1], largest), row(&[2], largest), row(&[3], largest), row(&[4], least), row(&[5], least), row(&[2, 3], 0), row(&[4, 4], 0)];
     let (refusal, base, check, work) = agreed(&mut Random::new(8), &table(&rows), Lengths::of(40, 7));
-    assert_eq!((refusal, check[0], base[1]), (ACCEPTED, 2 + 40, 7));
+    assert_eq!((refusal, check[0], base[1]), (ACCEPTED, 2 + 16, 7));
     let markers: Vec<i32> = work.iter().map(|&slot| base[base[slot as usize] as usize]).collect();
     assert_eq!(markers, [396_000_000, 396_000_001, 396_000_002, -395_999_997, -396_000_000, 0, 0]);
 }

@@ -142,7 +142,7 @@ fn a_fragment_is_a_run() {
 fn joining_is_scoring() {
     let mut random = Random::new(2);
     for i in 0..3_000 {
-        let rows = lists::small(&mut random, 1 + i % 5);
+        let rows = lists::small_or_dense(&mut random, 1 + i % 5);
         let arrays = if i % 2 == 0 { build(&rows) } else { spread(&mut random, &rows) };
         let length = random.below(14);
         let words = if i % 3 == 0 { ended_text(&mut random, &rows, length, 3) } else { text(&mut random, &rows, length) };

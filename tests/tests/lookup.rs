@@ -6,7 +6,7 @@ use tests::arrays::{built, drawn, each_change, spread, Arrays};
 use tests::guard::Guarded;
 use tests::lists;
 use tests::random::Random;
-use tests::reference::array::{lookup, Found, HEAD, MOST_SLOTS};
+use tests::reference::array::{lookup, Array, Found, HEAD, MOST_SLOTS, ROOT};
 use tests::reference::list::{extended, Row, ACCEPTED, LARGEST_B, MOST_ROWS};
 
 const NOT_FOUND: Found = (ACCEPTED, false, 0, 0, false);
@@ -76,7 +76,8 @@ fn left_as_the_marker_says() {
 
 /// The slot of the marker of a row's words.
 fn marker_of(arrays: &Arrays, words: &[i32]) -> usize {
-    let node = words.iter().rev().fold(0, |node, word| (arrays.base[node] + word) as usize);
+    let array = Array::new(&arrays.base, &arrays.check).expect("a head that 11 lets pass");
+    let node = words.iter().rev().fold(ROOT, |node, &word| array.child(node, word as u32).expect("a row's words"));
     arrays.base[node] as usize
 }
 
@@ -124,7 +125,7 @@ fn words_out_of_range() {
     }
 }
 
-/// Nor is such a word found where a slot stands as its child would: 65,535 is, 65,536 is not.
+/// Nor is such a word found where a slot stands as its child would, ahead or behind: 65,535 is, 65,536 is not.
 #[test]
 fn no_child_above_the_largest_word() {
     for node in [0, 5] {
@@ -138,6 +139,73 @@ fn no_child_above_the_largest_word() {
         arrays.plant(node, 65_536);
         assert_eq!(agreed(&arrays, &words(65_536)), NOT_FOUND);
     }
+    let mut arrays = built(&lists::sample(), 70_000);
+    (arrays.base[5], arrays.check[66_000]) = (66_000, -6_001);
+    for word in [65_535, 65_536] {
+        (arrays.base[66_000 - word], arrays.check[66_000 - word]) = (7, 5);
+    }
+    assert_eq!(agreed(&arrays, &[65_535, 4]), (ACCEPTED, true, -20_000, 0, false));
+    assert_eq!(agreed(&arrays, &[65_536, 4]), NOT_FOUND);
+}
+
+/// The array of words 1 to 5 in which row 4 alone has words in front of it, 1 and 3, in slots of the caller's choice; row 4 is in slot 5, its d is 30.
+fn with_words_before_4(slot_of_1: usize, slot_of_3: usize) -> Arrays {
+    let mut arrays = built(&lists::first_words(5), 40);
+    (arrays.base[5], arrays.check[0]) = (30, HEAD + 2);
+    (arrays.base[30], arrays.check[30]) = (2, -31);
+    for (slot, marker, p) in [(slot_of_1, 40, -1), (slot_of_3, 41, -3)] {
+        (arrays.base[slot], arrays.check[slot]) = (marker as i32, 5);
+        (arrays.base[marker], arrays.check[marker]) = (0, p - 1);
+    }
+    arrays
+}
+
+/// A child is found on either side of d, each child on its own.
+#[test]
+fn children_on_either_side() {
+    let (p_of_1, p_of_3) = ((ACCEPTED, true, -1, 0, false), (ACCEPTED, true, -3, 0, false));
+    for (slot_of_1, slot_of_3) in [(31, 33), (29, 27), (29, 33), (31, 27)] {
+        let arrays = with_words_before_4(slot_of_1, slot_of_3);
+        assert_eq!(agreed(&arrays, &[1, 4]), p_of_1, "{slot_of_1}");
+        assert_eq!(agreed(&arrays, &[3, 4]), p_of_3, "{slot_of_3}");
+        for word in [0, 2, 4, 5, 29, 30, 31, 60, 65_535] {
+            assert_eq!(agreed(&arrays, &[word, 4]), NOT_FOUND, "{word}");
+        }
+    }
+}
+
+/// "A walk looks at d + w, then at d − w": where both slots have the node as CHECK, the one ahead is the child, also where its marker is broken; the
+/// one behind is, where the slot ahead is past the end.
+#[test]
+fn the_slot_ahead_decides() {
+    let mut arrays = with_words_before_4(31, 29);
+    assert_eq!(agreed(&arrays, &[1, 4]), (ACCEPTED, true, -1, 0, false));
+    arrays.check[31] = 4;
+    assert_eq!(agreed(&arrays, &[1, 4]), (ACCEPTED, true, -3, 0, false));
+    arrays.check[31] = 5;
+    arrays.check[40] = 0;
+    assert_eq!(agreed(&arrays, &[1, 4]).0, (12, 0));
+    // In 31 slots, with the marker of row 5 for the one behind.
+    arrays.base[29] = 11;
+    arrays.base.truncate(31);
+    arrays.check.truncate(31);
+    assert_eq!(agreed(&arrays, &[1, 4]), (ACCEPTED, true, -5, 0, false));
+}
+
+/// "At least 1": slot 0 is no child, though its CHECK, the head, is the node's slot; slot 1 is one.
+#[test]
+fn no_child_in_slot_0() {
+    let mut arrays = built(&lists::first_words(18), 80);
+    // Row 18 is in slot 19, and CHECK[0] of order 3 is 19.
+    (arrays.base[19], arrays.check[0]) = (60, HEAD + 3);
+    (arrays.base[60], arrays.check[60]) = (2, -61);
+    assert_eq!(agreed(&arrays, &[18]), (ACCEPTED, true, -60, 0, true));
+    assert_eq!(agreed(&arrays, &[60, 18]), NOT_FOUND);
+    // Slot 1 must have CHECK −1, so it is no child of any node either.
+    assert_eq!(agreed(&arrays, &[59, 18]), NOT_FOUND);
+    (arrays.base[2], arrays.check[2]) = (61, 19);
+    (arrays.base[61], arrays.check[61]) = (0, -62);
+    assert_eq!(agreed(&arrays, &[58, 18]), (ACCEPTED, true, -61, 0, false));
 }
 
 /// Every row is found with its own p and b, every other sequence is not found, in arrays of either placing; `left` is yes exactly if some
@@ -147,7 +215,7 @@ fn found_exactly_if_listed() {
     let mut random = Random::new(2);
     let (mut unlisted, mut lefts) = (0, 0);
     for i in 0..600 {
-        let rows = lists::small(&mut random, 1 + i % 5);
+        let rows = lists::small_or_dense(&mut random, 1 + i % 5);
         let extended = extended(&rows);
         let answer = |row: &Row| (ACCEPTED, true, row.p, row.b, extended.contains(&row.words[..]));
         let listed: HashMap<Vec<u32>, Found> = rows.iter().map(|row| (unsigned(&row.words), answer(row))).collect();
@@ -289,15 +357,15 @@ fn lengths_and_head() {
         assert!((1..=5).all(|order| head(1, rows, order + HEAD, -1) == 0), "{rows} rows");
     }
     for (base0, base1, check0, check1) in [
-        (0, 9, 11, -1),
-        (2, 9, 11, -1),
-        (1, 2, 11, -1),
-        (1, 65_536, 11, -1),
-        (1, -9, 11, -1),
-        (1, 9, 8, -1),
-        (1, 9, 14, -1),
-        (1, 9, 11, 0),
-        (1, 9, 11, -2),
+        (0, 9, HEAD + 3, -1),
+        (2, 9, HEAD + 3, -1),
+        (1, 2, HEAD + 3, -1),
+        (1, 65_536, HEAD + 3, -1),
+        (1, -9, HEAD + 3, -1),
+        (1, 9, HEAD, -1),
+        (1, 9, HEAD + 6, -1),
+        (1, 9, HEAD + 3, 0),
+        (1, 9, HEAD + 3, -2),
     ] {
         assert_eq!(head(base0, base1, check0, check1), 11, "{base0} {base1} {check0} {check1}");
     }
@@ -322,14 +390,14 @@ fn lengths_and_head() {
     }
 }
 
-/// CHECK[0] is n + 40 with n 1..5, so 41 to 45; "any other head gives 11": n and n + 8, as older arrays have them, too.
+/// CHECK[0] is n + 16 with n 1..5, so 17 to 21; "arrays headed otherwise give 11": n, n + 8 and n + 40, as older arrays have them, too.
 #[test]
 fn other_heads() {
     let mut arrays = built(&lists::sample(), 0);
-    let extremes = [i32::MIN, i32::MIN + 43, -43, 43 + 65_536, i32::MAX - 40, i32::MAX];
+    let extremes = [i32::MIN, i32::MIN + 19, -19, 19 + 65_536, i32::MAX - 16, i32::MAX];
     for head in (-20..=60).chain(extremes) {
         arrays.check[0] = head;
-        let expected = if (41..=45).contains(&head) { (ACCEPTED, true, -6_000, -2_000, true) } else { ((11, 0), false, 0, 0, false) };
+        let expected = if (17..=21).contains(&head) { (ACCEPTED, true, -6_000, -2_000, true) } else { ((11, 0), false, 0, 0, false) };
         assert_eq!(agreed(&arrays, &[4]), expected, "{head}");
     }
 }

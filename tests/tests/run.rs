@@ -313,14 +313,14 @@ fn packed_limits() {
     }
 }
 
-/// CHECK[0] is n + 40 with n 1..5; any other head gives 11 to start and run, the n and n + 8 of older arrays too.
+/// CHECK[0] is n + 16 with n 1..5; any other head gives 11 to start and run, the n, n + 8 and n + 40 of older arrays too.
 #[test]
 fn other_heads() {
     let mut random = Random::new(19);
     let mut arrays = built(&lists::sample(), 0);
     for head in (-20..=60).chain([i32::MIN, i32::MAX]) {
         arrays.check[0] = head;
-        let expected = if (41..=45).contains(&head) { ACCEPTED } else { (11, 0) };
+        let expected = if (17..=21).contains(&head) { ACCEPTED } else { (11, 0) };
         assert_eq!(agreed_start(&arrays, &[3; 9]).0, expected, "{head}");
         assert_eq!(agreed_exact(&mut random, &arrays, &EMPTY, &[4, 5]).refusal, expected, "{head}");
     }
@@ -404,7 +404,7 @@ fn runs_in_a_row() {
     let mut random = Random::new(2);
     let too_long = vec![4; LONGEST_RUN + 1];
     for i in 0..2_000 {
-        let rows = lists::small(&mut random, 1 + i % 5);
+        let rows = lists::small_or_dense(&mut random, 1 + i % 5);
         let mut row = InARow::new(&rows, random.chance(50));
         for _ in 0..random.below(8) {
             let length = random.below(12);

@@ -55,7 +55,7 @@ fn sample_comes_back() {
 fn unload_after_build() {
     let mut random = Random::new(2);
     for i in 0..1_500 {
-        let rows = lists::small(&mut random, 1 + i % 5);
+        let rows = lists::small_or_dense(&mut random, 1 + i % 5);
         let cells = table(&rows);
         let spare = random.below(50);
         let mut arrays = built(&rows, spare);
@@ -101,6 +101,47 @@ fn arrays_of_another_placing() {
             assert_eq!((arrays.check[marker] + 1, arrays.base[marker] >> 2), (row.p, row.b));
         }
     }
+}
+
+/// The sample with row 4 3 too, where row 3 (slot 4) has its marker in slot 30, and the children for words 4 and 5 lie in these slots, with their markers
+/// in 21 and 13.
+fn with_children_of_3(slot_of_4: usize, slot_of_5: usize) -> Arrays {
+    let mut arrays = built(&lists::sample(), 20);
+    (arrays.base[1], arrays.base[4], arrays.check[14]) = (10, 30, FREE);
+    (arrays.base[30], arrays.check[30]) = (arrays.base[9], arrays.check[9]);
+    (arrays.base[21], arrays.check[21]) = (0, -78);
+    (arrays.base[slot_of_4], arrays.check[slot_of_4]) = (21, 4);
+    (arrays.base[slot_of_5], arrays.check[slot_of_5]) = (13, 4);
+    arrays
+}
+
+/// Children come back by their words, on whichever sides of d they lie, with their own slots.
+#[test]
+fn children_on_either_side() {
+    let mut random = Random::new(15);
+    let mut rows = lists::sample();
+    rows.insert(5, Row { words: vec![4, 3], p: -77, b: 0 });
+    for (slot_of_4, slot_of_5) in [(34, 35), (26, 25), (26, 35), (34, 25)] {
+        let arrays = with_children_of_3(slot_of_4, slot_of_5);
+        let (refusal, cells, work) = agreed(&mut random, &arrays, (80, 10));
+        assert_eq!((refusal, cells), (ACCEPTED, table(&rows)));
+        assert_eq!(work, [2, 3, 4, 5, 6, slot_of_4 as u32, slot_of_5 as u32, 12, 15, 19]);
+    }
+}
+
+/// Where both slots of a word have the node as CHECK, the child is the one ahead, and the one behind is no node: it may be broken.
+#[test]
+fn one_word_on_both_sides() {
+    let mut random = Random::new(16);
+    let mut arrays = with_children_of_3(34, 35);
+    (arrays.base[25], arrays.check[25]) = (21, 4);
+    let (refusal, cells, work) = agreed(&mut random, &arrays, (80, 10));
+    assert_eq!((refusal, work[6]), (ACCEPTED, 35));
+    assert_eq!(cells[8 * 6..][..8], [2, 5, 3, 0, 0, 0, -1_500, 0]);
+    arrays.base[25] = 0;
+    assert_eq!(agreed(&mut random, &arrays, (80, 10)).0, ACCEPTED);
+    (arrays.base[25], arrays.base[35]) = (13, 0);
+    assert_eq!(agreed(&mut random, &arrays, (80, 10)).0, (12, 0));
 }
 
 /// Table and work exactly long enough, longer, and one too short (15).
@@ -264,7 +305,7 @@ fn one_wrong_bit() {
     }
 }
 
-/// CHECK[0] is n + 40 with n 1..5: the n and n + 8 of older arrays and any other head give 11; another n is another order, and gives 12.
+/// CHECK[0] is n + 16 with n 1..5: the n, n + 8 and n + 40 of older arrays and any other head give 11; another n is another order, and gives 12.
 #[test]
 fn other_heads() {
     let mut random = Random::new(14);
@@ -272,8 +313,8 @@ fn other_heads() {
     for head in (-20..=60).chain([i32::MIN, i32::MAX]) {
         arrays.check[0] = head;
         let expected = match head {
-            43 => ACCEPTED,
-            41..=45 => (12, 0),
+            19 => ACCEPTED,
+            17..=21 => (12, 0),
             _ => (11, 0),
         };
         assert_eq!(agreed(&mut random, &arrays, (72, 9)).0, expected, "{head}");

@@ -1,16 +1,16 @@
 -- The search for the first fit in a lent CHECK slice, from `front` on. Slots past its end count as free. Assumes nothing.
 use mathlib.Core.Path.{_≡_, sym, _∙_}
-use mathlib.Core.Bool.{true, false, false≢true, and-false}
+use mathlib.Core.Bool.{Bool, true, false, false≢true}
 use mathlib.Core.List.{List}
 use mathlib.Core.Logic.{⊎-elim}
 use Prim.Native.Nat.{ℕ, _+_, _-_, _≤_, _<_}
 use native.Mathlib.Omega.{arith}
 use lib.IntN.{ℤ}
 use lib.ListN.{length, List·getD-eq-default}
-use Rattle.integer.proofs.Ranges.{lt-or-ge, and-both}
+use Rattle.integer.proofs.Ranges.{lt-or-ge}
 use Rattle.double_array.specs.DoubleArray.{freeCheck}
-use Rattle.placing.specs.Placing.{Room, isFree, allFree, roomOf, fits, firstFit}
-use Rattle.placing.proofs.FirstFit.{isFree-yes, past-top, fit-only-from}
+use Rattle.placing.specs.Placing.{isFree, allOpen, roomOf, fits, firstFit}
+use Rattle.placing.proofs.FirstFit.{isFree-yes, fits-yes, past-top, fit-only-from}
 use Rattle.build.specs.Steps.{Front}
 
 module _ (check : List ℤ) where
@@ -22,9 +22,9 @@ module _ (check : List ℤ) where
   taken-inside t e =
       ⊎-elim (λ l. l) (λ l. absurd (false≢true (sym e ∙ isFree-yes (roomOf check t) (free-past t l)))) (lt-or-ge t (length check))
 
-  pub misfit-inside : (ws : List ℕ) (d : ℕ) → fits (roomOf check) ws d ≡ false → d < length check
-  misfit-inside ws d e =
-      ⊎-elim (λ l. l) (λ l. absurd (false≢true (sym e ∙ past-top (roomOf check) ws (length check) d free-past l))) (lt-or-ge d (length check))
+  pub misfit-inside : (ws : List ℕ) (d : ℕ) → 1 ≤ d → fits (roomOf check) ws d ≡ false → d < length check
+  misfit-inside ws d p e =
+      ⊎-elim (λ l. l) (λ l. absurd (false≢true (sym e ∙ past-top (roomOf check) ws (length check) d free-past l p))) (lt-or-ge d (length check))
 
   pub front-first : Front check 1
   front-first = record { positive = omega arith; taken = λ t a b. absurd (omega arith) }
@@ -59,16 +59,11 @@ module _ (check : List ℤ) (ws : List ℕ) (front : ℕ) (f : Front check front
     pub missed-next : fits (roomOf check) ws (d + 1) ≡ false → Missed check ws front (d + 1)
     missed-next e = record {
       from = omega (arith, m .from);
-      inside = let l = misfit-inside check ws (d + 1) e in omega arith;
+      inside = let l = misfit-inside check ws (d + 1) (omega arith) e in omega arith;
       misfit = λ x a b. ⊎-elim (λ l. m .misfit x a l) (λ (l : d + 1 ≤ x). let q : x ≡ d + 1 = omega arith in rw q e) (lt-or-ge x (d + 1));
     }
 
-    pub missed-fit : isFree (roomOf check (d + 1)) ≡ true → allFree (roomOf check) (d + 1) ws ≡ true → d + 1 ≡ firstFit (roomOf check) ws (length check)
-    unfolding fits
-    missed-fit a b =
+    pub missed-fit : (behind : Bool) → isFree (roomOf check (d + 1)) ≡ true → allOpen (roomOf check) behind (d + 1) ws ≡ true → d + 1 ≡ firstFit (roomOf check) ws (length check)
+    missed-fit behind a b =
         fit-only-from (roomOf check) ws (length check) (free-past check) front (f .positive) (f .taken) (d + 1) (m .from)
-        (and-both (isFree (roomOf check (d + 1))) (allFree (roomOf check) (d + 1) ws) a b) (m .misfit)
-
-pub child-misfit : (c : Room) (ws : List ℕ) (d : ℕ) → allFree c d ws ≡ false → fits c ws d ≡ false
-unfolding fits
-child-misfit c ws d e = rw e (and-false (isFree (c d)))
+        (fits-yes (roomOf check) ws behind (d + 1) a b) (m .misfit)

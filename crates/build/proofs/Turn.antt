@@ -22,13 +22,13 @@ use Rattle.list.proofs.ListModel.{stretch-extended}
 use Rattle.list.proofs.Table.{row-in, words-cons}
 use Rattle.list.proofs.Check.{accepted-good}
 use Rattle.placing.specs.Trie.{Node, children, nodeAt}
-use Rattle.placing.specs.Placing.{Room, Placed, isFree, firstFit, reach, settle, place, slots, roomOf, ownIn}
-use Rattle.placing.proofs.FirstFit.{isFree-yes, fit-any-top}
+use Rattle.placing.specs.Placing.{Room, Placed, isFree, allOpen, firstFit, reach, settle, placeAt, place, slots, roomOf, ownIn}
+use Rattle.placing.proofs.FirstFit.{isFree-yes, sideAt, fit-any-top}
 use Rattle.placing.proofs.Slots.{length-slots, roomOf-slots, settle-base, settle-check}
 use Rattle.placing.proofs.Placing.{Inv, Next, slot-given, slot-kept, slot-below-top, check-stays}
 use Rattle.placing.proofs.NodeByNode.{placedFirst-suc, next-at, inv-first}
 use Rattle.build.specs.ListTrie.{nodeOf, rootOf, nodesOf, OneWordRows}
-use Rattle.build.specs.Steps.{oldestOf, Front, fitOf, HasSlot, Given, NodePlaced, itemOf, placedNodes, Filled, Tried}
+use Rattle.build.specs.Steps.{oldestOf, Front, fitOf, sideOf, HasSlot, Given, NodePlaced, itemOf, placedNodes, Filled, Tried}
 use Rattle.build.proofs.ListTrie.{length-nodesOf, nodeAt-root, nodeAt-row, root-words, row-words, one-word, more-words, nodes-ready, row-check, children-stretch, children-root, middle-field}
 use Rattle.build.proofs.OldestWords.{leb-max}
 use Rattle.build.proofs.Parts.{partRows, oldest-rows, back, length-back, back-inside, back-before, back-after}
@@ -54,10 +54,10 @@ root-children t a k o = record {
 }
 
 -- the reach from a given top
-reach-max : (top d : ℕ) (ws : List ℕ) → reach top d ws ≡ max top (reach 0 d ws)
+reach-max : (top : ℕ) (behind : Bool) (d : ℕ) (ws : List ℕ) → reach top behind d ws ≡ max top (reach 0 behind d ws)
 unfolding reach
-reach-max top d [] = omega arith
-reach-max top d (w ∷ ws) = omega (arith, reach-max top d ws)
+reach-max top behind d [] = omega arith
+reach-max top behind d (w ∷ ws) = omega (arith, reach-max top behind d ws)
 
 -- an item's slot and f
 pub item-half : (s : ℕ) (f : Bool) → itemOf s f / 2 ≡ s
@@ -103,13 +103,16 @@ module _ (t : List ℤ) (a : verdict t ≡ Accepted) {N n : ℕ} (h : n < length
   abbrev d : ℕ
   d = firstFit (P .check) ws (P .top)
 
+  abbrev side : Bool
+  side = sideAt (P .check) ws d
+
   abbrev P′ : Placed
-  P′ = settle m ws d P
+  P′ = settle m ws side d P
 
   I : Inv (orderOf t) (nodesOf t) (take n (nodesOf t)) P
   I = list-inv t a n (omega arith)
 
-  next : Next (nodesOf t) (take n (nodesOf t)) P m d
+  next : Next (nodesOf t) (take n (nodesOf t)) P m side d
   next = next-at (orderOf t) (nodesOf t) (nodes-ready t a) n h I
 
   has-slot : (s : ℕ) → s ≡ P .slot (m .words) → HasSlot B C s
@@ -122,7 +125,7 @@ module _ (t : List ℤ) (a : verdict t ≡ Accepted) {N n : ℕ} (h : n < length
       }
 
   next-is : placedNodes t (suc n) ≡ P′
-  unfolding place
+  unfolding place placeAt
   next-is = placedFirst-suc (orderOf t) (nodesOf t) n h
 
   -- a slot that is taken stays taken
@@ -137,26 +140,29 @@ module _ (t : List ℤ) (a : verdict t ≡ Accepted) {N n : ℕ} (h : n < length
 
   module _ {rows : List ℤ} {s : ℕ} {mark load : ℤ} {placed : Bool} {B′ C′ : List ℤ} {I₀ I′ : List ℕ}
       (words-are : oldestOf rows ≡ ws) (slot-is : s ≡ P .slot (m .words)) (mark-is : mark ≡ negsuc (m .cost)) (load-is : load ≡ m .load)
-      (D : NodePlaced rows s mark load (fitOf C rows) B C I₀ placed B′ C′ I′) where
+      (D : NodePlaced rows s mark load (sideOf C rows) (fitOf C rows) B C I₀ placed B′ C′ I′) where
     -- the d found is the rule's
     d-is : fitOf C rows ≡ d
     d-is =
         rw (words-are, same-room t a n (omega arith) F)
         (fit-any-top (P .check) ws (length C) (P .top) (λ u l. I .past u (omega (arith, filled-check F, F .room))) (I .past))
 
+    side-is : sideOf C rows ≡ side
+    side-is = λ i. allOpen (same-room t a n (omega arith) F i) true (d-is i) (words-are i)
+
     answer : placed ≡ leb (P′ .top) N
     unfolding settle
     answer =
-        D .answer ∙ (λ i. leb (reach 0 (d-is i) (words-are i)) (filled-check F i)) ∙ sym (ap (λ (x : ℕ). leb x N) (reach-max (P .top) d ws) ∙ leb-max (P .top) (reach 0 d ws) N (F .room))
+        D .answer ∙ (λ i. leb (reach 0 (side-is i) (d-is i) (words-are i)) (filled-check F i)) ∙ sym (ap (λ (x : ℕ). leb x N) (reach-max (P .top) side d ws) ∙ leb-max (P .top) (reach 0 side d ws) N (F .room))
 
     base-next : placed ≡ true → B′ ≡ slots N (P′ .base)
-    base-next q = D .base-set q ∙ (λ i. set (set (F .base-slots i) (d-is i) (load-is i)) (slot-is i) (pos (d-is i))) ∙ settle-base N m ws d P
+    base-next q = D .base-set q ∙ (λ i. set (set (F .base-slots i) (d-is i) (load-is i)) (slot-is i) (pos (d-is i))) ∙ settle-base N m ws side d P
 
     check-next : placed ≡ true → C′ ≡ slots N (P′ .check)
-    check-next q = D .check-set q ∙ (λ i. set (ownIn (d-is i) (slot-is i) (words-are i) (F .check-slots i)) (d-is i) (mark-is i)) ∙ settle-check N m ws d P
+    check-next q = D .check-set q ∙ (λ i. set (ownIn (side-is i) (d-is i) (slot-is i) (words-are i) (F .check-slots i)) (d-is i) (mark-is i)) ∙ settle-check N m ws side d P
 
-    given-next : placed ≡ true → Given d rows I₀ I′
-    given-next q = subst (λ (x : ℕ). Given x rows I₀ I′) d-is (D .given q)
+    given-next : placed ≡ true → Given side d rows I₀ I′
+    given-next q = subst (λ (x : ℕ). Given side x rows I₀ I′) d-is (subst (λ (b : Bool). Given b (fitOf C rows) rows I₀ I′) side-is (D .given q))
 
     -- the items of the rows: a child's holds its slot, the others are kept
     module _ (from k : ℕ) (S : Children t (m .words) from k) (part : I₀ ≡ take k (drop from W)) (fields : (j : ℕ) → j < k → field rows j 1 ≡ field t (from + j) 1) where
@@ -179,16 +185,16 @@ module _ (t : List ℤ) (a : verdict t ≡ Accepted) {N n : ℕ} (h : n < length
             let old : getD I₀ j 0 ≡ itemOf (P .slot (words t (from + j))) (continuedIn t (words t (from + j))) =
             ap (λ (l : List ℕ). getD l j 0) part ∙ getD-take k (drop from W) j 0 l ∙ getD-drop from W j 0 ∙ F .item (from + j) inside in
             let odd = ap (λ (x : ℕ). x % 2) old ∙ item-odd (P .slot (words t (from + j))) (continuedIn t (words t (from + j))) in
-            let slot : P′ .slot (words t (from + j)) ≡ childSlot d (wordOf (field t (from + j) 1)) =
-            ap (P′ .slot) (row (from + j) inside) ∙ slot-given m ws d P (wordOf (field t (from + j) 1)) (withoutFirst t (from + j)) (S .inside (from + j) (omega arith) (omega arith)) in
+            let slot : P′ .slot (words t (from + j)) ≡ childSlot side d (wordOf (field t (from + j) 1)) =
+            ap (P′ .slot) (row (from + j) inside) ∙ slot-given m ws side d P (wordOf (field t (from + j) 1)) (withoutFirst t (from + j)) (S .inside (from + j) (omega arith) (omega arith)) in
             back-inside from k W I′ fits same j l ∙ given-next q .item j (omega (arith, count))
-            ∙ (λ i. 2 * childSlot d (wordOf (fields j l i)) + odd i) ∙ (λ i. 2 * sym slot i + cond (continuedIn t (words t (from + j))) 1 0)
+            ∙ (λ i. 2 * childSlot side d (wordOf (fields j l i)) + odd i) ∙ (λ i. 2 * sym slot i + cond (continuedIn t (words t (from + j))) 1 0)
 
         kept-item : (j : ℕ) → j < rowsOf t → withoutFirst t j ≢ m .words → getD W j 0 ≡ itemOf (P′ .slot (words t j)) (continuedIn t (words t j))
         kept-item j l e =
             F .item j l
             ∙ ap (λ (x : ℕ). itemOf x (continuedIn t (words t j)))
-            (sym (slot-kept m ws d P (words t j) (λ w z. e (tail-eq-of-cons-eq (sym (row j l) ∙ z)))))
+            (sym (slot-kept m ws side d P (words t j) (λ w z. e (tail-eq-of-cons-eq (sym (row j l) ∙ z)))))
 
         item-next : (j : ℕ) → j < rowsOf t → getD (back from k W I′) j 0 ≡ itemOf (P′ .slot (words t j)) (continuedIn t (words t j))
         item-next j l = go (lt-or-ge j from) (lt-or-ge j (from + k))
@@ -229,7 +235,7 @@ module _ (t : List ℤ) (a : verdict t ≡ Accepted) {N : ℕ} {B C : List ℤ} 
     root-fits = omega (arith, o .within)
 
     pub root-tried : {load : ℤ} {placed : Bool} {B′ C′ : List ℤ} {I′ : List ℕ} → load ≡ pos (rowsOf t)
-        → NodePlaced (partRows t 0 k) 0 (negsuc 0) load (fitOf C (partRows t 0 k)) B C (take k W) placed B′ C′ I′
+        → NodePlaced (partRows t 0 k) 0 (negsuc 0) load (sideOf C (partRows t 0 k)) (fitOf C (partRows t 0 k)) B C (take k W) placed B′ C′ I′
         → Tried t N (placedNodes t 1) placed B′ C′ (back 0 k W I′)
     unfolding rootOf
     root-tried e D =
@@ -272,7 +278,7 @@ module _ (t : List ℤ) (a : verdict t ≡ Accepted) (i : ℕ) (l : i < rowsOf t
 
     pub row-tried : {s : ℕ} {mark load : ℤ} {placed : Bool} {B′ C′ : List ℤ} {I′ : List ℕ}
         → s ≡ getD W i 0 / 2 → mark ≡ markerCheck (probabilityAt t i) → load ≡ markerBase (backoffAt t i) (ltb from to) (eqb (getD W i 0 % 2) 1)
-        → NodePlaced (partRows t from (to - from)) s mark load (fitOf C (partRows t from (to - from))) B C (take (to - from) (drop from W)) placed B′ C′ I′
+        → NodePlaced (partRows t from (to - from)) s mark load (sideOf C (partRows t from (to - from))) (fitOf C (partRows t from (to - from))) B C (take (to - from) (drop from W)) placed B′ C′ I′
         → Tried t N (placedNodes t (i + 2)) placed B′ C′ (back from (to - from) W I′)
     row-tried {s} e f g D =
         let two : i + 2 ≡ suc (i + 1) = omega arith in

@@ -14,7 +14,7 @@ use Rattle.double_array.specs.DoubleArray.{freeCheck, childSlot, sizesOk}
 use Rattle.list.specs.Table.{rowsOf, field, orderOf, wordOf, words}
 use Rattle.list.specs.Check.{verdict}
 use Rattle.list.specs.ListModel.{continuedBelow, continuedIn}
-use Rattle.placing.specs.Placing.{Placed, isFree, firstFit, reach, placeAll, unplaced, slots, roomOf, ownIn}
+use Rattle.placing.specs.Placing.{Placed, isFree, allOpen, firstFit, reach, placeAll, unplaced, slots, roomOf, ownIn}
 use Rattle.build.specs.ListTrie.{nodesOf, oldestFrom}
 
 -- what refusals 1 to 9 leave, the work items cut to the rows
@@ -45,9 +45,16 @@ pub record Front (check : List ℤ) (front : ℕ) : Type 0 where
   pub positive : 1 ≤ front
   pub taken : (t : ℕ) → 1 ≤ t → t < front → isFree (roomOf check t) ≡ false
 
--- the d of a node with these children
+-- the d of a node with these children, and whether they lie behind it
 abbrev pub fitOf : List ℤ → List ℤ → ℕ
 fitOf check rows = firstFit (roomOf check) (oldestOf rows) (length check)
+
+abbrev pub sideOf : List ℤ → List ℤ → Bool
+sideOf check rows = allOpen (roomOf check) true (fitOf check rows) (oldestOf rows)
+
+-- what lies behind d for these children are slots
+pub record ChildSlots (behind : Bool) (d : ℕ) (rows : List ℤ) : Type 0 where
+  pub room : behind ≡ true → (k : ℕ) → k < rowsOf rows → wordOf (field rows k 1) ≤ d
 
 -- BASE and CHECK have one length, and slot s lies in them
 pub record HasSlot (base check : List ℤ) (s : ℕ) : Type 0 where
@@ -55,17 +62,17 @@ pub record HasSlot (base check : List ℤ) (s : ℕ) : Type 0 where
   pub few : length check ≤ slotLimit
   pub inside : s < length check
 
--- the children's work items once their node has taken d
-pub record Given (d : ℕ) (rows : List ℤ) (items items′ : List ℕ) : Type 0 where
+-- the children's work items once their node has taken d, with them behind it or ahead
+pub record Given (behind : Bool) (d : ℕ) (rows : List ℤ) (items items′ : List ℕ) : Type 0 where
   pub same-length : length items′ ≡ length items
-  pub item : (k : ℕ) → k < length items → getD items′ k 0 ≡ 2 * childSlot d (wordOf (field rows k 1)) + getD items k 0 % 2
+  pub item : (k : ℕ) → k < length items → getD items′ k 0 ≡ 2 * childSlot behind d (wordOf (field rows k 1)) + getD items k 0 % 2
 
--- the node in slot s, whose marker holds `mark` and `load`, takes d, unless it reaches past the end
-pub record NodePlaced (rows : List ℤ) (s : ℕ) (mark load : ℤ) (d : ℕ) (base check : List ℤ) (items : List ℕ) (placed : Bool) (base′ check′ : List ℤ) (items′ : List ℕ) : Type 0 where
-  pub answer : placed ≡ leb (reach 0 d (oldestOf rows)) (length check)
+-- the node in slot s, whose marker holds `mark` and `load`, takes d, with its children behind it or ahead, unless it reaches past the end
+pub record NodePlaced (rows : List ℤ) (s : ℕ) (mark load : ℤ) (behind : Bool) (d : ℕ) (base check : List ℤ) (items : List ℕ) (placed : Bool) (base′ check′ : List ℤ) (items′ : List ℕ) : Type 0 where
+  pub answer : placed ≡ leb (reach 0 behind d (oldestOf rows)) (length check)
   pub base-set : placed ≡ true → base′ ≡ set (set base d load) s (pos d)
-  pub check-set : placed ≡ true → check′ ≡ set (ownIn d s (oldestOf rows) check) d mark
-  pub given : placed ≡ true → Given d rows items items′
+  pub check-set : placed ≡ true → check′ ≡ set (ownIn behind d s (oldestOf rows) check) d mark
+  pub given : placed ≡ true → Given behind d rows items items′
 
 -- ---- the nodes one by one
 

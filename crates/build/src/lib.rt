@@ -10,10 +10,10 @@ ghost use Rattle.backoff.specs.declared.Verdict.the-variants.{Accepted};
 ghost use Rattle.double_array.specs.DoubleArray.{markerCheck, markerBase};
 ghost use Rattle.list.specs.Table.{rowsOf, field, probabilityAt, backoffAt, wordOf};
 ghost use Rattle.list.specs.Check.{verdict};
-ghost use Rattle.placing.specs.Placing.{isFree, roomOf, reach, ownIn};
+ghost use Rattle.placing.specs.Placing.{isFree, allOpen, roomOf, reach, ownIn};
 ghost use Rattle.build.specs.ListTrie.{OneWordRows, placedList};
 ghost use Rattle.build.specs.Build.{checkedBuild, buildOutcome, IsBuilt, BuildMeans};
-ghost use Rattle.build.specs.Steps.{Passed, Wiped, ChildRows, oldestOf, Front, fitOf, HasSlot, Given, NodePlaced, Flagged, placedNodes, Filled, Tried, halved};
+ghost use Rattle.build.specs.Steps.{Passed, Wiped, ChildRows, oldestOf, Front, fitOf, sideOf, ChildSlots, HasSlot, Given, NodePlaced, Flagged, placedNodes, Filled, Tried, halved};
 use backoff::Verdict;
 
 // A node to be placed: its slot, and what its marker holds as CHECK and as BASE.
@@ -53,7 +53,27 @@ fn oldest_word(rows: &[i32], k: usize) -> usize
     rows[8 * k + 1] as usize
 }
 
-// The smallest d for which d and all the children's slots are free; below `front` no d is.
+// Whether the children's slots behind d are all at least 1 and free.
+fn open_behind(check: &[i32], rows: &[i32], d: usize) -> bool
+    requires { ⌜ ChildRows (now rows) ⌝ }
+    ensures { λ r. ⌜ r ≡ allOpen (roomOf (now (check .entry))) true d (oldestOf (now (rows .entry))) ⌝ }
+{
+    let count = rows.len() / 8;
+    let mut k = 0;
+    while k < count {
+        let w = oldest_word(rows, k);
+        if d <= w {
+            return false;
+        }
+        if !is_free(check, d - w) {
+            return false;
+        }
+        k += 1;
+    }
+    true
+}
+
+// The smallest d for which d and all the children's slots, on one side of it, are free; below `front` no d is. Slots past the end count as free.
 fn first_fit(check: &[i32], rows: &[i32], front: usize) -> usize
     requires { ⌜ ChildRows (now rows) × Front (now check) front × (length (now check) ≤ slotLimit) ⌝ }
     ensures { λ r. ⌜ r ≡ fitOf (now (check .entry)) (now (rows .entry)) ⌝ }
@@ -64,6 +84,9 @@ fn first_fit(check: &[i32], rows: &[i32], front: usize) -> usize
         d += 1;
         if !is_free(check, d) {
             continue 'next;
+        }
+        if open_behind(check, rows, d) {
+            break d;
         }
         let mut k = 0;
         while k < count {
@@ -76,13 +99,16 @@ fn first_fit(check: &[i32], rows: &[i32], front: usize) -> usize
     }
 }
 
-// Whether d and all the children's slots lie below n.
-fn within(rows: &[i32], d: usize, n: usize) -> bool
+// Whether d and all the children's slots lie below n, as those behind d do where d does.
+fn within(rows: &[i32], behind: bool, d: usize, n: usize) -> bool
     requires { ⌜ ChildRows (now rows) × (n ≤ slotLimit) ⌝ }
-    ensures { λ r. ⌜ r ≡ leb (reach 0 d (oldestOf (now (rows .entry)))) n ⌝ }
+    ensures { λ r. ⌜ r ≡ leb (reach 0 behind d (oldestOf (now (rows .entry)))) n ⌝ }
 {
     if n <= d {
         return false;
+    }
+    if behind {
+        return true;
     }
     let count = rows.len() / 8;
     let mut k = 0;
@@ -96,18 +122,18 @@ fn within(rows: &[i32], d: usize, n: usize) -> bool
 }
 
 // The node takes d: its children's slots get its own as CHECK, and d its marker.
-fn settle(base: &mut [i32], check: &mut [i32], rows: &[i32], node: Node, d: usize)
+fn settle(base: &mut [i32], check: &mut [i32], rows: &[i32], node: Node, behind: bool, d: usize)
     requires { ⌜ ChildRows (now rows) × HasSlot (now base) (now check) (node .slot) ⌝ }
-    requires { ⌜ reach 0 d (oldestOf (now rows)) ≤ length (now check) ⌝ }
+    requires { ⌜ ChildSlots behind d (now rows) × (reach 0 behind d (oldestOf (now rows)) ≤ length (now check)) ⌝ }
     ensures { λ _. ⌜ now (base .exit) ≡ set (set (now (base .entry)) d (node .load)) (node .slot) (pos d) ⌝ }
-    ensures { λ _. ⌜ now (check .exit) ≡ set (ownIn d (node .slot) (oldestOf (now (rows .entry))) (now (check .entry))) d (node .mark) ⌝ }
+    ensures { λ _. ⌜ now (check .exit) ≡ set (ownIn behind d (node .slot) (oldestOf (now (rows .entry))) (now (check .entry))) d (node .mark) ⌝ }
 {
     let Node { slot, mark, load } = node;
     let owner = slot as i32;
     let count = rows.len() / 8;
     let mut k = 0;
     while k < count {
-        let t = d + oldest_word(rows, k);
+        let t = double_array::child_slot(behind, d, oldest_word(rows, k));
         check[t] = owner;
         k += 1;
     }
@@ -117,13 +143,14 @@ fn settle(base: &mut [i32], check: &mut [i32], rows: &[i32], node: Node, d: usiz
 }
 
 // Each child's work item gets its slot, and keeps its f.
-fn give_slots(work: &mut [u32], rows: &[i32], d: usize)
+fn give_slots(work: &mut [u32], rows: &[i32], behind: bool, d: usize)
     requires { ⌜ ChildRows (now rows) × (length (now work) ≡ rowsOf (now rows)) × (d ≤ slotLimit) ⌝ }
-    ensures { λ _. ⌜ Given d (now (rows .entry)) (now (work .entry)) (now (work .exit)) ⌝ }
+    requires { ⌜ ChildSlots behind d (now rows) ⌝ }
+    ensures { λ _. ⌜ Given behind d (now (rows .entry)) (now (work .entry)) (now (work .exit)) ⌝ }
 {
     let mut k = 0;
     while k < work.len() {
-        let t = d + oldest_word(rows, k);
+        let t = double_array::child_slot(behind, d, oldest_word(rows, k));
         work[k] = 2 * t as u32 + work[k] % 2;
         k += 1;
     }
@@ -140,14 +167,15 @@ fn place_node(
 ) -> bool
     requires { ⌜ ChildRows (now rows) × HasSlot (now base) (now check) (node .slot) ⌝ }
     requires { ⌜ (length (now work) ≡ rowsOf (now rows)) × Front (now check) front ⌝ }
-    ensures { λ r. ⌜ NodePlaced (now (rows .entry)) (node .slot) (node .mark) (node .load) (fitOf (now (check .entry)) (now (rows .entry))) (now (base .entry)) (now (check .entry)) (now (work .entry)) r (now (base .exit)) (now (check .exit)) (now (work .exit)) ⌝ }
+    ensures { λ r. ⌜ NodePlaced (now (rows .entry)) (node .slot) (node .mark) (node .load) (sideOf (now (check .entry)) (now (rows .entry))) (fitOf (now (check .entry)) (now (rows .entry))) (now (base .entry)) (now (check .entry)) (now (work .entry)) r (now (base .exit)) (now (check .exit)) (now (work .exit)) ⌝ }
 {
     let d = first_fit(check, rows, front);
-    if !within(rows, d, check.len()) {
+    let behind = open_behind(check, rows, d);
+    if !within(rows, behind, d, check.len()) {
         return false;
     }
-    settle(base, check, rows, node, d);
-    give_slots(work, rows, d);
+    settle(base, check, rows, node, behind, d);
+    give_slots(work, rows, behind, d);
     true
 }
 

@@ -1,16 +1,16 @@
 -- Laws of specs/DoubleArray.antt: markers packed and read, children, the head, the walk. Of a definition by tests, the law `..-told` says in plain
 -- facts what holds where it answers, and `..-shown` is the converse. Assumes nothing.
-use mathlib.Core.Path.{_≡_, refl, ap, _∙_}
+use mathlib.Core.Path.{_≡_, refl, sym, ap, _∙_}
 use mathlib.Core.Bool.{Bool, true, false, cond, _&&_, false≢true}
 use mathlib.Core.List.{List, [], _∷_}
 use mathlib.Core.Option.{none, some}
-use Prim.Native.Nat.{ℕ, zero, suc, _≤_, _<_}
+use Prim.Native.Nat.{ℕ, zero, suc, _+_, _≤_, _<_}
 use native.Mathlib.Omega.{arith}
 use lib.Dec.{eqb, leb, ltb}
 use lib.ListN.{length, getD}
-use lib.IntN.{ℤ, pos, negsuc, negℤ, natAbs, _+ℤ_, _*ℤ_}
+use lib.IntN.{ℤ, pos, negsuc, negℤ, natAbs, _+ℤ_, _*ℤ_, pos-ne-negsuc}
 use lib.Signed.{leZ, ltZ, _≤ℤ_}
-use borrow.Author.Tests.{leb-false, lt-ltb, le-leb, eq-eqb}
+use borrow.Author.Tests.{leb-true, leb-false, ltb-true, lt-ltb, le-ltb, le-leb, eq-eqb}
 use Rattle.integer.specs.Integer.{eqZ, between, bit, twice, half, odd}
 use Rattle.integer.proofs.Arithmetic.{zarith, add, sub, mul, shr, abs}
 use Rattle.integer.proofs.Ranges.{and-left, and-right, and-both, between-low, between-high, between-yes}
@@ -19,9 +19,10 @@ use Rattle.backoff.specs.Limits.{leastProbability, largestBackoff, wordLimit, o
 use Rattle.backoff.specs.Words.{isWord, radix}
 use Rattle.backoff.specs.Model.{inProbability, inBackoff}
 use Rattle.backoff.specs.Store.{broken, here, Store}
-use Rattle.double_array.specs.DoubleArray.{freeCheck, headCheck, markerCheck, markerBase, markerOf, childSlot, baseAt, checkAt, markerAt, ownedBy, childAt, rootChild, downTo, lookFrom, sizesOk, orderOk, headOk, isArray, orderIn, lookRow, storeIn, opened}
+use Rattle.double_array.specs.DoubleArray.{freeCheck, headCheck, markerCheck, markerBase, markerOf, childSlot, wordAt, baseAt, checkAt, markerAt, ownedBy, orElse, onEitherSide, childAt, rootChild, downTo, lookFrom, sizesOk, orderOk, headOk, isArray, orderIn, lookRow, storeIn, opened}
 use Rattle.double_array.specs.declared.Marker.{Marker}
 use Rattle.double_array.specs.declared.Marker.the-variants.{Sound, Broken}
+use Rattle.double_array.specs.declared.Child.{Child}
 use Rattle.double_array.specs.declared.Child.the-variants.{At, Nothing}
 
 -- within a list the item does not depend on the default
@@ -115,79 +116,167 @@ module _ (base check : List ℤ) (s : ℕ) (p b : ℤ) (e f : Bool) where
 
 -- ---- children
 
--- "a child exists if 1 ≤ d, d + w < N and CHECK[d + w] = s"
+pub child-slot-high : (behind : Bool) (d w : ℕ) → childSlot behind d w ≤ d + w
+child-slot-high true d w = omega arith
+child-slot-high false d w = omega arith
+
+pub word-of-slot : (behind : Bool) (d w t : ℕ) → childSlot behind d w ≡ t → 1 ≤ t → wordAt d t ≡ w
+word-of-slot true d w t e h = omega arith
+word-of-slot false d w t e h = omega arith
+
+-- two words' slots of which neither is 0 are one only where the words and the sides are
+pub slots-apart : (a b : Bool) (d v w : ℕ) → 1 ≤ v → 1 ≤ w → 1 ≤ childSlot a d v → 1 ≤ childSlot b d w → childSlot a d v ≡ childSlot b d w → (a ≡ b) × (v ≡ w)
+slots-apart true true d v w h k l m e = (refl, omega arith)
+slots-apart true false d v w h k l m e = absurd (omega arith)
+slots-apart false true d v w h k l m e = absurd (omega arith)
+slots-apart false false d v w h k l m e = (refl, omega arith)
+
+-- a child behind a test
+chosen : (test : Bool) (c : Child) (t : ℕ) → cond test c Nothing ≡ At t → (test ≡ true) × (c ≡ At t)
+chosen true c t h = (refl, h)
+chosen false c t h = absurd (false≢true (cc))
+
+module _ (check : List ℤ) (s t : ℕ) where
+  pub owned-told : (u : ℕ) → ownedBy check s t ≡ At u → (t ≡ u) × (u < length check) × (getD check u freeCheck ≡ pos s)
+  owned-told u h =
+      let found = chosen (ltb t (length check) && eqZ (getD check t freeCheck) (pos s)) (At t) u h in
+      let inside = and-left (ltb t (length check)) (eqZ (getD check t freeCheck) (pos s)) (found .0) in
+      let owned = and-right (ltb t (length check)) (eqZ (getD check t freeCheck) (pos s)) (found .0) in
+      let owner : getD check t freeCheck ≡ pos s = omega zarith in
+      let same : t ≡ u = cc in
+      (same, omega zarith, rw same at owner)
+
+  pub owned-shown : t < length check → getD check t freeCheck ≡ pos s → ownedBy check s t ≡ At t
+  owned-shown l q =
+      let owned : eqZ (getD check t freeCheck) (pos s) ≡ true = omega zarith in
+      rw (lt-ltb t (length check) l, owned)
+
+  pub owned-none : (t < length check → getD check t freeCheck ≡ pos s → ⊥) → ownedBy check s t ≡ Nothing
+  owned-none h = go (ownedBy check s t) refl
+    where
+      go : (r : Child) → ownedBy check s t ≡ r → r ≡ Nothing
+      go (At u) e =
+          let o = owned-told u e in
+          absurd (h (rw (o .0) (o .1)) (rw (o .0) (o .2)))
+      go Nothing e = refl
+
+-- the child for w lies on this side of d: "A walk looks at d + w, then at d − w if that is at least 1."
 pub record IsChild (base check : List ℤ) (s w t : ℕ) : Type 0 where
   pub word : isWord w ≡ true
   pub some-base : pos 1 ≤ℤ baseAt base check s
-  pub slot : childSlot (natAbs (baseAt base check s)) w ≡ t
+  pub behind : Bool
+  pub slot : childSlot behind (natAbs (baseAt base check s)) w ≡ t
+  pub positive : 1 ≤ t
   pub inside : t < length check
   pub owner : checkAt base check t ≡ pos s
-
--- a child behind a test
-chosen : (test : Bool) (u t : ℕ) → cond test (At u) Nothing ≡ At t → (test ≡ true) × (u ≡ t)
-chosen true u t h = (refl, cc)
-chosen false u t h = absurd (false≢true (cc))
+  pub first : behind ≡ true → ownedBy check s (childSlot false (natAbs (baseAt base check s)) w) ≡ Nothing
 
 module _ (base check : List ℤ) (s w t : ℕ) where
+  abbrev own : ℤ
+  own = baseAt base check s
+
   pub child-told : childAt base check s w ≡ At t → IsChild base check s w t
   unfolding childAt
-  child-told h =
-      let d = baseAt base check s in
-      let u = childSlot (natAbs d) w in
-      let found = chosen (isWord w && (leZ (pos 1) d && (ltb u (length check) && eqZ (checkAt base check u) (pos s)))) u t h in
-      let tests = all-four (isWord w) (leZ (pos 1) d) (ltb u (length check)) (eqZ (checkAt base check u) (pos s)) (found .0) in
-      let owned : checkAt base check u ≡ pos s = omega zarith in
-      let same : u ≡ t = found .1 in
-      record { word = tests .0; some-base = omega zarith; slot = same; inside = omega zarith; owner = rw same at owned }
+  child-told h = go (ownedBy check s (childSlot false (natAbs own) w)) refl (ltb w (natAbs own)) refl (found .1)
+    where
+      found : ((isWord w && leZ (pos 1) own) ≡ true) × (onEitherSide check s (natAbs own) w ≡ At t)
+      found = chosen (isWord w && leZ (pos 1) own) (onEitherSide check s (natAbs own) w) t h
+
+      low : pos 1 ≤ℤ own
+      low = let e = and-right (isWord w) (leZ (pos 1) own) (found .0) in omega zarith
+
+      go : (a : Child) → ownedBy check s (childSlot false (natAbs own) w) ≡ a → (room : Bool) → ltb w (natAbs own) ≡ room
+          → orElse a (cond room (ownedBy check s (childSlot true (natAbs own) w)) Nothing) ≡ At t → IsChild base check s w t
+      go (At u) e room q k =
+          let same : u ≡ t = cc in
+          let o = owned-told check s (childSlot false (natAbs own) w) t (e ∙ k) in
+          record {
+            word = and-left (isWord w) (leZ (pos 1) own) (found .0);
+            some-base = low;
+            behind = false;
+            slot = o .0;
+            positive = omega (zarith, abs own, low, o .0);
+            inside = o .1;
+            owner = o .2;
+            first = λ z. absurd (false≢true z);
+          }
+      go Nothing e true q k =
+          let o = owned-told check s (childSlot true (natAbs own) w) t k in
+          record {
+            word = and-left (isWord w) (leZ (pos 1) own) (found .0);
+            some-base = low;
+            behind = true;
+            slot = o .0;
+            positive = omega (arith, ltb-true w (natAbs own) q, o .0);
+            inside = o .1;
+            owner = o .2;
+            first = λ z. e;
+          }
+      go Nothing e false q k = absurd (false≢true (cc))
 
   pub child-shown : IsChild base check s w t → childAt base check s w ≡ At t
   unfolding childAt
-  child-shown c =
-      let d = baseAt base check s in
-      let low : leZ (pos 1) d ≡ true = omega zarith in
-      let owned : eqZ (checkAt base check t) (pos s) ≡ true = omega zarith in
-      rw (c .word, low, c .slot, lt-ltb t (length check) (c .inside), owned)
+  child-shown c = rw (c .word, low) (go (c .behind) (c .slot) (c .first))
+    where
+      low : leZ (pos 1) own ≡ true
+      low = let l = c .some-base in omega zarith
+
+      mine : ownedBy check s t ≡ At t
+      mine = owned-shown check s t (c .inside) (c .owner)
+
+      go : (b : Bool) → childSlot b (natAbs own) w ≡ t → (b ≡ true → ownedBy check s (childSlot false (natAbs own) w) ≡ Nothing) → onEitherSide check s (natAbs own) w ≡ At t
+      go true e f = rw (f refl, lt-ltb w (natAbs own) (omega (arith, c .positive)), e) mine
+      go false e f = ap (λ (u : ℕ). orElse (ownedBy check s u) (cond (ltb w (natAbs own)) (ownedBy check s (childSlot true (natAbs own) w)) Nothing)) e ∙ rw mine
 
   pub child-inside : childAt base check s w ≡ At t → t < length check
   child-inside h = child-told h .inside
 
--- where the node's marker is sound, the slot that BASE names for a number below the radix tells the child alone: for 0 it is the marker's, whose CHECK is negative
-module _ (base check : List ℤ) (s w : ℕ) (p b : ℤ) (e f : Bool) (sound : markerAt base check s ≡ Sound p b e f) (small : w < radix) where
+  pub child-word : childAt base check s w ≡ At t → 1 ≤ w
+  unfolding isWord
+  child-word h = leb-true 1 w (and-left (leb 1 w) (leb w wordLimit) (child-told h .word))
+
+-- a node whose marker is sound
+module _ (base check : List ℤ) (s : ℕ) (p b : ℤ) (e f : Bool) (sound : markerAt base check s ≡ Sound p b e f) where
   abbrev d : ℤ
   d = baseAt base check s
 
   m : IsMarker base check s p b e f
   m = marker-told base check s p b e f sound
 
-  marker-unowned : eqZ (checkAt base check (natAbs d)) (pos s) ≡ false
+  -- its marker's CHECK is negative
+  pub marker-unowned : ownedBy check s (natAbs d) ≡ Nothing
   unfolding inProbability
-  marker-unowned = let high = between-high leastProbability (pos 0) p (m .p-in-range) in omega (zarith, m .p-packed, sub p (pos 1))
+  marker-unowned =
+      let high = between-high leastProbability (pos 0) p (m .p-in-range) in
+      owned-none check s (natAbs d) (λ l q. absurd (omega (zarith, m .p-packed, sub p (pos 1))))
 
-  pub child-owned : childAt base check s w ≡ ownedBy check s (childSlot (natAbs d) w)
+  -- the slots that BASE names for a number below the radix tell the child alone: for 0 they are the marker's
+  pub child-owned : (w : ℕ) → w < radix → childAt base check s w ≡ onEitherSide check s (natAbs d) w
   unfolding childAt isWord
-  child-owned = go (leb 1 w) refl
+  child-owned w small = go (leb 1 w) refl
     where
       low : leZ (pos 1) d ≡ true
       low = let l = m .some-base in omega zarith
 
-      go : (t : Bool) → leb 1 w ≡ t → cond ((t && leb w wordLimit) && (leZ (pos 1) d && (ltb (childSlot (natAbs d) w) (length check) && eqZ (checkAt base check (childSlot (natAbs d) w)) (pos s)))) (At (childSlot (natAbs d) w)) Nothing ≡ ownedBy check s (childSlot (natAbs d) w)
+      go : (t : Bool) → leb 1 w ≡ t → cond ((t && leb w wordLimit) && leZ (pos 1) d) (onEitherSide check s (natAbs d) w) Nothing ≡ onEitherSide check s (natAbs d) w
       go true h = rw (le-leb w wordLimit (omega arith), low)
       go false h =
           let z = leb-false 1 w h in
-          let k : childSlot (natAbs d) w ≡ natAbs d = omega arith in
-          rw (k, lt-ltb (natAbs d) (length check) (m .inside), marker-unowned)
+          let ahead : childSlot false (natAbs d) w ≡ natAbs d = omega arith in
+          let back : childSlot true (natAbs d) w ≡ natAbs d = omega arith in
+          rw (ahead, back, marker-unowned) (elim (ltb w (natAbs d)) as (λ r. Nothing ≡ cond r Nothing Nothing) [ true ↦ refl | false ↦ refl ])
 
 -- likewise of the root, whose marker is in slot 1
-pub root-owned : (check : List ℤ) (w : ℕ) → getD check 1 freeCheck ≡ negsuc 0 → w ≤ wordLimit → rootChild check w ≡ ownedBy check 0 (childSlot 1 w)
+pub root-owned : (check : List ℤ) (w : ℕ) → getD check 1 freeCheck ≡ negsuc 0 → w ≤ wordLimit → rootChild check w ≡ ownedBy check 0 (childSlot false 1 w)
 unfolding isWord
 root-owned check w m small = go (leb 1 w) refl
   where
-    go : (t : Bool) → leb 1 w ≡ t → cond ((t && leb w wordLimit) && (ltb (childSlot 1 w) (length check) && eqZ (getD check (childSlot 1 w) freeCheck) (pos 0))) (At (childSlot 1 w)) Nothing ≡ ownedBy check 0 (childSlot 1 w)
+    go : (t : Bool) → leb 1 w ≡ t → cond (t && leb w wordLimit) (ownedBy check 0 (childSlot false 1 w)) Nothing ≡ ownedBy check 0 (childSlot false 1 w)
     go true h = rw (le-leb w wordLimit small)
     go false h =
         let z = leb-false 1 w h in
-        let k : childSlot 1 w ≡ 1 = omega arith in
-        rw (k, m) (elim (ltb 1 (length check)) as (λ b. Nothing ≡ cond (b && false) (At 1) Nothing) [ true ↦ refl | false ↦ refl ])
+        let k : childSlot false 1 w ≡ 1 = omega arith in
+        rw (k, owned-none check 0 1 (λ l q. pos-ne-negsuc _ _ (sym q ∙ m)))
 
 -- a slot has one CHECK, so it is the child of one node for one word
 pub child-unique : (base check : List ℤ) (s w r v t : ℕ) → childAt base check s w ≡ At t → childAt base check r v ≡ At t → (s ≡ r) × (w ≡ v)
@@ -196,7 +285,8 @@ child-unique base check s w r v t h k =
     let e = child-told base check r v t k in
     let same : s ≡ r = omega (zarith, c .owner, e .owner) in
     let d = ap (λ (i : ℕ). natAbs (baseAt base check i)) same in
-    (same, omega arith)
+    let there : childSlot (e .behind) (natAbs (baseAt base check s)) v ≡ t = rw (sym d) at (e .slot) in
+    (same, slots-apart (c .behind) (e .behind) (natAbs (baseAt base check s)) w v (child-word base check s w t h) (child-word base check r v t k) (rw (c .slot) (c .positive)) (rw there (e .positive)) (c .slot ∙ sym there) .1)
 
 -- ---- the head
 
@@ -279,10 +369,19 @@ module _ (base check : List ℤ) (h : isArray base check ≡ true) where
       let b = between-yes (negℤ (pos largestBackoff)) (pos largestBackoff) (half (half rows)) (omega (zarith, shr 2 rows tt, shr 2 (half rows) tt)) (omega (zarith, shr 2 rows tt, shr 2 (half rows) tt)) in
       rw (opened-head .root-base, inside, opened-head .root-check) (marker-sound (negsuc 0) rows (and-both _ _ refl b))
 
-  -- BASE[0] is 1
+  -- BASE[0] is 1, and no slot behind it is a child's
   pub root-child : (w : ℕ) → rootChild check w ≡ childAt base check 0 w
-  unfolding childAt
-  root-child w = rw (opened-head .root-base)
+  unfolding childAt isWord
+  root-child w = rw (opened-head .root-base) (go (leb 1 w) refl)
+    where
+      alone : (c : Child) → c ≡ orElse c Nothing
+      alone (At t) = refl
+      alone Nothing = refl
+
+      go : (t : Bool) → leb 1 w ≡ t → cond (t && leb w wordLimit) (ownedBy check 0 (childSlot false 1 w)) Nothing
+          ≡ cond ((t && leb w wordLimit) && true) (onEitherSide check 0 1 w) Nothing
+      go true h = rw (le-ltb w 1 (leb-true 1 w h)) (elim (leb w wordLimit) as (λ r. cond r (ownedBy check 0 (childSlot false 1 w)) Nothing ≡ cond (r && true) (orElse (ownedBy check 0 (childSlot false 1 w)) Nothing) Nothing) [ true ↦ alone (ownedBy check 0 (childSlot false 1 w)) | false ↦ refl ])
+      go false h = refl
 
   pub opened-some : opened base check ≡ some (storeIn base check)
   unfolding opened

@@ -1,6 +1,6 @@
 -- The double array of document 01: two lists of numbers, BASE and CHECK, of which nothing is known. Markers, children, the walk, the head, and the
 -- array as a store. Slots are natural numbers; words are newest first on a walk. Assumes nothing.
-use mathlib.Core.Bool.{Bool, cond, _&&_}
+use mathlib.Core.Bool.{Bool, true, false, cond, _&&_}
 use mathlib.Core.List.{List, [], _∷_}
 use mathlib.Core.Option.{Option, none, some}
 use Prim.Native.Nat.{ℕ, _+_, _-_}
@@ -22,9 +22,9 @@ use Rattle.double_array.specs.declared.Child.the-variants.{At, Nothing}
 abbrev pub freeCheck : ℤ
 freeCheck = negsuc 2147483647
 
--- "CHECK[0] becomes n + 40, and any other head gives 11": the order, and what is added to it there
+-- "CHECK[0] becomes n + 16, and arrays headed otherwise give 11": the order, and what is added to it there
 abbrev pub headOffset : ℕ
-headOffset = 40
+headOffset = 16
 
 abbrev pub headCheck : ℕ → ℤ
 headCheck n = pos (n + headOffset)
@@ -43,13 +43,26 @@ markerOf check base =
     (Sound (check +ℤ pos 1) (half (half base)) (odd (half base)) (odd base))
     Broken
 
--- "its child for word w in slot d + w"
-abbrev pub childSlot : ℕ → ℕ → ℕ
-childSlot d w = d + w
+-- "the children's slots d − w (all ≥ 1) are tried first, then d + w": the slot of the child for word w, behind d or ahead of it
+abbrev pub childSlot : Bool → ℕ → ℕ → ℕ
+childSlot true d w = d - w
+childSlot false d w = d + w
+
+-- the word of the child in slot t, on whichever side of d that lies
+abbrev pub wordAt : ℕ → ℕ → ℕ
+wordAt d t = (t - d) + (d - t)
 
 -- slot t as a child of the node in slot s: "d + w < N and CHECK[d + w] = s"
 abbrev pub ownedBy : List ℤ → ℕ → ℕ → Child
 ownedBy check s t = cond (ltb t (length check) && eqZ (getD check t freeCheck) (pos s)) (At t) Nothing
+
+abbrev pub orElse : Child → Child → Child
+orElse (At t) other = At t
+orElse Nothing other = other
+
+-- "A walk looks at d + w, then at d − w if that is at least 1", from the node in slot s
+abbrev pub onEitherSide : List ℤ → ℕ → ℕ → ℕ → Child
+onEitherSide check s d w = orElse (ownedBy check s (childSlot false d w)) (cond (ltb w d) (ownedBy check s (childSlot true d w)) Nothing)
 
 module _ (base check : List ℤ) where
   abbrev pub baseAt : ℕ → ℤ
@@ -62,16 +75,13 @@ module _ (base check : List ℤ) where
   unfoldable pub markerAt : ℕ → Marker
   markerAt s = cond (leZ (pos 1) (baseAt s) && ltZ (baseAt s) (pos (length check))) (markerOf (checkAt (natAbs (baseAt s))) (baseAt (natAbs (baseAt s)))) Broken
 
-  -- "a child exists if 1 ≤ d, d + w < N and CHECK[d + w] = s"; a word "outside 1..65,535 is unlisted"
+  -- "a child exists if 1 ≤ d, d + w < N and CHECK[d + w] = s", and else on the other side; a word "outside 1..65,535 is unlisted"
   unfoldable pub childAt : ℕ → ℕ → Child
-  childAt s w =
-      cond (isWord w && (leZ (pos 1) (baseAt s) && (ltb (childSlot (natAbs (baseAt s)) w) (length check) && eqZ (checkAt (childSlot (natAbs (baseAt s)) w)) (pos s))))
-      (At (childSlot (natAbs (baseAt s)) w))
-      Nothing
+  childAt s w = cond (isWord w && leZ (pos 1) (baseAt s)) (onEitherSide check s (natAbs (baseAt s)) w) Nothing
 
--- the root's child for w, where BASE[0] is 1
+-- the root's child for w, where BASE[0] is 1, so that no slot behind it is at least 1
 abbrev pub rootChild : List ℤ → ℕ → Child
-rootChild check w = cond (isWord w && (ltb (childSlot 1 w) (length check) && eqZ (getD check (childSlot 1 w) freeCheck) (pos 0))) (At (childSlot 1 w)) Nothing
+rootChild check w = cond (isWord w) (ownedBy check 0 (childSlot false 1 w)) Nothing
 
 abbrev pub lookMarker : Marker → Look
 lookMarker (Sound p b e f) = here (record { p = p; b = b; e = e; f = f })

@@ -1,20 +1,21 @@
 // The double array of document 01, lent as two slices of which nothing is known: markers, children, the walk, and lookup.
 ghost use mathlib.Core.Path.{_≡_};
-ghost use mathlib.Core.Bool.{true};
+ghost use mathlib.Core.Bool.{true, cond};
 ghost use mathlib.Core.List.{reverse};
 ghost use Prim.Native.Nat.{ℕ, _≤_, _<_};
+ghost use lib.Dec.{ltb};
 ghost use lib.ListN.{length, getD, replicate};
 ghost use lib.IntN.{negsuc};
-ghost use Rattle.backoff.specs.Limits.{orderLimit, slotLimit};
+ghost use Rattle.backoff.specs.Limits.{wordLimit, orderLimit, slotLimit};
 ghost use Rattle.backoff.specs.Model.{inProbability, inBackoff};
-ghost use Rattle.double_array.specs.DoubleArray.{freeCheck, headCheck, markerCheck, markerBase, markerOf, markerAt, ownedBy, childAt, rootChild, lookFrom, sizesOk, orderOk, headOk, isArray, orderIn};
+ghost use Rattle.double_array.specs.DoubleArray.{freeCheck, headCheck, markerCheck, markerBase, markerOf, markerAt, childSlot, wordAt, ownedBy, onEitherSide, childAt, rootChild, lookFrom, sizesOk, orderOk, headOk, isArray, orderIn};
 ghost use Rattle.double_array.specs.Lookup.{lookupOf, lookupOutcome, numberOf, placeOf, foundOf, pOf, bOf, leftOf, LookupMeans};
 
 // CHECK of a free slot; its BASE is 0.
 pub const FREE: i32 = -2147483648;
 
 // CHECK[0] is the order and this.
-const HEAD_OFFSET: i32 = 40;
+const HEAD_OFFSET: i32 = 16;
 
 const LEAST_HEAD: i32 = 1 + HEAD_OFFSET;
 
@@ -110,15 +111,80 @@ pub fn read_marker(base: &[i32], check: &[i32], s: usize) -> Marker
     marker_of(check[t], base[t])
 }
 
-// Slot t as a child of the node in slot s: CHECK there names its parent.
+// Slot t, which the array has, as a child of the node in slot s: CHECK there names its parent.
+fn owned_inside(check: &[i32], s: usize, t: usize) -> Child
+    requires { ⌜ (s < slotLimit) × (t < length (now check)) ⌝ }
+    ensures { λ r. ⌜ r ≡ ownedBy (now (check .entry)) s t ⌝ }
+{
+    if check[t] == s as i32 {
+        return Child::At(t);
+    }
+    Child::Nothing
+}
+
+// The same of any slot.
 pub fn owned_by(check: &[i32], s: usize, t: usize) -> Child
     requires { ⌜ s < slotLimit ⌝ }
     ensures { λ r. ⌜ r ≡ ownedBy (now (check .entry)) s t ⌝ }
 {
-    if t < check.len() && check[t] == s as i32 {
+    if check.len() <= t {
+        return Child::Nothing;
+    }
+    owned_inside(check, s, t)
+}
+
+// The slot of the child for word w, behind d or ahead of it.
+pub fn child_slot(behind: bool, d: usize, w: usize) -> usize
+    requires { ⌜ (d ≤ slotLimit) × (w ≤ wordLimit) × (behind ≡ true → w ≤ d) ⌝ }
+    ensures { λ r. ⌜ r ≡ childSlot behind d w ⌝ }
+{
+    if behind { d - w } else { d + w }
+}
+
+// The word of the child in slot t, on whichever side of d that lies.
+pub fn word_at(d: usize, t: usize) -> usize
+    ensures { λ r. ⌜ r ≡ wordAt d t ⌝ }
+{
+    if t < d { d - t } else { t - d }
+}
+
+// The child for word w of the node in slot s whose BASE is d: the slot ahead decides with one compare, and the slot behind is looked at only where it does not.
+fn on_either_side(check: &[i32], s: usize, d: usize, w: usize) -> Child
+    requires { ⌜ (s < slotLimit) × (d < 2147483648) × (w ≤ wordLimit) ⌝ }
+    ensures { λ r. ⌜ r ≡ onEitherSide (now (check .entry)) s d w ⌝ }
+{
+    if let Child::At(t) = owned_by(check, s, d + w) {
         return Child::At(t);
     }
-    Child::Nothing
+    if d <= w {
+        return Child::Nothing;
+    }
+    owned_by(check, s, d - w)
+}
+
+// The slot behind d for word w, or d where that is not at least 1.
+fn slot_behind(d: usize, w: usize) -> usize
+    ensures { λ r. ⌜ r ≡ cond (ltb w d) (childSlot true d w) d ⌝ }
+{
+    if w < d { d - w } else { d }
+}
+
+// The child for word w of the node in slot s whose marker lies in slot d. Both slots are read, without a branch on whether one lies behind d, which a processor
+// cannot foresee: where none does, the marker's is read, which has no parent.
+pub fn beside_marker(check: &[i32], s: usize, d: usize, w: usize) -> Child
+    requires { ⌜ (s < slotLimit) × (d < length (now check)) × (d < 2147483648) × (w ≤ wordLimit) ⌝ }
+    requires { ⌜ ownedBy (now check) s d ≡ Child.Nothing ⌝ }
+    ensures { λ r. ⌜ r ≡ onEitherSide (now (check .entry)) s d w ⌝ }
+{
+    let slot = slot_behind(d, w);
+    let behind = owned_inside(check, s, slot);
+    if check.len() <= d + w {
+        return behind;
+    }
+    if let Child::At(t) = owned_inside(check, s, d + w) {
+        return Child::At(t);
+    }
+    behind
 }
 
 // The child for word w of the node in slot s.
@@ -132,10 +198,10 @@ pub fn find_child(base: &[i32], check: &[i32], s: usize, w: u32) -> Child
     if !((1 <= w) & (w <= backoff::WORD_LIMIT as u32) & (1 <= d)) {
         return Child::Nothing;
     }
-    owned_by(check, s, d as usize + w as usize)
+    on_either_side(check, s, d as usize, w as usize)
 }
 
-// The root's child for word w, without a look at BASE[0], which is 1 in every array. There is none for 0, since slot 1 is the root's own marker.
+// The root's child for word w, without a look at BASE[0], which is 1 in every array, so that all its children lie ahead. There is none for 0, since slot 1 is the root's own marker.
 pub fn root_child(check: &[i32], w: u32) -> Child
     requires { ⌜ getD (now check) 1 freeCheck ≡ negsuc 0 ⌝ }
     ensures { λ r. ⌜ r ≡ rootChild (now (check .entry)) w ⌝ }

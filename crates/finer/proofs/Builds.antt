@@ -1,7 +1,7 @@
 -- The placing rule looks at the words of the nodes alone, so a build of a list that is multiplied is accepted or refused as one of the list, and puts every node
 -- into the same slot. Assumes nothing.
 use mathlib.Core.Path.{_≡_, refl, sym, ap, ap₂, subst, _∙_}
-use mathlib.Core.Bool.{Bool, true, false, cond, _&&_}
+use mathlib.Core.Bool.{Bool, true, false, cond, _&&_, _||_}
 use mathlib.Core.List.{List, [], _∷_}
 use Prim.Native.Nat.{ℕ, zero, suc, _+_, _≤_, _<_}
 use native.Mathlib.Omega.{arith}
@@ -22,7 +22,7 @@ use Rattle.list.specs.Check.{tableFits, verdict}
 use Rattle.list.proofs.Check.{accepted-row}
 use Rattle.double_array.specs.DoubleArray.{childSlot, sizesOk}
 use Rattle.placing.specs.Trie.{Node, childOf, children}
-use Rattle.placing.specs.Placing.{Room, isFree, update, allFree, fits, search, firstFit, own, reach, give, Placed, settle, place, placeAll, placing}
+use Rattle.placing.specs.Placing.{Room, isFree, update, isOpen, allOpen, fits, search, firstFit, own, reach, give, Placed, settle, placeAt, place, placeAll, placing}
 use Rattle.build.specs.ListTrie.{nodeOf, rootOf, nodesFrom, nodesOf, placedList, slotsFrom, rowSlots}
 use Rattle.build.specs.Build.{Built, untouched, emptied, filled, checkedBuild, buildOutcome}
 use Rattle.finer.specs.FinerList.{OlderPoints, takenOver}
@@ -56,19 +56,25 @@ update-same c e h i v w f t = go (eqb t i)
     go true = f
     go false = h t
 
-own-same : (d s : ℕ) (ws : List ℕ) (c e : Room) → FreeAlike c e → FreeAlike (own d s ws c) (own d s ws e)
+own-same : (behind : Bool) (d s : ℕ) (ws : List ℕ) (c e : Room) → FreeAlike c e → FreeAlike (own behind d s ws c) (own behind d s ws e)
 unfolding own
-own-same d s [] c e h = h
-own-same d s (w ∷ ws) c e h = own-same d s ws (update c (childSlot d w) (pos s)) (update e (childSlot d w) (pos s)) (update-same c e h (childSlot d w) (pos s) (pos s) refl)
+own-same behind d s [] c e h = h
+own-same behind d s (w ∷ ws) c e h =
+    let t = childSlot behind d w in
+    own-same behind d s ws (update c t (pos s)) (update e t (pos s)) (update-same c e h t (pos s) (pos s) refl)
 
-allFree-same : (c e : Room) → FreeAlike c e → (d : ℕ) (ws : List ℕ) → allFree c d ws ≡ allFree e d ws
-unfolding allFree
-allFree-same c e h d [] = refl
-allFree-same c e h d (w ∷ ws) = ap₂ _&&_ (h (childSlot d w)) (allFree-same c e h d ws)
+isOpen-same : (c e : Room) → FreeAlike c e → (t : ℕ) → isOpen c t ≡ isOpen e t
+unfolding isOpen
+isOpen-same c e h t = ap (λ (b : Bool). leb 1 t && b) (h t)
+
+allOpen-same : (c e : Room) → FreeAlike c e → (behind : Bool) (d : ℕ) (ws : List ℕ) → allOpen c behind d ws ≡ allOpen e behind d ws
+unfolding allOpen
+allOpen-same c e h behind d [] = refl
+allOpen-same c e h behind d (w ∷ ws) = ap₂ _&&_ (isOpen-same c e h (childSlot behind d w)) (allOpen-same c e h behind d ws)
 
 fits-same : (c e : Room) → FreeAlike c e → (ws : List ℕ) → fits c ws ≡ fits e ws
 unfolding fits
-fits-same c e h ws = λ i d. ap₂ _&&_ (h d) (allFree-same c e h d ws) i
+fits-same c e h ws = λ i d. ap₂ _&&_ (h d) (ap₂ _||_ (allOpen-same c e h true d ws) (allOpen-same c e h false d ws)) i
 
 firstFit-same : (c e : Room) → FreeAlike c e → (ws : List ℕ) (top : ℕ) → firstFit c ws top ≡ firstFit e ws top
 unfolding firstFit
@@ -79,24 +85,26 @@ unfolding isFree
 marker-taken n h = ne-eqb n 2147483647 (λ e. omega arith)
 
 module _ {P Q : Placed} (A : PlacedAlike P Q) (m n : Node) (e : m .words ≡ n .words) (c : m .cost < 2147483647) (f : n .cost < 2147483647) (ws : List ℕ) where
-  settle-same : (d : ℕ) → PlacedAlike (settle m ws d P) (settle n ws d Q)
+  settle-same : (behind : Bool) (d : ℕ) → PlacedAlike (settle m ws behind d P) (settle n ws behind d Q)
   unfolding settle
-  settle-same d =
+  settle-same behind d =
       let s : P .slot (m .words) ≡ Q .slot (n .words) = ap₂ (λ (g : List ℕ → ℕ) (us : List ℕ). g us) (A .slot) e in
+      let t = Q .slot (n .words) in
       record {
         free =
             rw s
-            (update-same (own d (Q .slot (n .words)) ws (P .check)) (own d (Q .slot (n .words)) ws (Q .check)) (own-same d (Q .slot (n .words)) ws (P .check) (Q .check) (A .free)) d (negsuc (m .cost)) (negsuc (n .cost))
+            (update-same (own behind d t ws (P .check)) (own behind d t ws (Q .check)) (own-same behind d t ws (P .check) (Q .check) (A .free)) d (negsuc (m .cost)) (negsuc (n .cost))
             (marker-taken (m .cost) c ∙ sym (marker-taken (n .cost) f)));
-        slot = ap₂ (λ (us : List ℕ) (g : List ℕ → ℕ). give us d g) e (A .slot);
-        top = ap (λ (x : ℕ). reach x d ws) (A .top);
+        slot = ap₂ (λ (us : List ℕ) (g : List ℕ → ℕ). give us behind d g) e (A .slot);
+        top = ap (λ (x : ℕ). reach x behind d ws) (A .top);
       }
 
   place-same : PlacedAlike (place m ws P) (place n ws Q)
-  unfolding place
+  unfolding place placeAt
   place-same =
       let d : firstFit (P .check) ws (P .top) ≡ firstFit (Q .check) ws (Q .top) = firstFit-same (P .check) (Q .check) (A .free) ws (P .top) ∙ ap (firstFit (Q .check) ws) (A .top) in
-      rw d (settle-same (firstFit (Q .check) ws (Q .top)))
+      let fit = firstFit (Q .check) ws (Q .top) in
+      rw (d, allOpen-same (P .check) (Q .check) (A .free) true fit ws) (settle-same (allOpen (Q .check) true fit ws) fit)
 
 placeAll-same : {as′ bs : List Node} → SameNodes as′ bs → {ms ns : List Node} → SameNodes ms ns → {P Q : Placed} → PlacedAlike P Q → PlacedAlike (placeAll as′ ms P) (placeAll bs ns Q)
 unfolding placeAll

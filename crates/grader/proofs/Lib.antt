@@ -11,4 +11,5 @@ pub mod Crossing
 pub mod Fragments
 pub mod PrunedRuns
 pub mod AnswersAlike
+pub mod EitherSide
 pub mod Hundredfold

@@ -7,4 +7,5 @@ pub mod MarkedCases
 pub mod Returns
 pub mod PrunedRuns
 pub mod AnswersAlike
+pub mod EitherSide
 pub mod Hundredfold

@@ -56,9 +56,10 @@ pub record MarkedCases : Type 0 where
   -- "K6 lookup 2 4: −4000, −500; 5 4: not found."
   pub k6-listed : lookupOutcome (sampleBuilt 20 .base) (sampleBuilt 20 .check) (2 ∷ 4 ∷ []) ≡ Found (minus 4000) (minus 500) false
   pub k6-unlisted : lookupOutcome (sampleBuilt 20 .base) (sampleBuilt 20 .check) (5 ∷ 4 ∷ []) ≡ NotFound
-  -- "K7 N = 20 builds, N = 19 gives 10."
+  -- "K7 N = 20 builds, N = 19 gives 10." No node of the sample has its children behind its BASE; the head is n + 16.
   pub k7-enough : sampleBuilt 20 .answer ≡ Accepted
   pub k7-too-few : sampleBuilt 19 .answer ≡ Refused noRoom 0
+  pub k7-head : getD (sampleBuilt 20 .check) 0 (pos 0) ≡ pos 19
   -- "K8 row 2 4 has its node in slot 12 and marker in 16: CHECK −4001", and "K8 shows −1999" as BASE. The row is the seventh.
   pub k8-node : getD (sampleBuilt 20 .work) 6 0 ≡ 12
   pub k8-marker : getD (sampleBuilt 20 .base) 12 (pos 0) ≡ pos 16

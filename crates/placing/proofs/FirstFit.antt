@@ -1,16 +1,18 @@
 -- Laws of the first fit: what it finds is free, at least 1, the smallest such and the only one. Assumes nothing.
 use mathlib.Core.Path.{_≡_, refl, sym, _∙_, subst}
 use mathlib.Core.Logic.{_≢_}
-use mathlib.Core.Bool.{Bool, true, false, false≢true}
+use mathlib.Core.Bool.{Bool, true, false, _&&_, _||_, false≢true}
 use mathlib.Core.List.{List, [], _∷_, List·Memᴰ, List·Memᴰ·head, List·Memᴰ·tail}
 use Prim.Native.Nat.{ℕ, zero, suc, _+_, _≤_, _<_}
 use native.Mathlib.Omega.{arith}
 use native.Mathlib.Decide.{ℕ-discrete, decLt}
+use borrow.Author.Tests.{leb-true, le-leb}
+use lib.Dec.{leb}
 use lib.IntN.{ℤ}
 use Rattle.integer.proofs.Arithmetic.{zarith}
 use Rattle.integer.proofs.Ranges.{and-left, and-right, and-both}
 use Rattle.double_array.specs.DoubleArray.{freeCheck, childSlot}
-use Rattle.placing.specs.Placing.{Room, isFree, allFree, fits, search, firstFit}
+use Rattle.placing.specs.Placing.{Room, isFree, isOpen, allOpen, fits, search, firstFit}
 
 pub isFree-true : (z : ℤ) → isFree z ≡ true → z ≡ freeCheck
 unfolding isFree
@@ -56,46 +58,74 @@ module _ (test : ℕ → Bool) where
 
 -- ---- the test of the placing rule
 
-module _ (c : Room) (ws : List ℕ) where
-  all-free : (vs : List ℕ) (d : ℕ) → ((w : ℕ) → List·Memᴰ w vs → isFree (c (childSlot d w)) ≡ true) → allFree c d vs ≡ true
-  unfolding allFree
-  all-free [] d h = refl
-  all-free (v ∷ vs) d h =
-      and-both (isFree (c (childSlot d v))) (allFree c d vs) (h v (List·Memᴰ·head refl)) (all-free vs d (λ w m. h w (List·Memᴰ·tail m)))
+module _ (c : Room) where
+  pub open-told : (t : ℕ) → isOpen c t ≡ true → (1 ≤ t) × (c t ≡ freeCheck)
+  unfolding isOpen
+  open-told t e = (leb-true 1 t (and-left (leb 1 t) (isFree (c t)) e), isFree-true (c t) (and-right (leb 1 t) (isFree (c t)) e))
 
-  all-free-at : (vs : List ℕ) (d : ℕ) → allFree c d vs ≡ true → (w : ℕ) → List·Memᴰ w vs → isFree (c (childSlot d w)) ≡ true
-  unfolding allFree
-  all-free-at (v ∷ vs) d h w (List·Memᴰ·head e) = rw e (and-left (isFree (c (childSlot d v))) (allFree c d vs) h)
-  all-free-at (v ∷ vs) d h w (List·Memᴰ·tail m) = all-free-at vs d (and-right (isFree (c (childSlot d v))) (allFree c d vs) h) w m
+  pub open-yes : (t : ℕ) → 1 ≤ t → isFree (c t) ≡ true → isOpen c t ≡ true
+  unfolding isOpen
+  open-yes t l e = rw (le-leb 1 t l, e)
+
+  pub open-taken : (t : ℕ) → isFree (c t) ≡ false → isOpen c t ≡ false
+  unfolding isOpen
+  open-taken t e = rw e (elim (leb 1 t) as (λ b. (b && false) ≡ false) [ true ↦ refl | false ↦ refl ])
+
+  -- behind d there is no slot for a word that is not below d
+  pub open-none : (d w : ℕ) → d ≤ w → isOpen c (childSlot true d w) ≡ false
+  unfolding isOpen
+  open-none d w l = let e : childSlot true d w ≡ 0 = omega arith in rw e
+
+  module _ (behind : Bool) (d : ℕ) where
+    pub all-open : (vs : List ℕ) → ((w : ℕ) → List·Memᴰ w vs → isOpen c (childSlot behind d w) ≡ true) → allOpen c behind d vs ≡ true
+    unfolding allOpen
+    all-open [] h = refl
+    all-open (v ∷ vs) h =
+        and-both (isOpen c (childSlot behind d v)) (allOpen c behind d vs) (h v (List·Memᴰ·head refl)) (all-open vs (λ w m. h w (List·Memᴰ·tail m)))
+
+    pub all-open-at : (vs : List ℕ) → allOpen c behind d vs ≡ true → (w : ℕ) → List·Memᴰ w vs → isOpen c (childSlot behind d w) ≡ true
+    unfolding allOpen
+    all-open-at (v ∷ vs) h w (List·Memᴰ·head e) = rw e (and-left (isOpen c (childSlot behind d v)) (allOpen c behind d vs) h)
+    all-open-at (v ∷ vs) h w (List·Memᴰ·tail m) = all-open-at vs (and-right (isOpen c (childSlot behind d v)) (allOpen c behind d vs) h) w m
+
+module _ (c : Room) (ws : List ℕ) where
+  -- the side that is tried first where it is open, and else the other
+  abbrev pub sideAt : ℕ → Bool
+  sideAt d = allOpen c true d ws
 
   -- the tests that a search makes of d
-  pub fits-yes : (d : ℕ) → isFree (c d) ≡ true → ((w : ℕ) → List·Memᴰ w ws → isFree (c (childSlot d w)) ≡ true) → fits c ws d ≡ true
+  pub fits-yes : (behind : Bool) (d : ℕ) → isFree (c d) ≡ true → allOpen c behind d ws ≡ true → fits c ws d ≡ true
   unfolding fits
-  fits-yes d e h = and-both (isFree (c d)) (allFree c d ws) e (all-free ws d h)
-
-  pub fits-child : (d : ℕ) → fits c ws d ≡ true → (w : ℕ) → List·Memᴰ w ws → isFree (c (childSlot d w)) ≡ true
-  unfolding fits
-  fits-child d e = all-free-at ws d (and-right (isFree (c d)) (allFree c d ws) e)
+  fits-yes true d e h = rw (e, h)
+  fits-yes false d e h = rw (e, h) (elim (allOpen c true d ws) as (λ b. (b || true) ≡ true) [ true ↦ refl | false ↦ refl ])
 
   pub d-taken : (d : ℕ) → isFree (c d) ≡ false → fits c ws d ≡ false
   unfolding fits
   d-taken d e = rw e
 
-  pub child-taken : (d w : ℕ) → List·Memᴰ w ws → isFree (c (childSlot d w)) ≡ false → fits c ws d ≡ false
-  child-taken d w m e = go (fits c ws d) refl
-    where
-      go : (b : Bool) → fits c ws d ≡ b → b ≡ false
-      go true q = absurd (false≢true (sym e ∙ fits-child d q w m))
-      go false q = refl
+  pub sides-taken : (d : ℕ) → allOpen c true d ws ≡ false → allOpen c false d ws ≡ false → fits c ws d ≡ false
+  unfolding fits
+  sides-taken d e h = rw (e, h) (elim (isFree (c d)) as (λ b. (b && false) ≡ false) [ true ↦ refl | false ↦ refl ])
 
-  pub past-top : (top d : ℕ) → ((t : ℕ) → top ≤ t → c t ≡ freeCheck) → top ≤ d → fits c ws d ≡ true
-  past-top top d h k = fits-yes d (isFree-yes (c d) (h d k)) (λ w m. isFree-yes (c (childSlot d w)) (h (childSlot d w) (omega arith)))
+  -- what fits is open on the side that it takes
+  pub fits-side : (d : ℕ) → fits c ws d ≡ true → allOpen c (sideAt d) d ws ≡ true
+  unfolding fits
+  fits-side d e = go (allOpen c true d ws) refl (and-right (isFree (c d)) (allOpen c true d ws || allOpen c false d ws) e)
+    where
+      go : (b : Bool) → allOpen c true d ws ≡ b → (b || allOpen c false d ws) ≡ true → allOpen c b d ws ≡ true
+      go true q h = q
+      go false q h = h
+
+  pub past-top : (top d : ℕ) → ((t : ℕ) → top ≤ t → c t ≡ freeCheck) → top ≤ d → 1 ≤ d → fits c ws d ≡ true
+  past-top top d h k l =
+      fits-yes false d (isFree-yes (c d) (h d k))
+      (all-open c false d ws (λ w m. open-yes c (childSlot false d w) (omega arith) (isFree-yes (c (childSlot false d w)) (h (childSlot false d w) (omega arith)))))
 
   -- the laws of the first fit, where all slots from top on are free
   module _ (top : ℕ) (h : (t : ℕ) → top ≤ t → c t ≡ freeCheck) where
     pub fit-fits : fits c ws (firstFit c ws top) ≡ true
     unfolding firstFit
-    fit-fits = search-passes (fits c ws) top 1 (fits c ws 1) refl (past-top top (1 + top) h (omega arith))
+    fit-fits = search-passes (fits c ws) top 1 (fits c ws 1) refl (past-top top (1 + top) h (omega arith) (omega arith))
 
     pub fit-positive : 1 ≤ firstFit c ws top
     unfolding firstFit
@@ -105,12 +135,12 @@ module _ (c : Room) (ws : List ℕ) where
     unfolding fits
     fit-free =
         let d = firstFit c ws top in
-        isFree-true (c d) (and-left (isFree (c d)) (allFree c d ws) fit-fits)
+        isFree-true (c d) (and-left (isFree (c d)) (allOpen c true d ws || allOpen c false d ws) fit-fits)
 
-    pub fit-children-free : (w : ℕ) → List·Memᴰ w ws → c (childSlot (firstFit c ws top) w) ≡ freeCheck
-    fit-children-free w m =
+    pub fit-children-open : (w : ℕ) → List·Memᴰ w ws → isOpen c (childSlot (sideAt (firstFit c ws top)) (firstFit c ws top) w) ≡ true
+    fit-children-open w m =
         let d = firstFit c ws top in
-        isFree-true (c (childSlot d w)) (fits-child d fit-fits w m)
+        all-open-at c (sideAt d) d ws (fits-side d fit-fits) w m
 
     pub fit-least : (e : ℕ) → 1 ≤ e → e < firstFit c ws top → fits c ws e ≡ false
     unfolding firstFit
@@ -138,7 +168,7 @@ module _ (c : Room) (ws : List ℕ) where
       fit-from more k =
           let here = fits c ws front in
           fit-only-from (search (fits c ws) more front here) (search-from (fits c ws) more front here)
-          (search-passes (fits c ws) more front here refl (past-top top (front + more) h k))
+          (search-passes (fits c ws) more front here refl (past-top top (front + more) h k (omega arith)))
           (search-first (fits c ws) more front here refl)
 
   -- how far past the last used slot `top` is does not matter

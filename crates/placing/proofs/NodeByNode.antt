@@ -10,10 +10,10 @@ use lib.ListN.{length, take, drop, take-append-drop}
 use lib.Seq.{take-suc, take-length}
 use Rattle.double_array.specs.DoubleArray.{freeCheck, headCheck}
 use Rattle.placing.specs.Trie.{Node, children, nodeAt, Ready}
-use Rattle.placing.specs.Placing.{Room, Placed, update, settle, place, firstFit, placeAll, unplaced, placing}
+use Rattle.placing.specs.Placing.{Room, Placed, update, settle, placeAt, place, firstFit, placeAll, unplaced, placing}
 use Rattle.placing.proofs.Members.{getD-in, getD-in-take, in-take-getD}
 use Rattle.placing.proofs.Trie.{in-child, root-in, child-positive}
-use Rattle.placing.proofs.FirstFit.{past-top, fit-positive, fit-free, fit-children-free, fit-only}
+use Rattle.placing.proofs.FirstFit.{sideAt, open-told, past-top, fit-positive, fit-free, fit-children-open, fit-only}
 use Rattle.placing.proofs.Rooms.{update-same, update-other, reach-top}
 use Rattle.placing.proofs.Placing.{Slotted, Inv, Next, base-n, root-stays, settle-keeps}
 
@@ -38,11 +38,12 @@ placeAll-append all (m ∷ ms) ns P = placeAll-append all ms ns (place m (childr
 
 -- the reach only grows
 pub top-grows : (all ns : List Node) (P : Placed) → P .top ≤ placeAll all ns P .top
-unfolding placeAll place settle
+unfolding placeAll place placeAt settle
 top-grows all [] P = omega arith
 top-grows all (n ∷ ns) P =
     let ws = children all (n .words) in
-    omega (arith, top-grows all ns (place n ws P), reach-top (P .top) (firstFit (P .check) ws (P .top)) ws)
+    let d = firstFit (P .check) ws (P .top) in
+    omega (arith, top-grows all ns (place n ws P), reach-top (P .top) (sideAt (P .check) ws d) d ws)
 
 -- so a part of the nodes that passes slot N refuses the whole
 pub over-stays-over : (all ms ns : List Node) (P : Placed) (N : ℕ) → N < placeAll all ms P .top → N < placeAll all (ms ++ ns) P .top
@@ -58,7 +59,7 @@ pub record Head (order : ℕ) (r : Node) (P : Placed) : Type 0 where
 -- the root's d is 1
 root-fit : (order : ℕ) (ws : List ℕ) → firstFit (unplaced order .check) ws (unplaced order .top) ≡ 1
 unfolding unplaced
-root-fit order ws = sym (fit-only c ws 1 past 1 (omega arith) (past-top c ws 1 1 past (omega arith)) (λ e l h. absurd (omega arith)))
+root-fit order ws = sym (fit-only c ws 1 past 1 (omega arith) (past-top c ws 1 1 past (omega arith) (omega arith)) (λ e l h. absurd (omega arith)))
   where
     c : Room
     c = update (λ t. freeCheck) 0 (headCheck order)
@@ -108,7 +109,7 @@ module _ (order : ℕ) (nodes : List Node) where
 
     -- node i may take the first fit once those before it are placed, and so the invariant holds before each node's turn
     pub next-at : (i : ℕ) → i < length nodes → {P : Placed} → Inv order nodes (take i nodes) P
-        → Next nodes (take i nodes) P (nodeAt nodes i) (firstFit (P .check) (children nodes (nodeAt nodes i .words)) (P .top))
+        → Next nodes (take i nodes) P (nodeAt nodes i) (sideAt (P .check) (children nodes (nodeAt nodes i .words)) (firstFit (P .check) (children nodes (nodeAt nodes i .words)) (P .top))) (firstFit (P .check) (children nodes (nodeAt nodes i .words)) (P .top))
     next-at i h {P} I =
         let n = nodeAt nodes i in
         let ws = children nodes (n .words) in
@@ -119,7 +120,8 @@ module _ (order : ℕ) (nodes : List Node) where
           positive = child-positive R (n .words);
           d-positive = fit-positive (P .check) ws (P .top) (I .past);
           d-free = fit-free (P .check) ws (P .top) (I .past);
-          children-free = fit-children-free (P .check) ws (P .top) (I .past);
+          children-positive = λ w m. open-told (P .check) _ (fit-children-open (P .check) ws (P .top) (I .past) w m) .0;
+          children-free = λ w m. open-told (P .check) _ (fit-children-open (P .check) ws (P .top) (I .past) w m) .1;
         }
 
     inv-none : Inv order nodes [] (placedFirst order nodes 0)
@@ -127,7 +129,7 @@ module _ (order : ℕ) (nodes : List Node) where
     inv-none = unplaced-inv order nodes
 
     inv-next : (i : ℕ) → i < length nodes → Inv order nodes (take i nodes) (placedFirst order nodes i) → Inv order nodes (take (suc i) nodes) (placedFirst order nodes (suc i))
-    unfolding place
+    unfolding place placeAt
     inv-next i h I =
         let first : take (suc i) nodes ≡ take i nodes ++ (nodeAt nodes i ∷ []) = take-suc nodes i _ h in
         rw (placedFirst-suc i h, first) (settle-keeps I (next-at i h I))
@@ -144,7 +146,7 @@ module _ (order : ℕ) (nodes : List Node) where
 
     -- the root's BASE is 1 and stays
     root-base-first : placedFirst order nodes 1 .base 0 ≡ pos 1
-    unfolding placeAll place
+    unfolding placeAll place placeAt
     root-base-first =
         let I = inv-none in
         let r = nodeAt nodes 0 in
@@ -153,7 +155,7 @@ module _ (order : ℕ) (nodes : List Node) where
         (rw s at (base-n I (next-at 0 (R .nonempty) I)) ∙ ap pos (root-fit order (children nodes (r .words))))
 
     root-base-next : (i : ℕ) → suc i < length nodes → placedFirst order nodes (suc i) .base 0 ≡ pos 1 → placedFirst order nodes (suc (suc i)) .base 0 ≡ pos 1
-    unfolding place
+    unfolding place placeAt
     root-base-next i h e =
         let I = inv-first (suc i) (omega arith) in
         rw (placedFirst-suc (suc i) h)

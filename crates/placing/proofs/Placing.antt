@@ -2,12 +2,14 @@
 -- Assumes nothing.
 use mathlib.Core.Path.{_≡_, refl, sym, ap, _∙_, subst}
 use mathlib.Core.Logic.{_⊎_, inl, inr, _≢_}
+use mathlib.Core.Bool.{Bool, true, false}
 use mathlib.Core.List.{List, [], _∷_, _++_, List·Memᴰ, List·Memᴰ·head, List·Memᴰ·append-cases, List·Memᴰ·eq-of-singleton, Memᴰ·append-left, Memᴰ·append-right}
 use Prim.Native.Nat.{ℕ, suc, _≤_, _<_}
 use native.Mathlib.Omega.{arith}
 use native.Mathlib.Decide.{ℕ-discrete, decLt}
 use lib.IntN.{pos, negsuc, pos-ne-negsuc}
 use Rattle.double_array.specs.DoubleArray.{freeCheck, headCheck, childSlot}
+use Rattle.double_array.proofs.DoubleArray.{slots-apart}
 use Rattle.placing.specs.Trie.{Node, children}
 use Rattle.placing.specs.Placing.{Placed, update, own, give, settle}
 use Rattle.backoff.proofs.Words.{same-refl, same-ne}
@@ -15,12 +17,12 @@ use Rattle.placing.proofs.Rooms.{update-same, update-other, Owned, kept
 
 -- ---- the slots of nodes once n has taken d: its children's are given, all others kept
 
-module _ (n : Node) (ws : List ℕ) (d : ℕ) (P : Placed) where
-  pub slot-given : (w : ℕ) (us : List ℕ) → us ≡ n .words → settle n ws d P .slot (w ∷ us) ≡ childSlot d w
+module _ (n : Node) (ws : List ℕ) (behind : Bool) (d : ℕ) (P : Placed) where
+  pub slot-given : (w : ℕ) (us : List ℕ) → us ≡ n .words → settle n ws behind d P .slot (w ∷ us) ≡ childSlot behind d w
   unfolding settle give
   slot-given w us e = rw (e, same-refl (n .words))
 
-  pub slot-kept : (us : List ℕ) → ((w : ℕ) → us ≢ w ∷ n .words) → settle n ws d P .slot us ≡ P .slot us
+  pub slot-kept : (us : List ℕ) → ((w : ℕ) → us ≢ w ∷ n .words) → settle n ws behind d P .slot us ≡ P .slot us
   unfolding settle give
   slot-kept [] h = refl
   slot-kept (w ∷ us) h = rw (same-ne us (n .words) (λ e. h w (ap (λ (vs : List ℕ). w ∷ vs) e)))
@@ -40,8 +42,11 @@ pub record Lies (all : List Node) (P : Placed) (m : Node) : Type 0 where
   pub marker-check : P .check d ≡ negsuc (m .cost)
   pub marker-base : P .base d ≡ m .load
   pub used : m .cost < 2147483647
-  pub child-slot : (w : ℕ) → List·Memᴰ w (children all (m .words)) → P .slot (w ∷ m .words) ≡ childSlot d w
-  pub child-check : (w : ℕ) → List·Memᴰ w (children all (m .words)) → P .check (childSlot d w) ≡ pos (P .slot (m .words))
+  pub behind : Bool
+  pub child-word : (w : ℕ) → List·Memᴰ w (children all (m .words)) → 1 ≤ w
+  pub child-positive : (w : ℕ) → List·Memᴰ w (children all (m .words)) → 1 ≤ childSlot behind d w
+  pub child-slot : (w : ℕ) → List·Memᴰ w (children all (m .words)) → P .slot (w ∷ m .words) ≡ childSlot behind d w
+  pub child-check : (w : ℕ) → List·Memᴰ w (children all (m .words)) → P .check (childSlot behind d w) ≡ pos (P .slot (m .words))
 
 -- slot t holds the node `w ∷ m .words`, child of m in slot s
 pub record Holds (all done : List Node) (P : Placed) (t s : ℕ) : Type 0 where
@@ -67,10 +72,7 @@ pub record Inv (order : ℕ) (all done : List Node) (P : Placed) : Type 0 where
 
 -- the node `w ∷ us`, child of `us`
 pub record ChildLies (all done : List Node) (P : Placed) (w : ℕ) (us : List ℕ) : Type 0 where
-  pub d : ℕ
-  pub d-positive : 1 ≤ d
-  pub base : P .base (P .slot us) ≡ pos d
-  pub slot : P .slot (w ∷ us) ≡ childSlot d w
+  pub positive : 1 ≤ P .slot (w ∷ us)
   pub check : P .check (P .slot (w ∷ us)) ≡ pos (P .slot us)
   pub parent : Slotted all done us
 
@@ -82,30 +84,31 @@ module _ {order : ℕ} {all done : List Node} {P : Placed} (I : Inv order all do
       of-parent m h k =
           let a = I .lies m h in
           record {
-            d = a .d;
-            d-positive = a .d-positive;
-            base = a .base;
-            slot = a .child-slot w k;
+            positive = rw (a .child-slot w k) (a .child-positive w k);
             check = rw (a .child-slot w k) (a .child-check w k);
             parent = I .closed m h;
           }
 
+  -- a node's children lie in different slots
+  children-distinct : (u v : ℕ) (us : List ℕ) → Slotted all done (u ∷ us) → List·Memᴰ v (children all us) → P .slot (u ∷ us) ≡ P .slot (v ∷ us) → u ≡ v
+  children-distinct u v us t k e = of-parent (t .0) (t .1) (rw (t .2) (t .3)) (rw (t .2) k) (rw (t .2) e)
+    where
+      of-parent : (m : Node) → List·Memᴰ m done → List·Memᴰ u (children all (m .words)) → List·Memᴰ v (children all (m .words)) → P .slot (u ∷ m .words) ≡ P .slot (v ∷ m .words) → u ≡ v
+      of-parent m h x y q =
+          let a = I .lies m h in
+          slots-apart (a .behind) (a .behind) (a .d) u v (a .child-word u x) (a .child-word v y) (a .child-positive u x) (a .child-positive v y) (sym (a .child-slot u x) ∙ q ∙ a .child-slot v y) .1
+
   -- two nodes with a slot lie in different slots
   pub slots-distinct : (us vs : List ℕ) → Slotted all done us → Slotted all done vs → P .slot us ≡ P .slot vs → us ≡ vs
   slots-distinct [] [] p q e = refl
-  slots-distinct [] (v ∷ vs) p q e =
-      let k = child-lies v vs q in
-      absurd (omega (arith, I .root, k .slot, k .d-positive))
-  slots-distinct (u ∷ us) [] p q e =
-      let k = child-lies u us p in
-      absurd (omega (arith, I .root, k .slot, k .d-positive))
+  slots-distinct [] (v ∷ vs) p q e = absurd (omega (arith, I .root, child-lies v vs q .positive))
+  slots-distinct (u ∷ us) [] p q e = absurd (omega (arith, I .root, child-lies u us p .positive))
   slots-distinct (u ∷ us) (v ∷ vs) p q e =
       let k = child-lies u us p in
       let l = child-lies v vs q in
       let parents : P .slot us ≡ P .slot vs = cc in
-      let bases : k .d ≡ l .d = cc in
-      let word : u ≡ v = omega (arith, k .slot, l .slot) in
       let rest : us ≡ vs = slots-distinct us vs (k .parent) (l .parent) parents in
+      let word : u ≡ v = children-distinct u v us p (rw rest (q .3)) (e ∙ ap (λ (l : List ℕ). P .slot (v ∷ l)) (sym rest)) in
       λ i. word i ∷ rest i
 
   -- no node lies in a slot whose CHECK is negative: a free slot, or a marker
@@ -120,16 +123,17 @@ module _ {order : ℕ} {all done : List Node} {P : Placed} (I : Inv order all do
       let q : m .cost ≡ 2147483647 = cc in
       absurd (omega (arith, a .used))
 
-  -- a child is found only where it is listed
-  pub only-children : (m : Node) (h : List·Memᴰ m done) (w : ℕ) → P .check (childSlot (I .lies m h .d) w) ≡ pos (P .slot (m .words)) → List·Memᴰ w (children all (m .words))
-  only-children m h w e =
+  -- a child is found only where it is listed, and on the side where it lies
+  pub only-children : (m : Node) (h : List·Memᴰ m done) (behind : Bool) (w : ℕ) → 1 ≤ w → 1 ≤ childSlot behind (I .lies m h .d) w → P .check (childSlot behind (I .lies m h .d) w) ≡ pos (P .slot (m .words))
+      → (behind ≡ I .lies m h .behind) × List·Memᴰ w (children all (m .words))
+  only-children m h behind w p l e =
       let a = I .lies m h in
-      let o = I .holds (childSlot (a .d) w) (P .slot (m .words)) (omega (arith, a .d-positive)) e in
-      let b = I .lies (o .m) (o .is-done) in
+      let o = I .holds (childSlot behind (a .d) w) (P .slot (m .words)) l e in
       let same : o .m .words ≡ m .words = slots-distinct (o .m .words) (m .words) (I .closed (o .m) (o .is-done)) (I .closed m h) (o .parent) in
-      let bases : b .d ≡ a .d = cc in
-      let word : o .w ≡ w = omega (arith, o .here, b .child-slot (o .w) (o .is-child)) in
-      subst (λ (x : ℕ). List·Memᴰ x (children all (m .words))) word (subst (λ (us : List ℕ). List·Memᴰ (o .w) (children all us)) same (o .is-child))
+      let k : List·Memᴰ (o .w) (children all (m .words)) = subst (λ (us : List ℕ). List·Memᴰ (o .w) (children all us)) same (o .is-child) in
+      let here : childSlot behind (a .d) w ≡ childSlot (a .behind) (a .d) (o .w) = o .here ∙ ap (λ (us : List ℕ). P .slot (o .w ∷ us)) same ∙ a .child-slot (o .w) k in
+      let apart = slots-apart behind (a .behind) (a .d) w (o .w) p (a .child-word (o .w) k) l (a .child-positive (o .w) k) here in
+      (apart .0, subst (λ (x : ℕ). List·Memᴰ x (children all (m .words))) (sym (apart .1)) k)
 
   -- a slot that is not free is below the reach
   pub below-top : (t : ℕ) → P .check t ≢ freeCheck → t < P .top
@@ -144,17 +148,18 @@ module _ {order : ℕ} {all done : List Node} {P : Placed} (I : Inv order all do
 
 -- ---- one node more takes its d
 
--- what is asked of the next node n and of its d
-pub record Next (all done : List Node) (P : Placed) (n : Node) (d : ℕ) : Type 0 where
+-- what is asked of the next node n, of its d and of the side on which its children lie
+pub record Next (all done : List Node) (P : Placed) (n : Node) (behind : Bool) (d : ℕ) : Type 0 where
   pub slotted : Slotted all done (n .words)
   pub fresh : (m : Node) → List·Memᴰ m done → m .words ≢ n .words
   pub used : n .cost < 2147483647
   pub positive : (w : ℕ) → List·Memᴰ w (children all (n .words)) → 1 ≤ w
   pub d-positive : 1 ≤ d
   pub d-free : P .check d ≡ freeCheck
-  pub children-free : (w : ℕ) → List·Memᴰ w (children all (n .words)) → P .check (childSlot d w) ≡ freeCheck
+  pub children-positive : (w : ℕ) → List·Memᴰ w (children all (n .words)) → 1 ≤ childSlot behind d w
+  pub children-free : (w : ℕ) → List·Memᴰ w (children all (n .words)) → P .check (childSlot behind d w) ≡ freeCheck
 
-module _ {order : ℕ} {all done : List Node} {P : Placed} (I : Inv order all done P) {n : Node} {d : ℕ} (N : Next all done P n d) where
+module _ {order : ℕ} {all done : List Node} {P : Placed} (I : Inv order all done P) {n : Node} {behind : Bool} {d : ℕ} (N : Next all done P n behind d) where
   abbrev ws : List ℕ
   ws = children all (n .words)
 
@@ -162,11 +167,11 @@ module _ {order : ℕ} {all done : List Node} {P : Placed} (I : Inv order all do
   s = P .slot (n .words)
 
   abbrev P′ : Placed
-  P′ = settle n ws d P
+  P′ = settle n ws behind d P
 
   -- slots
   stays : (us : List ℕ) → Slotted all done us → P′ .slot us ≡ P .slot us
-  stays us p = slot-kept n ws d P us (λ w e. other w us e p)
+  stays us p = slot-kept n ws behind d P us (λ w e. other w us e p)
     where
       other : (w : ℕ) (us : List ℕ) → us ≡ w ∷ n .words → Slotted all done us → ⊥
       other w us e p = let q = subst (Slotted all done) e p in N .fresh (q .0) (q .1) (q .2)
@@ -177,23 +182,27 @@ module _ {order : ℕ} {all done : List Node} {P : Placed} (I : Inv order all do
   -- CHECK
   check-d : P′ .check d ≡ negsuc (n .cost)
   unfolding settle
-  check-d = update-same (own d s ws (P .check)) d (negsuc (n .cost)) d refl
+  check-d = update-same (own behind d s ws (P .check)) d (negsuc (n .cost)) d refl
 
-  check-other : (t : ℕ) → t ≢ d → P′ .check t ≡ own d s ws (P .check) t
+  check-other : (t : ℕ) → t ≢ d → P′ .check t ≡ own behind d s ws (P .check) t
   unfolding settle
-  check-other t h = update-other (own d s ws (P .check)) d (negsuc (n .cost)) t h
+  check-other t h = update-other (own behind d s ws (P .check)) d (negsuc (n .cost)) t h
 
   pub check-stays : (t : ℕ) → P .check t ≢ freeCheck → P′ .check t ≡ P .check t
-  check-stays t h = check-other t (λ e. h (ap (P .check) e ∙ N .d-free)) ∙ go (own-cases d s ws (P .check) t)
+  check-stays t h = check-other t (λ e. h (ap (P .check) e ∙ N .d-free)) ∙ go (own-cases behind d s ws (P .check) t)
     where
-      go : Owned d s ws t (P .check t) (own d s ws (P .check) t) → own d s ws (P .check) t ≡ P .check t
+      go : Owned behind d s ws t (P .check t) (own behind d s ws (P .check) t) → own behind d s ws (P .check) t ≡ P .check t
       go (kept q r) = q
       go (given w m p q) = absurd (h (ap (P .check) p ∙ N .children-free w m))
 
-  check-child : (w : ℕ) → List·Memᴰ w ws → P′ .check (childSlot d w) ≡ pos s
-  check-child w h = check-other (childSlot d w) (λ e. absurd (omega (arith, N .positive w h))) ∙ go (own-cases d s ws (P .check) (childSlot d w))
+  child-off-d : (side : Bool) (w : ℕ) → 1 ≤ d → 1 ≤ w → childSlot side d w ≢ d
+  child-off-d true w k l e = absurd (omega arith)
+  child-off-d false w k l e = absurd (omega arith)
+
+  check-child : (w : ℕ) → List·Memᴰ w ws → P′ .check (childSlot behind d w) ≡ pos s
+  check-child w h = check-other (childSlot behind d w) (λ e. child-off-d behind w (N .d-positive) (N .positive w h) e) ∙ go (own-cases behind d s ws (P .check) (childSlot behind d w))
     where
-      go : Owned d s ws (childSlot d w) (P .check (childSlot d w)) (own d s ws (P .check) (childSlot d w)) → own d s ws (P .check) (childSlot d w) ≡ pos s
+      go : Owned behind d s ws (childSlot behind d w) (P .check (childSlot behind d w)) (own behind d s ws (P .check) (childSlot behind d w)) → own behind d s ws (P .check) (childSlot behind d w) ≡ pos s
       go (kept q r) = absurd (r w h refl)
       go (given v m p q) = q
 
@@ -249,7 +258,10 @@ module _ {order : ℕ} {all done : List Node} {P : Placed} (I : Inv order all do
     marker-check = check-d;
     marker-base = base-d;
     used = N .used;
-    child-slot = λ w h. slot-given n ws d P w (n .words) refl;
+    behind = behind;
+    child-word = N .positive;
+    child-positive = N .children-positive;
+    child-slot = λ w h. slot-given n ws behind d P w (n .words) refl;
     child-check = λ w h. check-child w h ∙ ap pos (sym own-stays);
   }
 
@@ -265,9 +277,12 @@ module _ {order : ℕ} {all done : List Node} {P : Placed} (I : Inv order all do
         marker-check = check-stays (a .d) (marker-used I m h) ∙ a .marker-check;
         marker-base = base-other (a .d) off-s off-d ∙ a .marker-base;
         used = a .used;
+        behind = a .behind;
+        child-word = a .child-word;
+        child-positive = a .child-positive;
         child-slot = λ w k. stays (w ∷ m .words) (m, h, refl, k) ∙ a .child-slot w k;
         child-check = λ w k.
-            check-stays (childSlot (a .d) w) (λ e. pos-ne-negsuc _ _ (sym (a .child-check w k) ∙ e))
+            check-stays (childSlot (a .behind) (a .d) w) (λ e. pos-ne-negsuc _ _ (sym (a .child-check w k) ∙ e))
             ∙ a .child-check w k ∙ ap pos (sym (stays (m .words) (I .closed m h)));
       }
 
@@ -284,7 +299,7 @@ module _ {order : ℕ} {all done : List Node} {P : Placed} (I : Inv order all do
         here = o .here ∙ sym (stays (o .w ∷ o .m .words) (o .m, o .is-done, refl, o .is-child));
       }
 
-      cases : own d s ws (P .check) t ≡ pos u → Owned d s ws t (P .check t) (own d s ws (P .check) t) → Holds all more P′ t u
+      cases : own behind d s ws (P .check) t ≡ pos u → Owned behind d s ws t (P .check t) (own behind d s ws (P .check) t) → Holds all more P′ t u
       cases q (kept r f) = old (I .holds t u l (sym r ∙ q))
       cases q (given w h p r) = record {
         m = n;
@@ -292,26 +307,26 @@ module _ {order : ℕ} {all done : List Node} {P : Placed} (I : Inv order all do
         is-done = n-in;
         is-child = h;
         parent = cc own-stays;
-        here = p ∙ sym (slot-given n ws d P w (n .words) refl);
+        here = p ∙ sym (slot-given n ws behind d P w (n .words) refl);
       }
 
       go : Dec (t ≡ d) → Holds all more P′ t u
       go (yes q) = absurd (pos-ne-negsuc _ _ (sym e ∙ ap (P′ .check) q ∙ check-d))
-      go (no q) = cases (sym (check-other t q) ∙ e) (own-cases d s ws (P .check) t)
+      go (no q) = cases (sym (check-other t q) ∙ e) (own-cases behind d s ws (P .check) t)
 
   past-more : (t : ℕ) → P′ .top ≤ t → P′ .check t ≡ freeCheck
   unfolding settle
-  past-more t l = check-other t (λ e. absurd (omega (arith, reach-top (P .top) d ws .1))) ∙ go (own-cases d s ws (P .check) t)
+  past-more t l = check-other t (λ e. absurd (omega (arith, reach-top (P .top) behind d ws .1))) ∙ go (own-cases behind d s ws (P .check) t)
     where
-      go : Owned d s ws t (P .check t) (own d s ws (P .check) t) → own d s ws (P .check) t ≡ freeCheck
-      go (kept q f) = q ∙ I .past t (omega (arith, reach-top (P .top) d ws .0))
-      go (given w h p q) = absurd (omega (arith, reach-child (P .top) d ws w h))
+      go : Owned behind d s ws t (P .check t) (own behind d s ws (P .check) t) → own behind d s ws (P .check) t ≡ freeCheck
+      go (kept q f) = q ∙ I .past t (omega (arith, reach-top (P .top) behind d ws .0))
+      go (given w h p q) = absurd (omega (arith, reach-child (P .top) behind d ws w h))
 
   last-more : (t : ℕ) → P′ .top ≡ suc t → P′ .check t ≢ freeCheck
   unfolding settle
-  last-more t e = go (reach-highest (P .top) d ws t e)
+  last-more t e = go (reach-highest (P .top) behind d ws t e)
     where
-      go : Highest (P .top) d ws t → P′ .check t ≢ freeCheck
+      go : Highest (P .top) behind d ws t → P′ .check t ≢ freeCheck
       go (of-before q) z = I .last t q (sym (check-stays t (I .last t q)) ∙ z)
       go (of-marker q) z =
           let free : negsuc (n .cost) ≡ freeCheck = sym check-d ∙ ap (P′ .check) (sym q) ∙ z in
@@ -323,7 +338,7 @@ module _ {order : ℕ} {all done : List Node} {P : Placed} (I : Inv order all do
   blank-more : (t : ℕ) → P′ .check t ≡ freeCheck → P′ .base t ≡ pos 0
   blank-more t e = go (ℕ-discrete t d)
     where
-      cases : t ≢ d → own d s ws (P .check) t ≡ freeCheck → Owned d s ws t (P .check t) (own d s ws (P .check) t) → P′ .base t ≡ pos 0
+      cases : t ≢ d → own behind d s ws (P .check) t ≡ freeCheck → Owned behind d s ws t (P .check t) (own behind d s ws (P .check) t) → P′ .base t ≡ pos 0
       cases q f (kept r u) =
           let free : P .check t ≡ freeCheck = sym r ∙ f in
           base-other t (λ z. not-negative I (n .words) (N .slotted) t 2147483647 free (sym z)) q ∙ I .blank t free
@@ -333,9 +348,9 @@ module _ {order : ℕ} {all done : List Node} {P : Placed} (I : Inv order all do
       go (yes q) =
           let z : n .cost ≡ 2147483647 = cc check-d in
           absurd (omega (arith, N .used))
-      go (no q) = cases q (sym (check-other t q) ∙ e) (own-cases d s ws (P .check) t)
+      go (no q) = cases q (sym (check-other t q) ∙ e) (own-cases behind d s ws (P .check) t)
 
-  pub settle-keeps : Inv order all (done ++ (n ∷ [])) (settle n (children all (n .words)) d P)
+  pub settle-keeps : Inv order all (done ++ (n ∷ [])) (settle n (children all (n .words)) behind d P)
   settle-keeps = record {
     head = check-stays 0 (λ e. pos-ne-negsuc _ _ (sym (I .head) ∙ e)) ∙ I .head;
     root = stays [] tt ∙ I .root;

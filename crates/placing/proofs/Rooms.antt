@@ -1,6 +1,7 @@
 -- Laws of what a node writes in the room: one slot, the children's slots, and how far it reaches. Assumes nothing.
 use mathlib.Core.Path.{_≡_, refl, ap, _∙_}
 use mathlib.Core.Logic.{_≢_}
+use mathlib.Core.Bool.{Bool}
 use mathlib.Core.List.{List, [], _∷_, List·Memᴰ, List·Memᴰ·head, List·Memᴰ·tail, List·Memᴰ·not-nil}
 use Prim.Native.Nat.{ℕ, suc, _≤_, _<_}
 use native.Mathlib.Omega.{arith}
@@ -20,63 +21,63 @@ module _ (f : Room) (i : ℕ) (v : ℤ) where
   update-other t h = rw (ne-eqb t i h)
 
 -- what CHECK holds in slot t once the children ws belong to the node in slot s: as before, and t is no child's, or s, and t is a child's
-pub data Owned (d s : ℕ) (ws : List ℕ) (t : ℕ) (old new : ℤ) : Type 0 where
-  kept : new ≡ old → ((w : ℕ) → List·Memᴰ w ws → t ≢ childSlot d w) → Owned d s ws t old new
-  given : (w : ℕ) → List·Memᴰ w ws → t ≡ childSlot d w → new ≡ pos s → Owned d s ws t old new
+pub data Owned (behind : Bool) (d s : ℕ) (ws : List ℕ) (t : ℕ) (old new : ℤ) : Type 0 where
+  kept : new ≡ old → ((w : ℕ) → List·Memᴰ w ws → t ≢ childSlot behind d w) → Owned behind d s ws t old new
+  given : (w : ℕ) → List·Memᴰ w ws → t ≡ childSlot behind d w → new ≡ pos s → Owned behind d s ws t old new
 
-pub own-cases : (d s : ℕ) (ws : List ℕ) (c : Room) (t : ℕ) → Owned d s ws t (c t) (own d s ws c t)
+pub own-cases : (behind : Bool) (d s : ℕ) (ws : List ℕ) (c : Room) (t : ℕ) → Owned behind d s ws t (c t) (own behind d s ws c t)
 unfolding own
-own-cases d s [] c t = kept refl (λ w h. absurd (List·Memᴰ·not-nil h))
-own-cases d s (x ∷ ws) c t = go (ℕ-discrete t (childSlot d x)) (own-cases d s ws (update c (childSlot d x) (pos s)) t)
+own-cases behind d s [] c t = kept refl (λ w h. absurd (List·Memᴰ·not-nil h))
+own-cases behind d s (x ∷ ws) c t = go (ℕ-discrete t (childSlot behind d x)) (own-cases behind d s ws (update c (childSlot behind d x) (pos s)) t)
   where
     c′ : Room
-    c′ = update c (childSlot d x) (pos s)
+    c′ = update c (childSlot behind d x) (pos s)
 
-    no-child : t ≢ childSlot d x → ((w : ℕ) → List·Memᴰ w ws → t ≢ childSlot d w) → (w : ℕ) → List·Memᴰ w (x ∷ ws) → t ≢ childSlot d w
-    no-child ne h w (List·Memᴰ·head e) = λ q. ne (q ∙ ap (childSlot d) e)
+    no-child : t ≢ childSlot behind d x → ((w : ℕ) → List·Memᴰ w ws → t ≢ childSlot behind d w) → (w : ℕ) → List·Memᴰ w (x ∷ ws) → t ≢ childSlot behind d w
+    no-child ne h w (List·Memᴰ·head e) = λ q. ne (q ∙ ap (childSlot behind d) e)
     no-child ne h w (List·Memᴰ·tail m) = h w m
 
-    go : Dec (t ≡ childSlot d x) → Owned d s ws t (c′ t) (own d s ws c′ t) → Owned d s (x ∷ ws) t (c t) (own d s ws c′ t)
-    go (yes e) (kept q h) = given x (List·Memᴰ·head refl) e (q ∙ update-same c (childSlot d x) (pos s) t e)
-    go (no e) (kept q h) = kept (q ∙ update-other c (childSlot d x) (pos s) t e) (no-child e h)
+    go : Dec (t ≡ childSlot behind d x) → Owned behind d s ws t (c′ t) (own behind d s ws c′ t) → Owned behind d s (x ∷ ws) t (c t) (own behind d s ws c′ t)
+    go (yes e) (kept q h) = given x (List·Memᴰ·head refl) e (q ∙ update-same c (childSlot behind d x) (pos s) t e)
+    go (no e) (kept q h) = kept (q ∙ update-other c (childSlot behind d x) (pos s) t e) (no-child e h)
     go (yes e) (given w m p q) = given w (List·Memᴰ·tail m) p q
     go (no e) (given w m p q) = given w (List·Memᴰ·tail m) p q
 
-pub reach-top : (top d : ℕ) (ws : List ℕ) → (top ≤ reach top d ws) × (d < reach top d ws)
+pub reach-top : (top : ℕ) (behind : Bool) (d : ℕ) (ws : List ℕ) → (top ≤ reach top behind d ws) × (d < reach top behind d ws)
 unfolding reach
-reach-top top d [] = omega arith
-reach-top top d (w ∷ ws) = let h = reach-top top d ws in omega arith
+reach-top top behind d [] = omega arith
+reach-top top behind d (w ∷ ws) = let h = reach-top top behind d ws in omega arith
 
-pub reach-child : (top d : ℕ) (ws : List ℕ) (w : ℕ) → List·Memᴰ w ws → childSlot d w < reach top d ws
+pub reach-child : (top : ℕ) (behind : Bool) (d : ℕ) (ws : List ℕ) (w : ℕ) → List·Memᴰ w ws → childSlot behind d w < reach top behind d ws
 unfolding reach
-reach-child top d (x ∷ ws) w (List·Memᴰ·head e) = omega arith
-reach-child top d (x ∷ ws) w (List·Memᴰ·tail m) = omega (arith, reach-child top d ws w m)
+reach-child top behind d (x ∷ ws) w (List·Memᴰ·head e) = omega (arith, ap (childSlot behind d) e)
+reach-child top behind d (x ∷ ws) w (List·Memᴰ·tail m) = omega (arith, reach-child top behind d ws w m)
 
-pub reach-within : (top d : ℕ) (ws : List ℕ) (N : ℕ) → top ≤ N → d < N → ((w : ℕ) → List·Memᴰ w ws → childSlot d w < N) → reach top d ws ≤ N
+pub reach-within : (top : ℕ) (behind : Bool) (d : ℕ) (ws : List ℕ) (N : ℕ) → top ≤ N → d < N → ((w : ℕ) → List·Memᴰ w ws → childSlot behind d w < N) → reach top behind d ws ≤ N
 unfolding reach
-reach-within top d [] N t h f = omega arith
-reach-within top d (w ∷ ws) N t h f = omega (arith, f w (List·Memᴰ·head refl), reach-within top d ws N t h (λ v m. f v (List·Memᴰ·tail m)))
+reach-within top behind d [] N t h f = omega arith
+reach-within top behind d (w ∷ ws) N t h f = omega (arith, f w (List·Memᴰ·head refl), reach-within top behind d ws N t h (λ v m. f v (List·Memᴰ·tail m)))
 
 -- the highest slot used is the highest of before, the marker's or a child's
-pub data Highest (top d : ℕ) (ws : List ℕ) (t : ℕ) : Type 0 where
-  of-before : top ≡ suc t → Highest top d ws t
-  of-marker : t ≡ d → Highest top d ws t
-  of-child : (w : ℕ) → List·Memᴰ w ws → t ≡ childSlot d w → Highest top d ws t
+pub data Highest (top : ℕ) (behind : Bool) (d : ℕ) (ws : List ℕ) (t : ℕ) : Type 0 where
+  of-before : top ≡ suc t → Highest top behind d ws t
+  of-marker : t ≡ d → Highest top behind d ws t
+  of-child : (w : ℕ) → List·Memᴰ w ws → t ≡ childSlot behind d w → Highest top behind d ws t
 
-pub reach-highest : (top d : ℕ) (ws : List ℕ) (t : ℕ) → reach top d ws ≡ suc t → Highest top d ws t
+pub reach-highest : (top : ℕ) (behind : Bool) (d : ℕ) (ws : List ℕ) (t : ℕ) → reach top behind d ws ≡ suc t → Highest top behind d ws t
 unfolding reach
-reach-highest top d [] t e = go (decLt d top)
+reach-highest top behind d [] t e = go (decLt d top)
   where
-    go : Dec (d < top) → Highest top d [] t
+    go : Dec (d < top) → Highest top behind d [] t
     go (yes l) = of-before (omega arith)
     go (no l) = of-marker (omega arith)
-reach-highest top d (w ∷ ws) t e = go (decLt (childSlot d w) (reach top d ws)) (reach-highest top d ws t)
+reach-highest top behind d (w ∷ ws) t e = go (decLt (childSlot behind d w) (reach top behind d ws)) (reach-highest top behind d ws t)
   where
-    more : Highest top d ws t → Highest top d (w ∷ ws) t
+    more : Highest top behind d ws t → Highest top behind d (w ∷ ws) t
     more (of-before q) = of-before q
     more (of-marker q) = of-marker q
     more (of-child v m q) = of-child v (List·Memᴰ·tail m) q
 
-    go : Dec (childSlot d w < reach top d ws) → (reach top d ws ≡ suc t → Highest top d ws t) → Highest top d (w ∷ ws) t
+    go : Dec (childSlot behind d w < reach top behind d ws) → (reach top behind d ws ≡ suc t → Highest top behind d ws t) → Highest top behind d (w ∷ ws) t
     go (yes l) rest = more (rest (omega arith))
     go (no l) rest = of-child w (List·Memᴰ·head refl) (omega arith)

@@ -14,7 +14,7 @@ use Rattle.integer.proofs.Ranges.{and-left, and-right}
 use Rattle.backoff.specs.Words.{sameWords, isWord, areWords}
 use Rattle.double_array.specs.DoubleArray.{freeCheck, markerBase}
 use Rattle.placing.specs.Trie.{Node, children, nodeAt, HasParent, Ready}
-use Rattle.placing.specs.Placing.{Placed, isFree, update, allFree, fits, search, firstFit, own, reach, give, settle, place, placeAll, unplaced, placing, slots, usedSlots}
+use Rattle.placing.specs.Placing.{Placed, isFree, update, isOpen, allOpen, fits, search, firstFit, own, reach, give, settle, placeAt, place, placeAll, unplaced, placing, slots, usedSlots}
 use Rattle.backoff.proofs.Words.{same-eq, same-refl}
 
 -- a row's node, from its words, −p, −b, e and f
@@ -36,7 +36,7 @@ sampleNodes =
     ∷ []
 
 samplePlaced : Placed
-unfolding sameWords children isFree update allFree fits search firstFit own reach give settle place placeAll unplaced placing slots
+unfolding sameWords children isFree update isOpen allOpen fits search firstFit own reach give settle placeAt place placeAll unplaced placing slots
 samplePlaced = placing 3 sampleNodes
 
 -- so N = 20 is enough, and N = 19 is not
@@ -50,7 +50,7 @@ unfolding samplePlaced
 sample-base = refl
 
 sample-check : slots 20 (placing 3 sampleNodes .check)
-    ≡ pos 43 ∷ negsuc 0 ∷ pos 0 ∷ pos 0 ∷ pos 0 ∷ pos 0 ∷ pos 0 ∷ negsuc 20000 ∷ negsuc 990000 ∷ negsuc 10000 ∷ negsuc 6000 ∷ negsuc 9000 ∷ pos 5 ∷ negsuc 1500 ∷ pos 4 ∷ pos 6 ∷ negsuc 4000 ∷ negsuc 3000 ∷ negsuc 1000 ∷ pos 15 ∷ []
+    ≡ pos 19 ∷ negsuc 0 ∷ pos 0 ∷ pos 0 ∷ pos 0 ∷ pos 0 ∷ pos 0 ∷ negsuc 20000 ∷ negsuc 990000 ∷ negsuc 10000 ∷ negsuc 6000 ∷ negsuc 9000 ∷ pos 5 ∷ negsuc 1500 ∷ pos 4 ∷ pos 6 ∷ negsuc 4000 ∷ negsuc 3000 ∷ negsuc 1000 ∷ pos 15 ∷ []
 unfolding samplePlaced
 sample-check = refl
 
@@ -72,6 +72,21 @@ used-past-free = refl
 passed-over : placing 2 (row [] 0 0 false false ∷ row (1 ∷ []) 0 0 true false ∷ row (5 ∷ []) 0 0 false false ∷ row (3 ∷ 1 ∷ []) 0 0 false false ∷ []) .base 2 ≡ pos 4
 unfolding samplePlaced
 passed-over = refl
+
+-- Children lie behind d, which the sample has no case of: of the room that the root leaves, slots 3, 5 and 6 are free and 4, 7 and 8 are not, so that node 1,
+-- in slot 2, takes d = 6 for its children 1 and 3. The highest slot that it uses is d itself.
+behindPlaced : Placed
+behindPlaced = placing 2 (row [] 0 0 false false ∷ row (1 ∷ []) 0 0 true false ∷ row (3 ∷ []) 0 0 false false ∷ row (6 ∷ []) 0 0 false false ∷ row (7 ∷ []) 0 0 false false ∷ row (1 ∷ 1 ∷ []) 0 0 false false ∷ row (3 ∷ 1 ∷ []) 0 0 false false ∷ [])
+
+lies-behind : slots 13 (behindPlaced .base)
+    ≡ pos 1 ∷ pos 0 ∷ pos 6 ∷ pos 13 ∷ pos 9 ∷ pos 12 ∷ pos 2 ∷ pos 10 ∷ pos 11 ∷ pos 0 ∷ pos 0 ∷ pos 0 ∷ pos 0 ∷ []
+unfolding samplePlaced behindPlaced
+lies-behind = refl
+
+lies-behind-check : slots 13 (behindPlaced .check)
+    ≡ pos 18 ∷ negsuc 0 ∷ pos 0 ∷ pos 2 ∷ pos 0 ∷ pos 2 ∷ negsuc 0 ∷ pos 0 ∷ pos 0 ∷ negsuc 0 ∷ negsuc 0 ∷ negsuc 0 ∷ negsuc 0 ∷ []
+unfolding samplePlaced behindPlaced
+lies-behind-check = refl
 
 -- ---- `Ready` asks nothing that the sample has not
 

@@ -89,29 +89,29 @@ usedSlots-slots (suc n) (suc (suc top)) c past last l =
 
 -- ---- the children's slots
 
-pub ownIn-slots : (n d s : ℕ) (ws : List ℕ) (c : Room) → ownIn d s ws (slots n c) ≡ slots n (own d s ws c)
+pub ownIn-slots : (n : ℕ) (behind : Bool) (d s : ℕ) (ws : List ℕ) (c : Room) → ownIn behind d s ws (slots n c) ≡ slots n (own behind d s ws c)
 unfolding ownIn own
-ownIn-slots n d s [] c = refl
-ownIn-slots n d s (w ∷ ws) c = ap (ownIn d s ws) (set-slots n c (childSlot d w) (pos s)) ∙ ownIn-slots n d s ws (update c (childSlot d w) (pos s))
+ownIn-slots n behind d s [] c = refl
+ownIn-slots n behind d s (w ∷ ws) c = ap (ownIn behind d s ws) (set-slots n c (childSlot behind d w) (pos s)) ∙ ownIn-slots n behind d s ws (update c (childSlot behind d w) (pos s))
 
-pub length-ownIn : (d s : ℕ) (ws : List ℕ) (check : List ℤ) → length (ownIn d s ws check) ≡ length check
+pub length-ownIn : (behind : Bool) (d s : ℕ) (ws : List ℕ) (check : List ℤ) → length (ownIn behind d s ws check) ≡ length check
 unfolding ownIn
-length-ownIn d s [] check = refl
-length-ownIn d s (w ∷ ws) check = length-ownIn d s ws (set check (childSlot d w) (pos s)) ∙ length-set check (childSlot d w) (pos s)
+length-ownIn behind d s [] check = refl
+length-ownIn behind d s (w ∷ ws) check = length-ownIn behind d s ws (set check (childSlot behind d w) (pos s)) ∙ length-set check (childSlot behind d w) (pos s)
 
 -- one child more, as a loop over the children writes it
-pub ownIn-snoc : (d s : ℕ) (ws : List ℕ) (w : ℕ) (check : List ℤ) → ownIn d s (ws ++ (w ∷ [])) check ≡ set (ownIn d s ws check) (childSlot d w) (pos s)
+pub ownIn-snoc : (behind : Bool) (d s : ℕ) (ws : List ℕ) (w : ℕ) (check : List ℤ) → ownIn behind d s (ws ++ (w ∷ [])) check ≡ set (ownIn behind d s ws check) (childSlot behind d w) (pos s)
 unfolding ownIn
-ownIn-snoc d s [] w check = refl
-ownIn-snoc d s (v ∷ ws) w check = ownIn-snoc d s ws w (set check (childSlot d v) (pos s))
+ownIn-snoc behind d s [] w check = refl
+ownIn-snoc behind d s (v ∷ ws) w check = ownIn-snoc behind d s ws w (set check (childSlot behind d v) (pos s))
 
 -- ---- one node's stores
 
-module _ (N : ℕ) (n : Node) (ws : List ℕ) (d : ℕ) (P : Placed) where
-  pub settle-base : set (set (slots N (P .base)) d (n .load)) (P .slot (n .words)) (pos d) ≡ slots N (settle n ws d P .base)
+module _ (N : ℕ) (n : Node) (ws : List ℕ) (behind : Bool) (d : ℕ) (P : Placed) where
+  pub settle-base : set (set (slots N (P .base)) d (n .load)) (P .slot (n .words)) (pos d) ≡ slots N (settle n ws behind d P .base)
   unfolding settle
   settle-base = rw (set-slots N (P .base) d (n .load)) (set-slots N (update (P .base) d (n .load)) (P .slot (n .words)) (pos d))
 
-  pub settle-check : set (ownIn d (P .slot (n .words)) ws (slots N (P .check))) d (negsuc (n .cost)) ≡ slots N (settle n ws d P .check)
+  pub settle-check : set (ownIn behind d (P .slot (n .words)) ws (slots N (P .check))) d (negsuc (n .cost)) ≡ slots N (settle n ws behind d P .check)
   unfolding settle
-  settle-check = rw (ownIn-slots N d (P .slot (n .words)) ws (P .check)) (set-slots N (own d (P .slot (n .words)) ws (P .check)) d (negsuc (n .cost)))
+  settle-check = rw (ownIn-slots N behind d (P .slot (n .words)) ws (P .check)) (set-slots N (own behind d (P .slot (n .words)) ws (P .check)) d (negsuc (n .cost)))

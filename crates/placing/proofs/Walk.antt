@@ -2,7 +2,7 @@
 -- Assumes nothing.
 use mathlib.Core.Path.{_≡_, refl, sym, ap, ap₂, _∙_}
 use mathlib.Core.Logic.{_≢_}
-use mathlib.Core.Bool.{true}
+use mathlib.Core.Bool.{Bool, true, false, false≢true}
 use mathlib.Core.List.{List, [], _∷_, List·Memᴰ, reverse, reverseAux}
 use mathlib.Core.Option.{Option, none, some, Option·none-ne-some}
 use Prim.Native.Nat.{ℕ, _≤_, _<_}
@@ -17,9 +17,9 @@ use Rattle.double_array.specs.declared.Marker.{Marker}
 use Rattle.double_array.specs.declared.Marker.the-variants.{Sound, Broken}
 use Rattle.double_array.specs.declared.Child.{Child}
 use Rattle.double_array.specs.declared.Child.the-variants.{At, Nothing}
-use Rattle.double_array.specs.DoubleArray.{freeCheck, markerOf, childSlot, baseAt, checkAt, markerAt, childAt, lookMarker, past, downTo, lookFrom}
-use Rattle.double_array.proofs.DoubleArray.{child-told, child-shown}
-use Rattle.placing.specs.Trie.{Node, findNode, Ready}
+use Rattle.double_array.specs.DoubleArray.{freeCheck, markerOf, childSlot, ownedBy, baseAt, checkAt, markerAt, childAt, lookMarker, past, downTo, lookFrom}
+use Rattle.double_array.proofs.DoubleArray.{owned-none, child-told, child-shown, child-word}
+use Rattle.placing.specs.Trie.{Node, children, findNode, Ready}
 use Rattle.placing.specs.Placing.{Placed, placing, slots}
 use Rattle.placing.proofs.Trie.{child-found, found-child, found-in, root-found, found-word, absent-below}
 use Rattle.placing.proofs.Placing.{Lies, Inv, marker-used, only-children, below-top, slot-below-top}
@@ -83,20 +83,32 @@ module _ (base check : List ℤ) (s : ℕ) {d : ℕ} (b : baseAt base check s �
   unfolding markerAt
   marker-read l = rw (b, le-leb 1 d p, lt-ltb d (length check) l)
 
-  child-place : (w : ℕ) → childSlot (natAbs (baseAt base check s)) w ≡ childSlot d w
-  child-place w = ap (λ (z : ℤ). childSlot (natAbs z) w) b
+  -- a slot on either side of d, as the definition of a child names it
+  child-place : (behind : Bool) (w : ℕ) → childSlot behind (natAbs (baseAt base check s)) w ≡ childSlot behind d w
+  child-place behind w = ap (λ (z : ℤ). childSlot behind (natAbs z) w) b
 
-  child-there : (w : ℕ) → isWord w ≡ true → childSlot d w < length check → checkAt base check (childSlot d w) ≡ pos s → childAt base check s w ≡ At (childSlot d w)
-  child-there w e l q = child-shown base check s w (childSlot d w) (record { word = e; some-base = omega zarith; slot = child-place w; inside = l; owner = q })
+  child-there : (behind : Bool) (w : ℕ) → isWord w ≡ true → 1 ≤ childSlot behind d w → childSlot behind d w < length check → checkAt base check (childSlot behind d w) ≡ pos s
+      → (behind ≡ true → ownedBy check s (childSlot false d w) ≡ Nothing) → childAt base check s w ≡ At (childSlot behind d w)
+  child-there behind w e k l q f =
+      child-shown base check s w (childSlot behind d w) (record {
+        word = e;
+        some-base = omega zarith;
+        behind = behind;
+        slot = child-place behind w;
+        positive = k;
+        inside = l;
+        owner = q;
+        first = λ z. ap (ownedBy check s) (child-place false w) ∙ f z;
+      })
 
-  child-none : (w : ℕ) → (childSlot d w < length check → checkAt base check (childSlot d w) ≡ pos s → ⊥) → childAt base check s w ≡ Nothing
+  child-none : (w : ℕ) → ((behind : Bool) → 1 ≤ w → 1 ≤ childSlot behind d w → childSlot behind d w < length check → checkAt base check (childSlot behind d w) ≡ pos s → ⊥) → childAt base check s w ≡ Nothing
   child-none w h = go (childAt base check s w) refl
     where
       go : (r : Child) → childAt base check s w ≡ r → r ≡ Nothing
       go (At t) e =
           let c = child-told base check s w t e in
-          let same = sym (child-place w) ∙ c .slot in
-          absurd (h (rw same (c .inside)) (rw same (c .owner)))
+          let same = sym (child-place (c .behind) w) ∙ c .slot in
+          absurd (h (c .behind) (child-word base check s w t e) (rw same (c .positive)) (rw same (c .inside)) (rw same (c .owner)))
       go Nothing e = refl
 
 -- ---- the placing rule's array
@@ -129,22 +141,26 @@ module _ {order : ℕ} {nodes : List Node} {P : Placed} (R : Ready nodes) (I : I
         marker-read B C s base-read (a .d-positive) (c .0)
         ∙ ap₂ markerOf (c .1 ∙ a .marker-check) (getD-slots N (P .base) (a .d) (pos 0) (omega (arith, length-slots N (P .check))) ∙ a .marker-base)
 
+    -- a slot that the node owns on a side is a child's, and its children lie on that side
+    owned : (behind : Bool) (w : ℕ) → 1 ≤ w → 1 ≤ childSlot behind (a .d) w → childSlot behind (a .d) w < length C → checkAt B C (childSlot behind (a .d) w) ≡ pos s
+        → (behind ≡ a .behind) × List·Memᴰ w (children nodes (m .words))
+    owned behind w p l i q =
+        only-children I m h behind w p l (sym (getD-slots N (P .check) (childSlot behind (a .d) w) freeCheck (omega (arith, length-slots N (P .check)))) ∙ q)
+
     child-laid : (w : ℕ) → childAt B C s w ≡ childIf (findNode nodes (w ∷ m .words)) (P .slot (w ∷ m .words))
     child-laid w = go (findNode nodes (w ∷ m .words)) refl
       where
-        unlisted : findNode nodes (w ∷ m .words) ≡ none → childSlot (a .d) w < length C → checkAt B C (childSlot (a .d) w) ≡ pos s → ⊥
-        unlisted e l q =
-            let c : P .check (childSlot (a .d) w) ≡ pos s = sym (getD-slots N (P .check) (childSlot (a .d) w) freeCheck (omega (arith, length-slots N (P .check)))) ∙ q in
-            let k = child-found nodes (m .words) w (only-children I m h w c) in
-            Option·none-ne-some (k .0) (sym e ∙ k .1)
-
         go : (o : Option Node) → findNode nodes (w ∷ m .words) ≡ o → childAt B C s w ≡ childIf o (P .slot (w ∷ m .words))
-        go none e = child-none B C s base-read (a .d-positive) w (unlisted e)
+        go none e =
+            child-none B C s base-read (a .d-positive) w
+            (λ behind p l i q. let k = child-found nodes (m .words) w (owned behind w p l i q .1) in Option·none-ne-some (k .0) (sym e ∙ k .1))
         go (some k) e =
             let is-child = found-child nodes (m .words) w k e in
             let q = a .child-check w is-child in
-            let c = check-read (childSlot (a .d) w) (λ z. pos-ne-negsuc _ _ (sym q ∙ z)) in
-            rw (a .child-slot w is-child) (child-there B C s base-read (a .d-positive) w (found-word R w (m .words) k e) (c .0) (c .1 ∙ q))
+            let c = check-read (childSlot (a .behind) (a .d) w) (λ z. pos-ne-negsuc _ _ (sym q ∙ z)) in
+            rw (a .child-slot w is-child)
+            (child-there B C s base-read (a .d-positive) (a .behind) w (found-word R w (m .words) k e) (a .child-positive w is-child) (c .0) (c .1 ∙ q)
+            (λ z. owned-none C s (childSlot false (a .d) w) (λ i r. false≢true (owned false w (a .child-word w is-child) (omega (arith, a .d-positive)) i r .0 ∙ z))))
 
   inv-laid-out : LaidOut nodes (P .slot) (slots N (P .base)) (slots N (P .check))
   inv-laid-out = record {

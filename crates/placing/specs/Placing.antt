@@ -1,9 +1,9 @@
 -- The placing rule of document 01, in room without an upper end: BASE and CHECK are functions from slots to numbers, and `top` is one more than the
 -- highest slot used. An array of N slots is their first N, where `top` is at most N. Assumes nothing.
-use mathlib.Core.Bool.{Bool, true, false, cond, _&&_}
+use mathlib.Core.Bool.{Bool, true, false, cond, _&&_, _||_}
 use mathlib.Core.List.{List, [], _∷_}
 use Prim.Native.Nat.{ℕ, zero, suc, max}
-use lib.Dec.{eqb}
+use lib.Dec.{eqb, leb}
 use lib.ListN.{getD, set}
 use lib.IntN.{ℤ, pos, negsuc}
 use Rattle.integer.specs.Integer.{eqZ}
@@ -21,13 +21,18 @@ isFree c = eqZ c freeCheck
 unfoldable pub update : Room → ℕ → ℤ → Room
 update f i v t = cond (eqb t i) v (f t)
 
-unfoldable pub allFree : Room → ℕ → List ℕ → Bool
-allFree c d [] = true
-allFree c d (w ∷ ws) = isFree (c (childSlot d w)) && allFree c d ws
+-- "the children's slots d − w (all ≥ 1)": a slot that a child may take
+unfoldable pub isOpen : Room → ℕ → Bool
+isOpen c t = leb 1 t && isFree (c t)
 
--- "d and all its children's slots are free"
+-- all children's slots on one side of d, behind it or ahead
+unfoldable pub allOpen : Room → Bool → ℕ → List ℕ → Bool
+allOpen c behind d [] = true
+allOpen c behind d (w ∷ ws) = isOpen c (childSlot behind d w) && allOpen c behind d ws
+
+-- "d and all its children's slots are free", where "all children of a node lie on one side"
 unfoldable pub fits : Room → List ℕ → ℕ → Bool
-fits c ws d = isFree (c d) && allFree c d ws
+fits c ws d = isFree (c d) && (allOpen c true d ws || allOpen c false d ws)
 
 -- the first number from d on that passes the test, within so many tries; the last argument says whether d does
 unfoldable pub search : (ℕ → Bool) → ℕ → ℕ → Bool → ℕ
@@ -35,24 +40,24 @@ search test zero d here = d
 search test (suc more) d true = d
 search test (suc more) d false = search test more (suc d) (test (suc d))
 
--- "the smallest d ≥ 1 for which d and all its children's slots are free"; from slot `top` on all are free, so that `top` tries are enough
+-- "the smallest d that fits is taken as before": d ≥ 1, and "slots ≥ N counting as free here"; from slot `top` on all are free, so that `top` tries are enough
 unfoldable pub firstFit : Room → List ℕ → ℕ → ℕ
 firstFit c ws top = search (fits c ws) top 1 (fits c ws 1)
 
 -- CHECK once the children's slots belong to the node in slot s
-unfoldable pub own : ℕ → ℕ → List ℕ → Room → Room
-own d s [] c = c
-own d s (w ∷ ws) c = own d s ws (update c (childSlot d w) (pos s))
+unfoldable pub own : Bool → ℕ → ℕ → List ℕ → Room → Room
+own behind d s [] c = c
+own behind d s (w ∷ ws) c = own behind d s ws (update c (childSlot behind d w) (pos s))
 
 -- one more than the highest slot used
-unfoldable pub reach : ℕ → ℕ → List ℕ → ℕ
-reach top d [] = max top (suc d)
-reach top d (w ∷ ws) = max (suc (childSlot d w)) (reach top d ws)
+unfoldable pub reach : ℕ → Bool → ℕ → List ℕ → ℕ
+reach top behind d [] = max top (suc d)
+reach top behind d (w ∷ ws) = max (suc (childSlot behind d w)) (reach top behind d ws)
 
--- the slots of nodes, once the children of the node `us` lie at d + w
-unfoldable pub give : List ℕ → ℕ → (List ℕ → ℕ) → List ℕ → ℕ
-give us d slot [] = slot []
-give us d slot (w ∷ ws) = cond (sameWords ws us) (childSlot d w) (slot (w ∷ ws))
+-- the slots of nodes, once the children of the node `us` lie behind d or ahead of it
+unfoldable pub give : List ℕ → Bool → ℕ → (List ℕ → ℕ) → List ℕ → ℕ
+give us behind d slot [] = slot []
+give us behind d slot (w ∷ ws) = cond (sameWords ws us) (childSlot behind d w) (slot (w ∷ ws))
 
 pub record Placed : Type 0 where
   pub base : Room
@@ -60,19 +65,23 @@ pub record Placed : Type 0 where
   pub slot : List ℕ → ℕ
   pub top : ℕ
 
--- "A node in slot s with BASE[s] = d has its marker in slot d, and its child for word w in slot d + w with CHECK = s."
-unfoldable pub settle : Node → List ℕ → ℕ → Placed → Placed
-settle n ws d P =
+-- "A node in slot s with BASE[s] = d has its marker in slot d, and its child for word w in slot d + w with CHECK = s", or in slot d − w
+unfoldable pub settle : Node → List ℕ → Bool → ℕ → Placed → Placed
+settle n ws behind d P =
     record {
       base = update (update (P .base) d (n .load)) (P .slot (n .words)) (pos d);
-      check = update (own d (P .slot (n .words)) ws (P .check)) d (negsuc (n .cost));
-      slot = give (n .words) d (P .slot);
-      top = reach (P .top) d ws;
+      check = update (own behind d (P .slot (n .words)) ws (P .check)) d (negsuc (n .cost));
+      slot = give (n .words) behind d (P .slot);
+      top = reach (P .top) behind d ws;
     }
+
+-- "at each d the children's slots d − w (all ≥ 1) are tried first, then d + w"
+unfoldable pub placeAt : Node → List ℕ → ℕ → Placed → Placed
+placeAt n ws d P = settle n ws (allOpen (P .check) true d ws) d P
 
 -- "Each node takes the smallest d ≥ 1 for which d and all its children's slots are free."
 unfoldable pub place : Node → List ℕ → Placed → Placed
-place n ws P = settle n ws (firstFit (P .check) ws (P .top)) P
+place n ws P = placeAt n ws (firstFit (P .check) ws (P .top)) P
 
 -- "Nodes are placed in the order root, row 1, row 2 and so on."
 unfoldable pub placeAll : List Node → List Node → Placed → Placed
@@ -102,6 +111,6 @@ usedSlots [] = 0
 usedSlots (c ∷ check) = cond (isFree c && eqb (usedSlots check) 0) 0 (suc (usedSlots check))
 
 -- what `own` stores, on a lent CHECK slice
-unfoldable pub ownIn : ℕ → ℕ → List ℕ → List ℤ → List ℤ
-ownIn d s [] check = check
-ownIn d s (w ∷ ws) check = ownIn d s ws (set check (childSlot d w) (pos s))
+unfoldable pub ownIn : Bool → ℕ → ℕ → List ℕ → List ℤ → List ℤ
+ownIn behind d s [] check = check
+ownIn behind d s (w ∷ ws) check = ownIn behind d s ws (set check (childSlot behind d w) (pos s))

@@ -199,7 +199,7 @@ fn next_node(base: &[i32], check: &[i32], s: usize, older: u64, more: bool) -> C
         return Child::Nothing;
     }
     let d = base[s] as usize;
-    double_array::owned_by(check, s, d + (older % backoff::RADIX) as usize)
+    double_array::beside_marker(check, s, d, (older % backoff::RADIX) as usize)
 }
 
 // The walk from the node in this slot, that of a word v, through the state's words. Each node's back-off takes the place of one of the state's.

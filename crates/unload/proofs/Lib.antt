@@ -10,7 +10,9 @@ pub mod Items
 pub mod Gathering
 pub mod Numbering
 pub mod Children
+pub mod ByWord
 pub mod Queue
+pub mod Enqueued
 pub mod BreadthFirst
 pub mod Placing
 pub mod Marks

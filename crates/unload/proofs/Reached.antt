@@ -11,14 +11,14 @@ use borrow.Author.Tests.{leb-true, lt-ltb, le-ltb, ltb-true, eq-eqb}
 use lib.Dec.{leb, ltb}
 use lib.ListN.{length}
 use lib.IntN.{ℤ}
-use Rattle.integer.proofs.Arithmetic.{zarith, abs, or-yes}
+use Rattle.integer.proofs.Arithmetic.{or-yes}
 use Rattle.integer.proofs.Ranges.{lt-or-ge, and-left, and-right, and-both}
 use Rattle.backoff.specs.Limits.{wordLimit}
 use Rattle.backoff.specs.Words.{sameWords, isWord, areWords, key}
 use Rattle.backoff.proofs.Words.{same-refl}
 use Rattle.list.specs.Order.{lastLess, precedes}
 use Rattle.list.proofs.Keys.{precedes-key}
-use Rattle.double_array.specs.DoubleArray.{baseAt, childAt}
+use Rattle.double_array.specs.DoubleArray.{childAt}
 use Rattle.double_array.specs.declared.Child.{Child}
 use Rattle.double_array.specs.declared.Child.the-variants.{At, Nothing}
 use Rattle.double_array.proofs.DoubleArray.{child-told, child-unique}
@@ -231,7 +231,7 @@ module _ (base check : List ℤ) where
 
   -- no child lies in slot 0
   child-slot : (s w t : ℕ) → childAt base check s w ≡ At t → 0 < t
-  child-slot s w t e = let c = child-told base check s w t e in omega (zarith, abs (baseAt base check s), c .some-base, c .slot)
+  child-slot s w t e = child-told base check s w t e .positive
 
   pub walk-slot : (w : ℕ) (us : List ℕ) (s : ℕ) → walkTo base check (w ∷ us) ≡ At s → (t : ℕ) × (walkTo base check us ≡ At t) × (childAt base check t w ≡ At s)
   unfolding walkTo

@@ -1,4 +1,4 @@
-//! "The double array" of document 01, with the markers of T-01 and the head of T-08, as it is read: any two lent slices, whoever wrote them.
+//! "The double array" of document 01, with the markers of T-01 and the two sides of T-09, as it is read: any two lent slices, whoever wrote them.
 
 use super::list::{Refusal, ACCEPTED, LARGEST_B, LARGEST_WORD, LOWEST_P, MOST_ROWS};
 use std::collections::HashMap;
@@ -6,8 +6,25 @@ use std::collections::HashMap;
 pub const MOST_SLOTS: usize = 1_048_576;
 pub const ROOT: usize = 0;
 
-/// "CHECK[0] becomes n + 40" (T-08).
-pub const HEAD: i32 = 40;
+/// "CHECK[0] becomes n + 16" (T-09).
+pub const HEAD: i32 = 16;
+
+/// The two sides of a node's d on which a child may lie: d − w and d + w.
+#[derive(Clone, Copy, Debug, PartialEq, Eq)]
+pub enum Side {
+    Behind,
+    Ahead,
+}
+
+impl Side {
+    /// The slot of the child for a word; behind d there is one only where it is at least 1.
+    pub fn slot(self, d: usize, word: usize) -> Option<usize> {
+        match self {
+            Side::Behind => d.checked_sub(word).filter(|&slot| slot >= 1),
+            Side::Ahead => Some(d + word),
+        }
+    }
+}
 
 /// What a sound marker holds.
 #[derive(Clone, Copy, Debug, PartialEq, Eq)]
@@ -54,14 +71,15 @@ impl<'a> Array<'a> {
         self.base.len()
     }
 
-    /// "A child exists if 1 ≤ d, d + w < N and CHECK[d + w] = s"; a word outside 1..65,535 has none.
+    /// "A child exists if 1 ≤ d, d + w < N and CHECK[d + w] = s", and "a walk looks at d + w, then at d − w if that is at least 1" (T-09); a word
+    /// outside 1..65,535 has none.
     pub fn child(&self, node: usize, word: u32) -> Option<usize> {
         let d = self.base[node];
         if d < 1 || !(1..=LARGEST_WORD as u32).contains(&word) {
             return None;
         }
-        let slot = d as usize + word as usize;
-        (self.check.get(slot) == Some(&(node as i32))).then_some(slot)
+        let slots = [Side::Ahead, Side::Behind].map(|side| side.slot(d as usize, word as usize));
+        slots.into_iter().flatten().find(|&slot| self.check.get(slot) == Some(&(node as i32)))
     }
 
     /// All children that exist, words and slots, by the slot of their parent.
@@ -69,7 +87,7 @@ impl<'a> Array<'a> {
         let mut children: HashMap<usize, Vec<(u32, usize)>> = HashMap::new();
         for slot in 0..self.slots() {
             let Some(parent) = usize::try_from(self.check[slot]).ok().filter(|&parent| parent < self.slots()) else { continue };
-            let Ok(word) = u32::try_from(slot as i64 - self.base[parent] as i64) else { continue };
+            let word = (slot as i32).abs_diff(self.base[parent]);
             if self.child(parent, word) == Some(slot) {
                 children.entry(parent).or_default().push((word, slot));
             }

@@ -1,6 +1,6 @@
-//! The placing rule of document 01, in room without an upper end, and the build, with the markers of T-01 and the head of T-08.
+//! The placing rule of document 01 with the two sides of T-09, in room without an upper end, and the build, with the markers of T-01.
 
-use super::array::{lengths_fit, HEAD};
+use super::array::{lengths_fit, Side, HEAD};
 use super::list::{continued, extended, rows, verdict, Refusal, Row, ACCEPTED};
 use std::collections::HashMap;
 
@@ -54,15 +54,16 @@ pub fn place(rows: &[Row]) -> Vec<Node> {
     place_by(rows, |words| room.first_fit(words))
 }
 
-/// Places the root and the rows' nodes where `find` tells; it is given each node's child words and takes what it finds.
-pub fn place_by(rows: &[Row], mut find: impl FnMut(&[usize]) -> usize) -> Vec<Node> {
+/// Places the root and the rows' nodes where `find` tells: it is given each node's child words, and gives its d and the children's slots.
+pub fn place_by(rows: &[Row], mut find: impl FnMut(&[usize]) -> (usize, Vec<usize>)) -> Vec<Node> {
     let children = children(rows);
     let mut nodes = vec![Node::default(); rows.len() + 1];
     for i in 0..nodes.len() {
         let words: Vec<usize> = children[i].iter().map(|&child| rows[child - 1].words[0] as usize).collect();
-        nodes[i].d = find(&words);
-        for (word, &child) in words.iter().zip(&children[i]) {
-            nodes[child].slot = nodes[i].d + word;
+        let (d, slots) = find(&words);
+        nodes[i].d = d;
+        for (slot, &child) in slots.into_iter().zip(&children[i]) {
+            nodes[child].slot = slot;
             nodes[child].parent = nodes[i].slot;
         }
     }
@@ -89,20 +90,28 @@ struct Room {
 }
 
 impl Room {
-    /// "Each node takes the smallest d ≥ 1 for which d and all its children's slots are free."
-    fn first_fit(&mut self, words: &[usize]) -> usize {
+    /// "The smallest d that fits is taken", and all that it needs; the room has no end, so that "slots ≥ N" count "as free here".
+    fn first_fit(&mut self, words: &[usize]) -> (usize, Vec<usize>) {
         while !self.free(self.front) {
             self.front += 1;
         }
         let mut d = self.front;
-        while !(self.free(d) && words.iter().all(|word| self.free(d + word))) {
-            d += 1;
-        }
+        let side = loop {
+            match self.side(d, words) {
+                Some(side) => break side,
+                None => d += 1,
+            }
+        };
+        let slots: Vec<usize> = words.iter().filter_map(|&word| side.slot(d, word)).collect();
         self.take(d);
-        for word in words {
-            self.take(d + word);
-        }
-        d
+        slots.iter().for_each(|&slot| self.take(slot));
+        (d, slots)
+    }
+
+    /// "At each d the children's slots d − w (all ≥ 1) are tried first, then d + w"; "all children of a node lie on one side".
+    fn side(&self, d: usize, words: &[usize]) -> Option<Side> {
+        let fits = |side: &Side| words.iter().all(|&word| side.slot(d, word).is_some_and(|slot| self.free(slot)));
+        [Side::Behind, Side::Ahead].into_iter().find(|side| self.free(d) && fits(side))
     }
 
     fn free(&self, slot: usize) -> bool {

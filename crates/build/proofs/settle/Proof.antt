@@ -1,12 +1,14 @@
 -- Invariant: the children passed have the node's slot as CHECK, and the stores left lead to the same slice.
-use Prim.Native.Nat.{_+_, _-_, _<_}
+use mathlib.Core.Path.{_≡_, ap, _∙_}
+use Prim.Native.Nat.{_-_, _<_}
 use native.Mathlib.Omega.{arith}
 use lib.ListN.{length, set, length-set}
 use denote.Ref.{now}
 use mir.Syntax.{w32}
 use mir.Facts.{toZ-ofZ, toZ-pos}
 use borrow.Author.Needs.{needs, sfits-of}
-use Rattle.list.specs.Table.{rowsOf}
+use Rattle.double_array.specs.DoubleArray.{childSlot}
+use Rattle.list.specs.Table.{rowsOf, field, wordOf}
 use Rattle.placing.proofs.Rooms.{reach-top}
 use Rattle.build.specs.Steps.{oldestOf}
 use Rattle.build.proofs.OldestWords.{reach-first, Owning, owning-none, owning-next, owning-end}
@@ -14,36 +16,49 @@ use Rattle.build.proofs.settle.Statement.{statement}
 use Rattle.build.proofs.settle.Tie as tie
 
 abbrev Inv-loop : tie.InvT-loop
-Inv-loop base check₀ rows d slot mark load owner count k₀ check k = Owning rows d slot count check₀ check k
+Inv-loop base check₀ rows behind d slot mark load owner count k₀ check k = Owning rows behind d slot count check₀ check k
 
 abbrev μ-loop : tie.MeasureT-loop
-μ-loop base check₀ rows d slot mark load owner count k₀ check k = count - k
+μ-loop base check₀ rows behind d slot mark load owner count k₀ check k = count - k
 
 cast-owner : tie.Need-cast-owner Inv-loop μ-loop
 cast-owner c = search needs
 
 loop-holds : tie.Need-loop-holds Inv-loop μ-loop
 unfolding rowsOf
-loop-holds c = owning-none _ _ _ _ _ (c .before .before .pre .1)
+loop-holds c = owning-none _ _ _ _ _ _ (c .before .before .pre .1 .1)
 
 oldest-word-requires : tie.Need-oldest-word-requires Inv-loop μ-loop
 unfolding rowsOf
 oldest-word-requires c κs = (c .before .before .before .before .pre .0 .0, c .loop-test .taken)
 
--- the child's slot lies in the slice
-child-inside : (c : tie.After-oldest-word Inv-loop μ-loop) → c .before .before .before .before .before .args .d + c .oldest-word .result < length (now (c .before .before .before .before .before .args .check))
-child-inside c =
-    let l = c .before .before in
-    rw (c .oldest-word .ensures .0) (reach-first _ _ _ _ _ (c .before .loop-test .taken) (l .loop .inv .room) .0)
+-- the marker's slot lies in the slice
+d-inside : (s : tie.Start Inv-loop μ-loop) → s .args .d < length (now (s .args .check))
+d-inside s = omega (arith, reach-top 0 (s .args .behind) (s .args .d) (oldestOf (now (s .args .rows))), s .pre .1 .1)
 
-add-t : tie.Need-add-t Inv-loop μ-loop
-add-t c = omega (arith, child-inside c, c .before .before .before .before .before .pre .0 .1 .few)
+child-slot-requires : tie.Need-child-slot-requires Inv-loop μ-loop
+unfolding rowsOf
+child-slot-requires c κs =
+    let s = c .before .before .before .before .before in (
+      omega (arith, d-inside s, s .pre .0 .1 .few),
+      c .oldest-word .ensures .1,
+      λ e. rw (c .oldest-word .ensures .0) (s .pre .1 .0 .room e (c .before .before .loop .k) (c .before .loop-test .taken)),
+    )
+
+-- the child's slot lies in the slice
+child-is : (c : tie.After-child-slot Inv-loop μ-loop) → c .child-slot .result ≡ childSlot (c .before .before .before .before .before .before .args .behind) (c .before .before .before .before .before .before .args .d) (wordOf (field (now (c .before .before .before .before .before .before .args .rows)) (c .before .before .before .loop .k) 1))
+child-is c = let s = c .before .before .before .before .before .before in c .child-slot .ensures ∙ ap (childSlot (s .args .behind) (s .args .d)) (c .before .oldest-word .ensures .0)
+
+child-inside : (c : tie.After-child-slot Inv-loop μ-loop) → c .child-slot .result < length (now (c .before .before .before .before .before .before .args .check))
+child-inside c =
+    let l = c .before .before .before in
+    rw (child-is c) (reach-first _ _ _ _ _ _ (c .before .before .loop-test .taken) (l .loop .inv .room) .0)
 
 mul-owner : tie.Need-mul-owner Inv-loop μ-loop
-mul-owner c = omega (arith, child-inside c, c .before .before .before .before .before .pre .0 .1 .few)
+mul-owner c = omega (arith, child-inside c, c .before .before .before .before .before .before .pre .0 .1 .few)
 
 slice-set-from-owner : tie.Need-slice-set-from-owner Inv-loop μ-loop
-slice-set-from-owner c = omega (arith, child-inside c, c .before .before .loop .inv .same-length)
+slice-set-from-owner c = omega (arith, child-inside c, c .before .before .before .loop .inv .same-length)
 
 add-k : tie.Need-add-k Inv-loop μ-loop
 add-k c = search needs
@@ -53,14 +68,10 @@ loop-less c = search needs
 
 loop-again : tie.Need-loop-again Inv-loop μ-loop
 loop-again c =
-    let l = c .before .before in
+    let l = c .before .before .before in
     let s = l .before .before .before in
-    owning-next _ _ _ _ _ _ _ _ _ (l .loop .inv) (c .before .loop-test .taken) (c .oldest-word .ensures .0)
+    owning-next _ _ _ _ _ _ _ _ _ _ (l .loop .inv) (c .before .before .loop-test .taken) (child-is c)
     (toZ-pos w32 (omega (arith, s .pre .0 .1 .inside, s .pre .0 .1 .few)))
-
--- the marker's slot lies in the slice
-d-inside : (s : tie.Start Inv-loop μ-loop) → s .args .d < length (now (s .args .check))
-d-inside s = omega (arith, reach-top 0 (s .args .d) (oldestOf (now (s .args .rows))), s .pre .1)
 
 mul-mark : tie.Need-mul-mark Inv-loop μ-loop
 mul-mark c = let s = c .before .before .before .before in omega (arith, d-inside s, s .pre .0 .1 .few)
@@ -77,8 +88,8 @@ slice-set-from-load c = let s = c .before .before .before .before in omega (arit
 cast-base : tie.Need-cast-base Inv-loop μ-loop
 cast-base c = let s = c .before .before .before .before in record { sfits = omega (arith, d-inside s, s .pre .0 .1 .few) }
 
-mul-t13 : tie.Need-mul-t13 Inv-loop μ-loop
-mul-t13 c = search needs
+mul-t14 : tie.Need-mul-t14 Inv-loop μ-loop
+mul-t14 c = search needs
 
 slice-set-from-base : tie.Need-slice-set-from-base Inv-loop μ-loop
 slice-set-from-base c = let s = c .before .before .before .before in simp length-set (omega (arith, s .pre .0 .1 .same-length, s .pre .0 .1 .inside))
@@ -98,7 +109,7 @@ returns c =
     let load = toZ-ofZ {w = w32} {z = s .args .node .load} (sfits-of (l .before .struct-told2 .given .1 .1 .0 .1)) in
     let mark = toZ-ofZ {w = w32} {z = s .args .node .mark} (sfits-of (l .before .struct-told2 .given .1 .0 .1)) in (
       (λ i. set (set (now (s .args .base)) (s .args .d) (load i)) (s .args .node .slot) (d i)),
-      (λ i. set (owning-end _ _ _ _ _ _ _ (l .loop .inv) (c .loop-test .left) i) (s .args .d) (mark i)),
+      (λ i. set (owning-end _ _ _ _ _ _ _ _ (l .loop .inv) (c .loop-test .left) i) (s .args .d) (mark i)),
     )
 
 pub settle-spec : {M : Type 1} → statement M
@@ -110,7 +121,7 @@ settle-spec =
     cast-owner
     loop-holds
     oldest-word-requires
-    add-t
+    child-slot-requires
     mul-owner
     slice-set-from-owner
     add-k
@@ -121,7 +132,7 @@ settle-spec =
     mul-load
     slice-set-from-load
     cast-base
-    mul-t13
+    mul-t14
     slice-set-from-base
     same-length
     same-length-2
