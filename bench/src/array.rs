@@ -3,13 +3,18 @@
 use crate::list::{self, Row, LARGEST_B, LARGEST_WORD, LOWEST_P, MOST_ROWS};
 use backoff::{Found, Status};
 
-const FREE: i32 = i32::MIN;
+pub const FREE: i32 = i32::MIN;
 const MOST_SLOTS: usize = 1_048_576;
 const HEAD: i32 = 16;
 const ACCEPTED: Status = Status { number: 0, place: 0 };
 
-/// Builds the double array of a list: 1, 2, row by row 3 to 8, 9, 10.
+/// Builds the double array of a list, the search for d from the first free slot on: 1, 2, row by row 3 to 8, 9, 10.
 pub fn build(table: &[i32], base: &mut [i32], check: &mut [i32], work: &mut [u32]) -> Status {
+    build_by::<FromFirstFree>(table, base, check, work)
+}
+
+/// The same, the search as it is given.
+pub fn build_by<S: Search>(table: &[i32], base: &mut [i32], check: &mut [i32], work: &mut [u32]) -> Status {
     let (rows, _) = table.as_chunks::<8>();
     if list::length_fits(table) && (!lengths_fit(base, check) || work.len() < rows.len()) {
         return Status { number: 2, place: 0 };
@@ -18,12 +23,14 @@ pub fn build(table: &[i32], base: &mut [i32], check: &mut [i32], work: &mut [u32
     if verdict != ACCEPTED {
         return verdict;
     }
-    clear(base, check);
-    if place(rows, base, check, work).is_none() {
+    S::clear(base, check);
+    if place::<S>(rows, base, check, work).is_none() {
         clear(base, check);
         work[..rows.len()].fill(0);
         return Status { number: 10, place: 0 };
     }
+    S::finish(base, check);
+    (base[0], check[0]) = (1, HEAD + rows[rows.len() - 1][0]);
     set_continued(rows, base, check);
     ACCEPTED
 }
@@ -37,59 +44,53 @@ fn clear(base: &mut [i32], check: &mut [i32]) {
     check.fill(FREE);
 }
 
-/// Places all nodes and writes everything but the f of the markers; nothing where a slot at or past the end is used.
-fn place(rows: &[Row], base: &mut [i32], check: &mut [i32], work: &mut [u32]) -> Option<()> {
-    let order = rows[rows.len() - 1][0];
-    let ones = rows.partition_point(|row| row[0] == 1);
-    (base[0], check[0]) = (0, HEAD + order);
-    let mut front = 1;
-    let d = settle(&rows[..ones], 0, &mut front, base, check, &mut work[..ones])?;
-    (base[d], check[d]) = (rows.len() as i32, -1);
-    // The children of the rows, in the order of the rows, are the rows of two and more words.
-    let mut next = ones;
-    for (i, row) in rows.iter().enumerate() {
-        let m = row[0] as usize;
-        let is_child = |child: &Row| child[0] == row[0] + 1 && child[2..2 + m] == row[1..1 + m];
-        let end = rows[next..].iter().position(|child| !is_child(child)).map_or(rows.len(), |count| next + count);
-        let slot = work[i] as usize;
-        let d = settle(&rows[next..end], slot, &mut front, base, check, &mut work[next..end])?;
-        let extended = (next < end) as i32;
-        (base[d], check[d]) = (4 * row[7] + 2 * extended, row[6] - 1);
-        next = end;
+/// How the free slots are held and gone through while nodes are placed. Slot 0 is no part of it: it is written at the end.
+pub trait Search: Default {
+    /// Frees all slots.
+    fn clear(base: &mut [i32], check: &mut [i32]) {
+        clear(base, check);
     }
-    Some(())
+    /// The smallest d with room for the children behind it or ahead of it, and whether they lie behind. Slots past the end count as free.
+    fn first_fit(&mut self, children: &[Row], base: &[i32], check: &[i32]) -> (usize, bool);
+    /// Gives a free slot its BASE and CHECK.
+    fn take(base: &mut [i32], check: &mut [i32], slot: usize, load: i32, mark: i32) {
+        (base[slot], check[slot]) = (load, mark);
+    }
+    /// Leaves BASE 0 and CHECK FREE in the free slots.
+    fn finish(_base: &mut [i32], _check: &mut [i32]) {}
 }
 
-/// Finds the d of the node in `slot`, and takes the slots of its children.
-fn settle(children: &[Row], slot: usize, front: &mut usize, base: &mut [i32], check: &mut [i32], work: &mut [u32]) -> Option<usize> {
-    while *front < check.len() && check[*front] != FREE {
-        *front += 1;
+/// Every d is tried, 1 first.
+#[derive(Default)]
+pub struct EveryD;
+
+impl Search for EveryD {
+    fn first_fit(&mut self, children: &[Row], _base: &[i32], check: &[i32]) -> (usize, bool) {
+        first_fit_from(1, children, check)
     }
-    let (d, behind) = first_fit(children, *front, check);
-    let highest = if behind { d } else { d + largest_word(children) };
-    if highest >= check.len() {
-        return None;
-    }
-    base[slot] = d as i32;
-    for (child, item) in children.iter().zip(work) {
-        let word = child[1] as usize;
-        let place = if behind { d - word } else { d + word };
-        check[place] = slot as i32;
-        *item = place as u32;
-    }
-    Some(d)
 }
 
-/// The last child's word, 0 where there is none.
-fn largest_word(children: &[Row]) -> usize {
-    children.last().map_or(0, |child| child[1] as usize)
+/// Every d is tried, the first free slot first.
+#[derive(Default)]
+struct FromFirstFree {
+    /// No slot below is free.
+    front: usize,
 }
 
-/// The smallest d with room for the children behind it or ahead of it, and whether they lie behind.
-fn first_fit(children: &[Row], front: usize, check: &[i32]) -> (usize, bool) {
+impl Search for FromFirstFree {
+    fn first_fit(&mut self, children: &[Row], _base: &[i32], check: &[i32]) -> (usize, bool) {
+        self.front = self.front.max(1);
+        while self.front < check.len() && check[self.front] != FREE {
+            self.front += 1;
+        }
+        first_fit_from(self.front, children, check)
+    }
+}
+
+fn first_fit_from(first: usize, children: &[Row], check: &[i32]) -> (usize, bool) {
     let free = |slot: usize| slot >= check.len() || check[slot] == FREE;
     let largest = largest_word(children);
-    let mut d = front;
+    let mut d = first;
     loop {
         if free(d) {
             if d > largest && children.iter().all(|child| free(d - child[1] as usize)) {
@@ -101,6 +102,56 @@ fn first_fit(children: &[Row], front: usize, check: &[i32]) -> (usize, bool) {
         }
         d += 1;
     }
+}
+
+/// The last child's word, 0 where there is none.
+pub fn largest_word(children: &[Row]) -> usize {
+    children.last().map_or(0, |child| child[1] as usize)
+}
+
+/// Places all nodes and writes everything but slot 0 and the f of the markers; nothing where a slot at or past the end is used.
+fn place<S: Search>(rows: &[Row], base: &mut [i32], check: &mut [i32], work: &mut [u32]) -> Option<()> {
+    let mut search = S::default();
+    let ones = rows.partition_point(|row| row[0] == 1);
+    let d = settle(&rows[..ones], 0, &mut search, base, check, &mut work[..ones])?;
+    S::take(base, check, d, rows.len() as i32, -1);
+    // The children of the rows, in the order of the rows, are the rows of two and more words.
+    let mut next = ones;
+    for (i, row) in rows.iter().enumerate() {
+        let m = row[0] as usize;
+        let is_child = |child: &Row| child[0] == row[0] + 1 && child[2..2 + m] == row[1..1 + m];
+        let end = rows[next..].iter().position(|child| !is_child(child)).map_or(rows.len(), |count| next + count);
+        let slot = work[i] as usize;
+        let d = settle(&rows[next..end], slot, &mut search, base, check, &mut work[next..end])?;
+        base[slot] = d as i32;
+        let extended = (next < end) as i32;
+        S::take(base, check, d, 4 * row[7] + 2 * extended, row[6] - 1);
+        next = end;
+    }
+    Some(())
+}
+
+/// Finds the d of the node in `slot`, and takes the slots of its children.
+fn settle<S: Search>(
+    children: &[Row],
+    slot: usize,
+    search: &mut S,
+    base: &mut [i32],
+    check: &mut [i32],
+    work: &mut [u32],
+) -> Option<usize> {
+    let (d, behind) = search.first_fit(children, base, check);
+    let highest = if behind { d } else { d + largest_word(children) };
+    if highest >= check.len() {
+        return None;
+    }
+    for (child, item) in children.iter().zip(work) {
+        let word = child[1] as usize;
+        let place = if behind { d - word } else { d + word };
+        S::take(base, check, place, 0, slot as i32);
+        *item = place as u32;
+    }
+    Some(d)
 }
 
 /// Sets f in the marker of every row that some row continues.
@@ -186,21 +237,30 @@ pub fn lookup(base: &[i32], check: &[i32], words: &[u32]) -> Found {
 
 #[cfg(test)]
 mod tests {
+    use crate::linked::Links;
+    use backoff::Status;
     use tests::arrays::drawn;
     use tests::lists::{small, table};
     use tests::random::Random;
     use tests::reference;
 
-    /// The builder that ours is timed against writes the same arrays.
+    /// The builders that ours is timed against write the same arrays.
     #[test]
     fn same_arrays() {
+        let builders: [Build; 3] = [super::build, super::build_by::<super::EveryD>, super::build_by::<Links>];
+        builders.into_iter().for_each(check);
+    }
+
+    type Build = fn(&[i32], &mut [i32], &mut [i32], &mut [u32]) -> Status;
+
+    fn check(build: Build) {
         let mut random = Random::new(1);
         for i in 0..500 {
             let table = table(&small(&mut random, 1 + i % 5));
             let slots = random.pick(&[40, 400, 70_000]);
             let (mut base, mut check, mut work) = (vec![5; slots], vec![5; slots], vec![5; table.len() / 8]);
             let (mut base2, mut check2, mut work2) = (base.clone(), check.clone(), work.clone());
-            let status = super::build(&table, &mut base, &mut check, &mut work);
+            let status = build(&table, &mut base, &mut check, &mut work);
             let second = reference::build::build(&table, &mut base2, &mut check2, &mut work2);
             assert_eq!((status.number, status.place), second);
             assert!(base == base2 && check == check2 && work == work2);

@@ -1,14 +1,16 @@
 //! The calls against Rust written by the team for the same work. Without arguments it prints Markdown tables of ratios, times and memory,
-//! `reading` prints those of ARPA texts alone; `instructions KIND LENGTH` runs the scorers once, for `bench/instructions` to count.
+//! `reading` prints those of ARPA texts alone, `building` that of builders; `instructions KIND LENGTH` runs the scorers once, for `bench/instructions` to count.
 //! `pictured` prints the tables of docs/performance.svg, for which `bench/run` makes the libraries of `bench/peers`; `draw` draws it from a page that has them.
 
 mod arpa;
 mod array;
 mod batch;
+mod building;
 mod figures;
 mod filling;
 mod fragments;
 mod instructions;
+mod linked;
 mod list;
 mod lists;
 mod measure;
@@ -33,6 +35,8 @@ fn main() -> ExitCode {
         ["pictured"] => pictured::print(),
         ["draw"] => return draw(),
         ["reading"] => reading::print_tables(),
+        ["building"] => building::print_table(),
+        ["text", sentences] => building::print_text(sentences.parse().expect("a number of sentences")),
         ["instructions", kind, length] => instructions::run(kind, length),
         _ => return ExitCode::from(2),
     }

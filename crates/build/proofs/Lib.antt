@@ -4,7 +4,6 @@ pub mod Built
 pub mod Found
 pub mod Sample
 pub mod OldestWords
-pub mod Front
 pub mod OneWord
 pub mod Parts
 pub mod Turn

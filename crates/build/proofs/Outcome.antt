@@ -6,7 +6,7 @@ use Prim.Native.Nat.{ℕ, zero, suc, _+_, _/_, _≤_, _<_}
 use native.Mathlib.Omega.{arith}
 use lib.Dec.{leb}
 use lib.IntN.{ℤ, pos}
-use lib.ListN.{length, getD, set, take, drop, replicate, length-map, length-replicate, List·getD-map, drop-of-length-le, length-take}
+use lib.ListN.{length, getD, take, drop, replicate, length-map, length-replicate, List·getD-map, drop-of-length-le, length-take}
 use lib.Seq.{ext-getD}
 use Rattle.backoff.specs.Limits.{slotLimit}
 use Rattle.backoff.specs.Refusal.{tableLength, arrayLength, noRoom}
@@ -19,24 +19,29 @@ use Rattle.list.specs.Table.{rowsOf, orderOf, words}
 use Rattle.list.specs.Check.{verdict, tableFits}
 use Rattle.list.specs.ListModel.{continuedIn}
 use Rattle.list.proofs.ListModel.{accepted-model}
-use Rattle.placing.specs.Placing.{placeAll, unplaced, slots}
-use Rattle.placing.proofs.Slots.{set-slots, slots-alike}
-use Rattle.build.specs.ListTrie.{placedList, slotsFrom, rowSlots}
+use Rattle.placing.specs.Trie.{nodeAt}
+use Rattle.placing.specs.Placing.{update, placeAll, unplaced, slots}
+use Rattle.placing.proofs.NodeByNode.{Head, placing-head}
+use Rattle.free_slots.specs.Ring.{isLink, Linked, Unlinked}
+use Rattle.free_slots.proofs.Ring.{update-kept}
+use Rattle.free_slots.proofs.Following.{links-run-through-the-free-slots}
+use Rattle.build.specs.ListTrie.{nodesOf, placedList, slotsFrom, rowSlots}
 use Rattle.build.specs.Build.{untouched, filled, emptied, checkedBuild, buildOutcome, IsBuilt, BuildMeans}
 use Rattle.build.specs.Steps.{Flagged, placedNodes, Filled, Tried, halved, Wiped}
 use Rattle.build.proofs.Built.{build-accepted, build-holds}
+use Rattle.build.proofs.ListTrie.{nodes-ready}
 use Rattle.build.proofs.Turn.{item-half}
 
 -- ---- before the first node
 
-pub filled-none : (t : List ℤ) {N : ℕ} {B C : List ℤ} {W : List ℕ} → 2 ≤ N → N ≤ slotLimit → B ≡ replicate N (pos 0)
-    → C ≡ set (replicate N freeCheck) 0 (headCheck (orderOf t)) → Flagged t (rowsOf t) W → Filled t N (placedNodes t 0) B C W
+pub filled-none : (t : List ℤ) {N : ℕ} {B C : List ℤ} {W : List ℕ} → 2 ≤ N → N ≤ slotLimit
+    → ((head : ℤ) → isLink head ≡ false → Linked N (λ t. pos 0) (update (λ t. freeCheck) 0 head) B C) → Flagged t (rowsOf t) W → Filled t N (placedNodes t 0) B C W
 unfolding placeAll unplaced continuedIn
-filled-none t {N} low high b c F = record {
+filled-none t low high L F = record {
   size = (low, high);
   room = omega arith;
-  base-slots = b ∙ sym (slots-alike N (λ t. pos 0) (pos 0) (λ t. refl));
-  check-slots = c ∙ ap (λ (l : List ℤ). set l 0 (headCheck (orderOf t))) (sym (slots-alike N (λ t. freeCheck) freeCheck (λ t. refl))) ∙ set-slots N (λ t. freeCheck) 0 (headCheck (orderOf t));
+  linked = L (headCheck (orderOf t)) refl;
+  links = links-run-through-the-free-slots (L (headCheck (orderOf t)) refl);
   each = F .each;
   item = F .item;
 }
@@ -73,22 +78,29 @@ halved-slots {t} {W = W} F = ext-getD 0 (halved W) (rowSlots t) (count ∙ sym (
 
 -- ---- the outcome of an accepted list
 
+-- slots 0 and 1
+list-head : (t : List ℤ) → verdict t ≡ Accepted → Head (orderOf t) (nodeAt (nodesOf t) 0) (placedList t)
+unfolding placedList
+list-head t a = placing-head (orderOf t) (nodesOf t) (nodes-ready t a)
+
 -- a slice as long as what is written
 written-whole : {A : Type 0} (new old : List A) → length new ≡ length old → written new old ≡ new
 unfolding written
 written-whole {A} new old e = ap (λ (l : List A). new ++ l) (drop-of-length-le old {i = length new} (omega arith)) ∙ append-nil new
 
 module _ (t B C : List ℤ) (W : List ℕ) (same : length B ≡ length C) (each : length W ≡ rowsOf t) where
-  pub built-accepted : {placed : Bool} {B′ C′ : List ℤ} {W′ : List ℕ} → placed ≡ true → Tried t (length C) (placedList t) placed B′ C′ W′
+  pub built-accepted : {placed : Bool} {B₁ C₁ B′ C′ : List ℤ} {W′ : List ℕ} → verdict t ≡ Accepted → placed ≡ true → Tried t (length C) (placedList t) placed B₁ C₁ W′
+      → Unlinked (length C) (update (placedList t .base) 0 (pos 1)) (update (placedList t .check) 0 (headCheck (orderOf t))) B′ C′
       → IsBuilt (checkedBuild t B C W Accepted) Accepted B′ C′ (halved W′)
   unfolding filled
-  built-accepted e T =
+  built-accepted a e T U =
       let F = T .filled e in
+      let H = list-head t a in
       let room : leb (placedList t .top) (length B) ≡ true = ap (leb (placedList t .top)) same ∙ sym (T .answer) ∙ e in
       rw room (record {
         answer-is = refl;
-        base-is = F .base-slots ∙ ap (λ (n : ℕ). slots n (placedList t .base)) (sym same);
-        check-is = F .check-slots;
+        base-is = U .base-slots ∙ (λ i. slots (sym same i) (update-kept (placedList t .base) 0 (pos 1) (H .base-0) i));
+        check-is = U .check-slots ∙ ap (slots (length C)) (update-kept (placedList t .check) 0 (headCheck (orderOf t)) (H .check-0));
         work-is = halved-slots F ∙ sym (written-whole (rowSlots t) W (length-rowSlots t ∙ sym each));
       })
 

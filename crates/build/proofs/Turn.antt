@@ -1,37 +1,42 @@
 -- One node's turn: what the slices hold once it has taken its d. Assumes nothing.
-use mathlib.Core.Path.{_≡_, refl, sym, ap, _∙_, subst}
+use mathlib.Core.Path.{_≡_, refl, sym, ap, _∙_, subst, transport}
 use mathlib.Core.Logic.{_⊎_, inl, inr, _≢_, ⊎-elim}
-use mathlib.Core.Bool.{Bool, true, false, cond, false≢true}
-use mathlib.Core.List.{List, [], _∷_, tail-eq-of-cons-eq}
+use mathlib.Core.Bool.{Bool, true, false, cond}
+use mathlib.Core.List.{List, [], _∷_, tail-eq-of-cons-eq, List·Memᴰ}
 use Prim.Native.Nat.{ℕ, suc, _+_, _*_, _-_, _/_, _%_, _≤_, _<_, max}
 use native.Mathlib.Omega.{arith}
 use native.Mathlib.Numerals.{add-one}
 use lib.Dec.{leb, ltb, eqb, lit<}
 use lib.IntN.{ℤ, pos, negsuc}
-use lib.ListN.{length, getD, set, take, drop, length-drop}
+use lib.ListN.{length, getD, take, drop, length-drop}
 use lib.Seq.{length-take-le, getD-take, getD-drop}
 use borrow.Author.Tests.{leb-true}
-use Rattle.integer.proofs.Ranges.{lt-or-ge}
+use Rattle.integer.proofs.Arithmetic.{zarith, add}
+use Rattle.integer.proofs.Ranges.{lt-or-ge, between-low}
 use Rattle.backoff.specs.declared.Verdict.the-variants.{Accepted}
-use Rattle.double_array.specs.DoubleArray.{freeCheck, markerCheck, markerBase, childSlot}
+use Rattle.backoff.specs.Limits.{leastProbability}
+use Rattle.backoff.specs.Model.{inProbability}
+use Rattle.double_array.specs.DoubleArray.{markerCheck, markerBase, childSlot}
 use Rattle.list.specs.Table.{rowsOf, field, probabilityAt, backoffAt, orderOf, wordOf, words, withoutFirst}
 use Rattle.list.specs.Search.{Stretch}
 use Rattle.list.specs.Check.{verdict}
 use Rattle.list.specs.ListModel.{extendedIn, continuedIn}
 use Rattle.list.proofs.ListModel.{stretch-extended}
 use Rattle.list.proofs.Table.{row-in, words-cons}
-use Rattle.list.proofs.Check.{accepted-good}
+use Rattle.list.proofs.Check.{accepted-good, accepted-row}
 use Rattle.placing.specs.Trie.{Node, children, nodeAt}
-use Rattle.placing.specs.Placing.{Room, Placed, isFree, allOpen, firstFit, reach, settle, placeAt, place, slots, roomOf, ownIn}
-use Rattle.placing.proofs.FirstFit.{isFree-yes, sideAt, fit-any-top}
-use Rattle.placing.proofs.Slots.{length-slots, roomOf-slots, settle-base, settle-check}
-use Rattle.placing.proofs.Placing.{Inv, Next, slot-given, slot-kept, slot-below-top, check-stays}
+use Rattle.placing.specs.Placing.{Placed, allOpen, firstFit, update, own, reach, settle, placeAt, place}
+use Rattle.placing.proofs.FirstFit.{isFree-no, sideAt, fit-any-top}
+use Rattle.placing.proofs.Placing.{Inv, Next, slot-given, slot-kept, slot-below-top, not-negative}
+use Rattle.free_slots.specs.Ring.{isLink, Linked}
+use Rattle.free_slots.proofs.Ring.{linked-base-length, linked-check-length}
+use Rattle.free_slots.proofs.Following.{links-run-through-the-free-slots}
 use Rattle.placing.proofs.NodeByNode.{placedFirst-suc, next-at, inv-first}
 use Rattle.build.specs.ListTrie.{nodeOf, rootOf, nodesOf, OneWordRows}
-use Rattle.build.specs.Steps.{oldestOf, Front, fitOf, sideOf, HasSlot, Given, NodePlaced, itemOf, placedNodes, Filled, Tried}
+use Rattle.build.specs.Steps.{oldestOf, Apart, fitOf, sideOf, Settles, Given, NodePlaced, itemOf, placedNodes, Filled, Tried}
 use Rattle.build.proofs.ListTrie.{length-nodesOf, nodeAt-root, nodeAt-row, root-words, row-words, one-word, more-words, nodes-ready, row-check, children-stretch, children-root, middle-field}
-use Rattle.build.proofs.OldestWords.{leb-max}
-use Rattle.build.proofs.Parts.{partRows, oldest-rows, back, length-back, back-inside, back-before, back-after}
+use Rattle.build.proofs.OldestWords.{leb-max, oldest-in}
+use Rattle.build.proofs.Parts.{partRows, count-rows, oldest-rows, back, length-back, back-inside, back-before, back-after}
 
 -- rows from to from + n − 1 are the children of the node `us`
 record Children (t : List ℤ) (us : List ℕ) (from n : ℕ) : Type 0 where
@@ -74,21 +79,25 @@ item-flag s false = ap (λ (x : ℕ). eqb x 1) (item-odd s false)
 
 module _ {t : List ℤ} {N : ℕ} {P : Placed} {B C : List ℤ} {W : List ℕ} (F : Filled t N P B C W) where
   pub filled-base : length B ≡ N
-  filled-base = ap length (F .base-slots) ∙ length-slots N (P .base)
+  filled-base = linked-base-length (F .linked)
 
   pub filled-check : length C ≡ N
-  filled-check = ap length (F .check-slots) ∙ length-slots N (P .check)
+  filled-check = linked-check-length (F .linked)
 
   pub filled-here : Filled t (length C) P B C W
   filled-here = subst (λ (n : ℕ). Filled t n P B C W) (sym filled-check) F
 
+-- a row's CHECK is not a link
+mark-apart : (t : List ℤ) → verdict t ≡ Accepted → (i : ℕ) → i < rowsOf t → isLink (markerCheck (probabilityAt t i)) ≡ false
+unfolding inProbability
+mark-apart t a i l = apart (probabilityAt t i) (accepted-row t a i l .fields .probability)
+  where
+    apart : (p : ℤ) → inProbability p ≡ true → isLink (markerCheck p) ≡ false
+    apart p h = let low = between-low leastProbability (pos 0) p h in omega (zarith, add p (negsuc 0))
+
 -- the invariant of the placing rule, before the turn of node n
 list-inv : (t : List ℤ) → verdict t ≡ Accepted → (n : ℕ) → n ≤ length (nodesOf t) → Inv (orderOf t) (nodesOf t) (take n (nodesOf t)) (placedNodes t n)
 list-inv t a = inv-first (orderOf t) (nodesOf t) (nodes-ready t a)
-
--- the CHECK slice is the room
-same-room : (t : List ℤ) → verdict t ≡ Accepted → (n : ℕ) → n ≤ length (nodesOf t) → {N : ℕ} {B C : List ℤ} {W : List ℕ} → Filled t N (placedNodes t n) B C W → roomOf C ≡ placedNodes t n .check
-same-room t a n l {N} F = ap roomOf (F .check-slots) ∙ roomOf-slots N (placedNodes t n .top) (placedNodes t n .check) (list-inv t a n l .past) (F .room)
 
 module _ (t : List ℤ) (a : verdict t ≡ Accepted) {N n : ℕ} (h : n < length (nodesOf t)) {B C : List ℤ} {W : List ℕ} (F : Filled t N (placedNodes t n) B C W) where
   abbrev m : Node
@@ -115,54 +124,60 @@ module _ (t : List ℤ) (a : verdict t ≡ Accepted) {N n : ℕ} (h : n < length
   next : Next (nodesOf t) (take n (nodesOf t)) P m side d
   next = next-at (orderOf t) (nodesOf t) (nodes-ready t a) n h I
 
-  has-slot : (s : ℕ) → s ≡ P .slot (m .words) → HasSlot B C s
-  has-slot s e =
-      let k = slot-below-top I (m .words) (next .slotted) in
-      record {
-        same-length = filled-base F ∙ sym (filled-check F);
-        few = omega (arith, filled-check F, F .size);
-        inside = omega (arith, filled-check F, F .room);
-      }
+  -- the children's words: none is 0, and no two rows have the same words
+  module _ {rows : List ℤ} (words-are : oldestOf rows ≡ ws) (from : ℕ) (S : Children t (m .words) from (rowsOf rows)) (fields : (j : ℕ) → j < rowsOf rows → field rows j 1 ≡ field t (from + j) 1) where
+    rows-apart : Apart rows
+    rows-apart = record {
+      positive = λ k l. next .positive (wordOf (field rows k 1)) (subst (List·Memᴰ (wordOf (field rows k 1))) words-are (oldest-in rows k l));
+      distinct = λ j k l h e.
+          nodes-ready t a .distinct (suc (from + j)) (suc (from + k)) (omega arith) (omega (arith, S .within, length-nodesOf t))
+          (child-words j (omega arith) ∙ ap (λ (w : ℕ). w ∷ m .words) e ∙ sym (child-words k h));
+    }
+      where
+        child-words : (j : ℕ) → j < rowsOf rows → nodeAt (nodesOf t) (suc (from + j)) .words ≡ wordOf (field rows j 1) ∷ m .words
+        child-words j l =
+            let inside : from + j < rowsOf t = omega (arith, S .within) in
+            row-words t (from + j) inside
+            ∙ words-cons t (from + j) (row-in t (from + j) inside) (accepted-good t a .row (from + j) inside .some)
+            ∙ (λ i. wordOf (sym (fields j l) i) ∷ S .inside (from + j) (omega arith) (omega arith) i)
+
+    settles : {s : ℕ} {mark : ℤ} → s ≡ P .slot (m .words) → isLink mark ≡ false → Settles N (P .base) (P .check) B C rows s mark
+    settles {s} e q = record {
+      linked = F .linked;
+      inside = omega (arith, slot-below-top I (m .words) (next .slotted), F .room);
+      taken = isFree-no (P .check s) (λ z. not-negative I (m .words) (next .slotted) s 2147483647 z (sym e));
+      apart = q;
+      children = rows-apart;
+    }
 
   next-is : placedNodes t (suc n) ≡ P′
   unfolding place placeAt
   next-is = placedFirst-suc (orderOf t) (nodesOf t) n h
 
-  -- a slot that is taken stays taken
-  pub front-stays : {B′ C′ : List ℤ} {W′ : List ℕ} → Filled t N (placedNodes t (suc n)) B′ C′ W′ → (front : ℕ) → Front C front → Front C′ front
-  front-stays {C′ = C′} F′ front f = record { positive = f .positive; taken = λ u l k. stays u (f .taken u l k) }
-    where
-      stays : (u : ℕ) → isFree (roomOf C u) ≡ false → isFree (roomOf C′ u) ≡ false
-      stays u e =
-          let old : isFree (P .check u) ≡ false = ap (λ (c : Room). isFree (c u)) (sym (same-room t a n (omega arith) F)) ∙ e in
-          let used : P .check u ≢ freeCheck = λ q. absurd (false≢true (sym old ∙ isFree-yes (P .check u) q)) in
-          ap (λ (c : Room). isFree (c u)) (same-room t a (suc n) h F′ ∙ ap (λ (Q : Placed). Q .check) next-is) ∙ ap isFree (check-stays I next u used) ∙ old
-
   module _ {rows : List ℤ} {s : ℕ} {mark load : ℤ} {placed : Bool} {B′ C′ : List ℤ} {I₀ I′ : List ℕ}
       (words-are : oldestOf rows ≡ ws) (slot-is : s ≡ P .slot (m .words)) (mark-is : mark ≡ negsuc (m .cost)) (load-is : load ≡ m .load)
-      (D : NodePlaced rows s mark load (sideOf C rows) (fitOf C rows) B C I₀ placed B′ C′ I′) where
+      (D : NodePlaced N (P .base) (P .check) rows s mark load I₀ placed B′ C′ I′) where
     -- the d found is the rule's
-    d-is : fitOf C rows ≡ d
-    d-is =
-        rw (words-are, same-room t a n (omega arith) F)
-        (fit-any-top (P .check) ws (length C) (P .top) (λ u l. I .past u (omega (arith, filled-check F, F .room))) (I .past))
+    d-is : fitOf N (P .check) rows ≡ d
+    d-is = rw words-are (fit-any-top (P .check) ws N (P .top) (λ u l. I .past u (omega (arith, F .room))) (I .past))
 
-    side-is : sideOf C rows ≡ side
-    side-is = λ i. allOpen (same-room t a n (omega arith) F i) true (d-is i) (words-are i)
+    side-is : sideOf N (P .check) rows ≡ side
+    side-is = λ i. allOpen (P .check) true (d-is i) (words-are i)
 
     answer : placed ≡ leb (P′ .top) N
     unfolding settle
     answer =
-        D .answer ∙ (λ i. leb (reach 0 (side-is i) (d-is i) (words-are i)) (filled-check F i)) ∙ sym (ap (λ (x : ℕ). leb x N) (reach-max (P .top) side d ws) ∙ leb-max (P .top) (reach 0 side d ws) N (F .room))
+        D .answer ∙ (λ i. leb (reach 0 (side-is i) (d-is i) (words-are i)) N) ∙ sym (ap (λ (x : ℕ). leb x N) (reach-max (P .top) side d ws) ∙ leb-max (P .top) (reach 0 side d ws) N (F .room))
 
-    base-next : placed ≡ true → B′ ≡ slots N (P′ .base)
-    base-next q = D .base-set q ∙ (λ i. set (set (F .base-slots i) (d-is i) (load-is i)) (slot-is i) (pos (d-is i))) ∙ settle-base N m ws side d P
-
-    check-next : placed ≡ true → C′ ≡ slots N (P′ .check)
-    check-next q = D .check-set q ∙ (λ i. set (ownIn (side-is i) (d-is i) (slot-is i) (words-are i) (F .check-slots i)) (d-is i) (mark-is i)) ∙ settle-check N m ws side d P
+    linked-next : placed ≡ true → Linked N (P′ .base) (P′ .check) B′ C′
+    unfolding settle
+    linked-next q =
+        transport
+        (λ i. Linked N (update (update (P .base) (d-is i) (load-is i)) (slot-is i) (pos (d-is i))) (update (own (side-is i) (d-is i) (slot-is i) (words-are i) (P .check)) (d-is i) (mark-is i)) B′ C′)
+        (D .linked q)
 
     given-next : placed ≡ true → Given side d rows I₀ I′
-    given-next q = subst (λ (x : ℕ). Given side x rows I₀ I′) d-is (subst (λ (b : Bool). Given b (fitOf C rows) rows I₀ I′) side-is (D .given q))
+    given-next q = subst (λ (x : ℕ). Given side x rows I₀ I′) d-is (subst (λ (b : Bool). Given b (fitOf N (P .check) rows) rows I₀ I′) side-is (D .given q))
 
     -- the items of the rows: a child's holds its slot, the others are kept
     module _ (from k : ℕ) (S : Children t (m .words) from k) (part : I₀ ≡ take k (drop from W)) (fields : (j : ℕ) → j < k → field rows j 1 ≡ field t (from + j) 1) where
@@ -208,8 +223,8 @@ module _ (t : List ℤ) (a : verdict t ≡ Accepted) {N n : ℕ} (h : n < length
         filled = record {
           size = F .size;
           room = leb-true (P′ .top) N (sym answer ∙ q);
-          base-slots = base-next q;
-          check-slots = check-next q;
+          linked = linked-next q;
+          links = links-run-through-the-free-slots (linked-next q);
           each = length-back from k W I′ fits same ∙ F .each;
           item = item-next;
         }
@@ -226,23 +241,31 @@ module _ (t : List ℤ) (a : verdict t ≡ Accepted) {N : ℕ} {B C : List ℤ} 
   root-slot : 0 ≡ placedNodes t 0 .slot (nodeAt (nodesOf t) 0 .words)
   root-slot = sym (ap (placedNodes t 0 .slot) (root-words t) ∙ I t a root-node F .root)
 
-  pub root-has-slot : HasSlot B C 0
-  root-has-slot = has-slot t a root-node F 0 root-slot
-
   module _ (k : ℕ) (o : OneWordRows t k) where
     pub root-fits : 8 * (0 + k) ≤ length t
     unfolding rowsOf
     root-fits = omega (arith, o .within)
 
+    root-oldest : oldestOf (partRows t 0 k) ≡ children (nodesOf t) (nodeAt (nodesOf t) 0 .words)
+    root-oldest = oldest-rows t 0 k root-fits ∙ sym (ap (children (nodesOf t)) (root-words t) ∙ children-root t a k o)
+
+    root-stretch : Children t (nodeAt (nodesOf t) 0 .words) 0 k
+    root-stretch = subst (λ (us : List ℕ). Children t us 0 k) (sym (root-words t)) (root-children t a k o)
+
+    pub root-settles : Settles N (placedNodes t 0 .base) (placedNodes t 0 .check) B C (partRows t 0 k) 0 (negsuc 0)
+    root-settles =
+        let e = count-rows t 0 k root-fits in
+        settles t a root-node F root-oldest 0 (subst (Children t (nodeAt (nodesOf t) 0 .words) 0) (sym e) root-stretch)
+        (λ j l. middle-field t 0 k j 1 (omega arith) (lit< tt)) root-slot refl
+
     pub root-tried : {load : ℤ} {placed : Bool} {B′ C′ : List ℤ} {I′ : List ℕ} → load ≡ pos (rowsOf t)
-        → NodePlaced (partRows t 0 k) 0 (negsuc 0) load (sideOf C (partRows t 0 k)) (fitOf C (partRows t 0 k)) B C (take k W) placed B′ C′ I′
+        → NodePlaced N (placedNodes t 0 .base) (placedNodes t 0 .check) (partRows t 0 k) 0 (negsuc 0) load (take k W) placed B′ C′ I′
         → Tried t N (placedNodes t 1) placed B′ C′ (back 0 k W I′)
     unfolding rootOf
     root-tried e D =
-        tried t a root-node F
-        (oldest-rows t 0 k root-fits ∙ sym (ap (children (nodesOf t)) (root-words t) ∙ children-root t a k o))
+        tried t a root-node F root-oldest
         root-slot (ap (λ (n : Node). negsuc (n .cost)) (sym (nodeAt-root t))) (e ∙ ap (λ (n : Node). n .load) (sym (nodeAt-root t))) D
-        0 k (subst (λ (us : List ℕ). Children t us 0 k) (sym (root-words t)) (root-children t a k o)) refl (λ j l. middle-field t 0 k j 1 l (lit< tt))
+        0 k root-stretch refl (λ j l. middle-field t 0 k j 1 l (lit< tt))
 
 -- ---- a row's turn
 
@@ -268,22 +291,31 @@ module _ (t : List ℤ) (a : verdict t ≡ Accepted) (i : ℕ) (l : i < rowsOf t
   unfolding nodeOf
   row-load e q = rw (node-is, q, F .item i l, item-flag (placedNodes t (i + 1) .slot (words t i)) (continuedIn t (words t i)))
 
-  pub row-has-slot : (s : ℕ) → s ≡ getD W i 0 / 2 → HasSlot B C s
-  row-has-slot s e = has-slot t a row-in-nodes F s (row-slot s e)
-
   module _ (from to : ℕ) (S : Stretch t i from to) where
     pub row-fits : 8 * (from + (to - from)) ≤ length t
     unfolding rowsOf
     row-fits = omega (arith, S .order, S .within)
 
+    row-oldest : oldestOf (partRows t from (to - from)) ≡ children (nodesOf t) (nodeAt (nodesOf t) (i + 1) .words)
+    row-oldest = oldest-rows t from (to - from) row-fits ∙ sym (ap (children (nodesOf t)) words-is ∙ children-stretch t a i from to S)
+
+    row-stretch : Children t (nodeAt (nodesOf t) (i + 1) .words) from (to - from)
+    row-stretch = subst (λ (us : List ℕ). Children t us from (to - from)) (sym words-is) (row-children t i from to S)
+
+    pub row-settles : {s : ℕ} {mark : ℤ} → s ≡ getD W i 0 / 2 → mark ≡ markerCheck (probabilityAt t i)
+        → Settles N (placedNodes t (i + 1) .base) (placedNodes t (i + 1) .check) B C (partRows t from (to - from)) s mark
+    row-settles {s} {mark} e f =
+        let n = count-rows t from (to - from) row-fits in
+        settles t a row-in-nodes F row-oldest from (subst (Children t (nodeAt (nodesOf t) (i + 1) .words) from) (sym n) row-stretch)
+        (λ j l. middle-field t from (to - from) j 1 (omega arith) (lit< tt)) (row-slot s e) (ap isLink f ∙ mark-apart t a i l)
+
     pub row-tried : {s : ℕ} {mark load : ℤ} {placed : Bool} {B′ C′ : List ℤ} {I′ : List ℕ}
         → s ≡ getD W i 0 / 2 → mark ≡ markerCheck (probabilityAt t i) → load ≡ markerBase (backoffAt t i) (ltb from to) (eqb (getD W i 0 % 2) 1)
-        → NodePlaced (partRows t from (to - from)) s mark load (sideOf C (partRows t from (to - from))) (fitOf C (partRows t from (to - from))) B C (take (to - from) (drop from W)) placed B′ C′ I′
+        → NodePlaced N (placedNodes t (i + 1) .base) (placedNodes t (i + 1) .check) (partRows t from (to - from)) s mark load (take (to - from) (drop from W)) placed B′ C′ I′
         → Tried t N (placedNodes t (i + 2)) placed B′ C′ (back from (to - from) W I′)
     row-tried {s} e f g D =
         let two : i + 2 ≡ suc (i + 1) = omega arith in
         rw two
-        (tried t a row-in-nodes F
-        (oldest-rows t from (to - from) row-fits ∙ sym (ap (children (nodesOf t)) words-is ∙ children-stretch t a i from to S))
+        (tried t a row-in-nodes F row-oldest
         (row-slot s e) (f ∙ row-mark) (g ∙ row-load (ltb from to) (stretch-extended t i from to S)) D
-        from (to - from) (subst (λ (us : List ℕ). Children t us from (to - from)) (sym words-is) (row-children t i from to S)) refl (λ j h. middle-field t from (to - from) j 1 h (lit< tt)))
+        from (to - from) row-stretch refl (λ j h. middle-field t from (to - from) j 1 h (lit< tt)))

@@ -1,12 +1,13 @@
 -- What the steps of a build ask of each other and promise each other. While the nodes are placed, a row's work item is twice its node's slot, 0 where it
 -- has none yet, plus its f. Assumes nothing.
 use mathlib.Core.Path.{_≡_}
+use mathlib.Core.Logic.{_≢_}
 use mathlib.Core.Bool.{Bool, true, false, cond}
-use mathlib.Core.List.{List, map}
-use Prim.Native.Nat.{ℕ, _+_, _*_, _/_, _%_, _≤_, _<_}
+use mathlib.Core.List.{List, _∷_, map}
+use Prim.Native.Nat.{ℕ, _+_, _*_, _/_, _%_, _≤_, _<_, min}
 use lib.Dec.{leb}
 use lib.IntN.{ℤ, pos}
-use lib.ListN.{length, getD, set, take, replicate}
+use lib.ListN.{length, getD, take, replicate}
 use Rattle.integer.specs.Integer.{between}
 use Rattle.backoff.specs.Limits.{wordLimit, slotLimit}
 use Rattle.backoff.specs.declared.Verdict.the-variants.{Accepted}
@@ -14,7 +15,8 @@ use Rattle.double_array.specs.DoubleArray.{freeCheck, childSlot, sizesOk}
 use Rattle.list.specs.Table.{rowsOf, field, orderOf, wordOf, words}
 use Rattle.list.specs.Check.{verdict}
 use Rattle.list.specs.ListModel.{continuedBelow, continuedIn}
-use Rattle.placing.specs.Placing.{Placed, isFree, allOpen, firstFit, reach, placeAll, unplaced, slots, roomOf, ownIn}
+use Rattle.placing.specs.Placing.{Room, Placed, isFree, isOpen, allOpen, firstFit, update, own, reach, placeAll, unplaced}
+use Rattle.free_slots.specs.Ring.{isLink, Linked, LinksRun}
 use Rattle.build.specs.ListTrie.{nodesOf, oldestFrom}
 
 -- what refusals 1 to 9 leave, the work items cut to the rows
@@ -40,39 +42,57 @@ pub record ChildRows (rows : List ℤ) : Type 0 where
 abbrev pub oldestOf : List ℤ → List ℕ
 oldestOf rows = oldestFrom rows 0 (rowsOf rows)
 
--- from slot 1 to `front` none is free
-pub record Front (check : List ℤ) (front : ℕ) : Type 0 where
-  pub positive : 1 ≤ front
-  pub taken : (t : ℕ) → 1 ≤ t → t < front → isFree (roomOf check t) ≡ false
+-- none of them is word 0, and no two are one word
+pub record Apart (rows : List ℤ) : Type 0 where
+  pub positive : (k : ℕ) → k < rowsOf rows → 1 ≤ wordOf (field rows k 1)
+  pub distinct : (j k : ℕ) → j < k → k < rowsOf rows → wordOf (field rows j 1) ≢ wordOf (field rows k 1)
 
--- the d of a node with these children, and whether they lie behind it
-abbrev pub fitOf : List ℤ → List ℤ → ℕ
-fitOf check rows = firstFit (roomOf check) (oldestOf rows) (length check)
+-- the d of a node with these children, where no slot from N on is taken, and whether they lie behind it
+abbrev pub fitOf : ℕ → Room → List ℤ → ℕ
+fitOf N c rows = firstFit c (oldestOf rows) N
 
-abbrev pub sideOf : List ℤ → List ℤ → Bool
-sideOf check rows = allOpen (roomOf check) true (fitOf check rows) (oldestOf rows)
+abbrev pub sideOf : ℕ → Room → List ℤ → Bool
+sideOf N c rows = allOpen c true (fitOf N c rows) (oldestOf rows)
+
+-- what a search along the ring finds: d, and whether the children lie behind it, where d lies below slot N, and N where it does not
+pub record FoundFit (N : ℕ) (c : Room) (rows : List ℤ) (d : ℕ) (behind : Bool) : Type 0 where
+  pub d-is : d ≡ min (fitOf N c rows) N
+  pub side-is : d < N → behind ≡ sideOf N c rows
+
+-- where d itself is open, testing the slot of word w before those of the children changes nothing
+pub record TestedFirst (rows : List ℤ) (w : ℕ) : Type 0 where
+  pub word : w ≤ wordLimit
+  pub same : (c : Room) (behind : Bool) (d : ℕ) → isOpen c d ≡ true → allOpen c behind d (oldestOf rows) ≡ allOpen c behind d (w ∷ oldestOf rows)
 
 -- what lies behind d for these children are slots
 pub record ChildSlots (behind : Bool) (d : ℕ) (rows : List ℤ) : Type 0 where
   pub room : behind ≡ true → (k : ℕ) → k < rowsOf rows → wordOf (field rows k 1) ≤ d
 
--- BASE and CHECK have one length, and slot s lies in them
-pub record HasSlot (base check : List ℤ) (s : ℕ) : Type 0 where
-  pub same-length : length base ≡ length check
-  pub few : length check ≤ slotLimit
-  pub inside : s < length check
+-- the slices hold b and c with links, and a node in slot s is to be placed, whose marker has `mark` as CHECK
+pub record Settles (N : ℕ) (b c : Room) (base check rows : List ℤ) (s : ℕ) (mark : ℤ) : Type 0 where
+  pub linked : Linked N b c base check
+  pub inside : s < N
+  pub taken : isFree (c s) ≡ false
+  pub apart : isLink mark ≡ false
+  pub children : Apart rows
+
+-- it can take d, with its children behind it or ahead
+pub record Fitting (N : ℕ) (c : Room) (rows : List ℤ) (behind : Bool) (d : ℕ) : Type 0 where
+  pub positive : 1 ≤ d
+  pub within : reach 0 behind d (oldestOf rows) ≤ N
+  pub free : isFree (c d) ≡ true
+  pub opened : allOpen c behind d (oldestOf rows) ≡ true
 
 -- the children's work items once their node has taken d, with them behind it or ahead
 pub record Given (behind : Bool) (d : ℕ) (rows : List ℤ) (items items′ : List ℕ) : Type 0 where
   pub same-length : length items′ ≡ length items
   pub item : (k : ℕ) → k < length items → getD items′ k 0 ≡ 2 * childSlot behind d (wordOf (field rows k 1)) + getD items k 0 % 2
 
--- the node in slot s, whose marker holds `mark` and `load`, takes d, with its children behind it or ahead, unless it reaches past the end
-pub record NodePlaced (rows : List ℤ) (s : ℕ) (mark load : ℤ) (behind : Bool) (d : ℕ) (base check : List ℤ) (items : List ℕ) (placed : Bool) (base′ check′ : List ℤ) (items′ : List ℕ) : Type 0 where
-  pub answer : placed ≡ leb (reach 0 behind d (oldestOf rows)) (length check)
-  pub base-set : placed ≡ true → base′ ≡ set (set base d load) s (pos d)
-  pub check-set : placed ≡ true → check′ ≡ set (ownIn behind d s (oldestOf rows) check) d mark
-  pub given : placed ≡ true → Given behind d rows items items′
+-- the node in slot s, whose marker holds `mark` and `load`, takes its d, with its children on the side found, unless it reaches past the end
+pub record NodePlaced (N : ℕ) (b c : Room) (rows : List ℤ) (s : ℕ) (mark load : ℤ) (items : List ℕ) (placed : Bool) (base′ check′ : List ℤ) (items′ : List ℕ) : Type 0 where
+  pub answer : placed ≡ leb (reach 0 (sideOf N c rows) (fitOf N c rows) (oldestOf rows)) N
+  pub linked : placed ≡ true → Linked N (update (update b (fitOf N c rows) load) s (pos (fitOf N c rows))) (update (own (sideOf N c rows) (fitOf N c rows) s (oldestOf rows) c) (fitOf N c rows) mark) base′ check′
+  pub given : placed ≡ true → Given (sideOf N c rows) (fitOf N c rows) rows items items′
 
 -- ---- the nodes one by one
 
@@ -89,12 +109,12 @@ pub record Flagged (t : List ℤ) (n : ℕ) (items : List ℕ) : Type 0 where
 abbrev pub placedNodes : List ℤ → ℕ → Placed
 placedNodes t k = placeAll (nodesOf t) (take k (nodesOf t)) (unplaced (orderOf t))
 
--- what the slices of N slots hold when P is placed
+-- what the slices of N slots hold while P is placed: BASE and CHECK with links. "At each placement the links are proved to run through exactly the free slots, upwards."
 pub record Filled (t : List ℤ) (N : ℕ) (P : Placed) (base check : List ℤ) (items : List ℕ) : Type 0 where
   pub size : (2 ≤ N) × (N ≤ slotLimit)
   pub room : P .top ≤ N
-  pub base-slots : base ≡ slots N (P .base)
-  pub check-slots : check ≡ slots N (P .check)
+  pub linked : Linked N (P .base) (P .check) base check
+  pub links : LinksRun N (P .check) base check
   pub each : length items ≡ rowsOf t
   pub item : (j : ℕ) → j < rowsOf t → getD items j 0 ≡ itemOf (P .slot (words t j)) (continuedIn t (words t j))
 

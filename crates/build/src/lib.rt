@@ -1,19 +1,21 @@
 // The builder of the double array. The definitions that the contracts cite are in specs/.
 ghost use mathlib.Core.Path.{_≡_};
 ghost use mathlib.Core.Bool.{true};
-ghost use Prim.Native.Nat.{_+_, _/_, _%_, _≤_, _<_};
+ghost use mathlib.Core.List.{List};
+ghost use Prim.Native.Nat.{ℕ, _+_, _/_, _%_, _≤_, _<_};
 ghost use lib.Dec.{eqb, leb};
-ghost use lib.IntN.{pos};
-ghost use lib.ListN.{length, set, replicate};
+ghost use lib.IntN.{ℤ, pos};
+ghost use lib.ListN.{length, replicate};
 ghost use Rattle.backoff.specs.Limits.{wordLimit, slotLimit};
 ghost use Rattle.backoff.specs.declared.Verdict.the-variants.{Accepted};
-ghost use Rattle.double_array.specs.DoubleArray.{markerCheck, markerBase};
-ghost use Rattle.list.specs.Table.{rowsOf, field, probabilityAt, backoffAt, wordOf};
+ghost use Rattle.double_array.specs.DoubleArray.{headCheck, markerCheck, markerBase, childSlot};
+ghost use Rattle.list.specs.Table.{rowsOf, field, probabilityAt, backoffAt, orderOf, wordOf};
 ghost use Rattle.list.specs.Check.{verdict};
-ghost use Rattle.placing.specs.Placing.{isFree, allOpen, roomOf, reach, ownIn};
+ghost use Rattle.placing.specs.Placing.{Room, isOpen, update, own, reach};
+ghost use Rattle.free_slots.specs.Ring.{Linked, Unlinked, Ring};
 ghost use Rattle.build.specs.ListTrie.{OneWordRows, placedList};
 ghost use Rattle.build.specs.Build.{checkedBuild, buildOutcome, IsBuilt, BuildMeans};
-ghost use Rattle.build.specs.Steps.{Passed, Wiped, ChildRows, oldestOf, Front, fitOf, sideOf, ChildSlots, HasSlot, Given, NodePlaced, Flagged, placedNodes, Filled, Tried, halved};
+ghost use Rattle.build.specs.Steps.{Passed, Wiped, ChildRows, oldestOf, FoundFit, TestedFirst, ChildSlots, Settles, Fitting, Given, NodePlaced, Flagged, placedNodes, Filled, Tried, halved};
 use backoff::Verdict;
 
 // A node to be placed: its slot, and what its marker holds as CHECK and as BASE.
@@ -23,26 +25,10 @@ struct Node {
     load: i32,
 }
 
-// Slots past the end count as free.
-fn is_free(check: &[i32], t: usize) -> bool
-    ensures { λ r. ⌜ r ≡ isFree (roomOf (now (check .entry)) t) ⌝ }
-{
-    if t < check.len() {
-        return check[t] == double_array::FREE;
-    }
-    true
-}
-
-// The first free slot from `front` on.
-fn next_free(check: &[i32], front: usize) -> usize
-    requires { ⌜ Front (now check) front ⌝ }
-    ensures { λ r. ⌜ Front (now (check .entry)) r × (isFree (roomOf (now (check .entry)) r) ≡ true) ⌝ }
-{
-    let mut t = front;
-    while !is_free(check, t) {
-        t += 1;
-    }
-    t
+// Where a node is to be placed: its d, and whether its children lie behind it.
+struct Fit {
+    d: usize,
+    behind: bool,
 }
 
 // The first word of row k.
@@ -53,49 +39,69 @@ fn oldest_word(rows: &[i32], k: usize) -> usize
     rows[8 * k + 1] as usize
 }
 
-// Whether the children's slots behind d are all at least 1 and free.
-fn open_behind(check: &[i32], rows: &[i32], d: usize) -> bool
-    requires { ⌜ ChildRows (now rows) ⌝ }
-    ensures { λ r. ⌜ r ≡ allOpen (roomOf (now (check .entry))) true d (oldestOf (now (rows .entry))) ⌝ }
+// Whether the slot behind d of the child for word w is at least 1 and free.
+fn is_open_behind(check: &[i32], d: usize, w: usize) -> bool
+    ensures { λ r. ⌜ ((N : ℕ) (b c : Room) (base : List ℤ) → Linked N b c base (now (check .entry)) → r ≡ isOpen c (childSlot true d w)) ⌝ }
 {
-    let count = rows.len() / 8;
-    let mut k = 0;
-    while k < count {
-        let w = oldest_word(rows, k);
-        if d <= w {
-            return false;
-        }
-        if !is_free(check, d - w) {
-            return false;
-        }
-        k += 1;
+    if d <= w {
+        return false;
     }
-    true
+    free_slots::is_free(check, d - w)
 }
 
-// The smallest d for which d and all the children's slots, on one side of it, are free; below `front` no d is. Slots past the end count as free.
-fn first_fit(check: &[i32], rows: &[i32], front: usize) -> usize
-    requires { ⌜ ChildRows (now rows) × Front (now check) front × (length (now check) ≤ slotLimit) ⌝ }
-    ensures { λ r. ⌜ r ≡ fitOf (now (check .entry)) (now (rows .entry)) ⌝ }
+// The word of the child that most often does not fit, the last: 0 where there is none.
+fn last_word(rows: &[i32]) -> usize
+    requires { ⌜ ChildRows (now rows) ⌝ }
+    ensures { λ r. ⌜ TestedFirst (now (rows .entry)) r ⌝ }
 {
     let count = rows.len() / 8;
-    let mut d = front - 1;
-    'next: loop {
-        d += 1;
-        if !is_free(check, d) {
-            continue 'next;
+    if count == 0 {
+        return 0;
+    }
+    oldest_word(rows, count - 1)
+}
+
+// The smallest d for which d and all the children's slots, behind it or else ahead, are free; slots past the end count as free. Where it is none of the
+// slots, their number. On either side the last child is tried first.
+fn first_fit(base: &[i32], check: &[i32], rows: &[i32]) -> Fit
+    requires { ⌜ ChildRows (now rows) × Ring (now base) (now check) ⌝ }
+    ensures { λ r. ⌜ ((N : ℕ) (b c : Room) → Linked N b c (now (base .entry)) (now (check .entry)) → FoundFit N c (now (rows .entry)) (r .d) (r .behind)) ⌝ }
+{
+    let count = rows.len() / 8;
+    let last = last_word(rows);
+    let mut d = 0;
+    'free: loop {
+        d = free_slots::next(base, d);
+        if d == 0 {
+            break Fit {
+                d: check.len(),
+                behind: false,
+            };
         }
-        if open_behind(check, rows, d) {
-            break d;
-        }
+        let mut w = last;
         let mut k = 0;
-        while k < count {
-            if !is_free(check, d + oldest_word(rows, k)) {
-                continue 'next;
+        'behind: loop {
+            if !is_open_behind(check, d, w) {
+                break 'behind;
             }
+            if k == count {
+                break 'free Fit { d, behind: true };
+            }
+            w = oldest_word(rows, k);
             k += 1;
         }
-        break d;
+        let mut w = last;
+        let mut k = 0;
+        loop {
+            if !free_slots::is_free(check, d + w) {
+                continue 'free;
+            }
+            if k == count {
+                break 'free Fit { d, behind: false };
+            }
+            w = oldest_word(rows, k);
+            k += 1;
+        }
     }
 }
 
@@ -123,23 +129,20 @@ fn within(rows: &[i32], behind: bool, d: usize, n: usize) -> bool
 
 // The node takes d: its children's slots get its own as CHECK, and d its marker.
 fn settle(base: &mut [i32], check: &mut [i32], rows: &[i32], node: Node, behind: bool, d: usize)
-    requires { ⌜ ChildRows (now rows) × HasSlot (now base) (now check) (node .slot) ⌝ }
-    requires { ⌜ ChildSlots behind d (now rows) × (reach 0 behind d (oldestOf (now rows)) ≤ length (now check)) ⌝ }
-    ensures { λ _. ⌜ now (base .exit) ≡ set (set (now (base .entry)) d (node .load)) (node .slot) (pos d) ⌝ }
-    ensures { λ _. ⌜ now (check .exit) ≡ set (ownIn behind d (node .slot) (oldestOf (now (rows .entry))) (now (check .entry))) d (node .mark) ⌝ }
+    requires { ⌜ ChildRows (now rows) ⌝ }
+    requires { ⌜ ((N : ℕ) × (b : Room) × (c : Room) × Settles N b c (now base) (now check) (now rows) (node .slot) (node .mark) × Fitting N c (now rows) behind d) ⌝ }
+    ensures { λ _. ⌜ ((N : ℕ) (b c : Room) → Settles N b c (now (base .entry)) (now (check .entry)) (now (rows .entry)) (node .slot) (node .mark) → Fitting N c (now (rows .entry)) behind d → Linked N (update (update b d (node .load)) (node .slot) (pos d)) (update (own behind d (node .slot) (oldestOf (now (rows .entry))) c) d (node .mark)) (now (base .exit)) (now (check .exit))) ⌝ }
 {
     let Node { slot, mark, load } = node;
-    let owner = slot as i32;
     let count = rows.len() / 8;
     let mut k = 0;
     while k < count {
         let t = double_array::child_slot(behind, d, oldest_word(rows, k));
-        check[t] = owner;
+        free_slots::take(base, check, t, 0, slot as i32);
         k += 1;
     }
-    check[d] = mark;
-    base[d] = load;
-    base[slot] = d as i32;
+    free_slots::take(base, check, d, load, mark);
+    free_slots::set_base(base, slot, d as i32);
 }
 
 // Each child's work item gets its slot, and keeps its f.
@@ -163,14 +166,12 @@ fn place_node(
     rows: &[i32],
     work: &mut [u32],
     node: Node,
-    front: usize,
 ) -> bool
-    requires { ⌜ ChildRows (now rows) × HasSlot (now base) (now check) (node .slot) ⌝ }
-    requires { ⌜ (length (now work) ≡ rowsOf (now rows)) × Front (now check) front ⌝ }
-    ensures { λ r. ⌜ NodePlaced (now (rows .entry)) (node .slot) (node .mark) (node .load) (sideOf (now (check .entry)) (now (rows .entry))) (fitOf (now (check .entry)) (now (rows .entry))) (now (base .entry)) (now (check .entry)) (now (work .entry)) r (now (base .exit)) (now (check .exit)) (now (work .exit)) ⌝ }
+    requires { ⌜ ChildRows (now rows) × (length (now work) ≡ rowsOf (now rows)) ⌝ }
+    requires { ⌜ ((N : ℕ) × (b : Room) × (c : Room) × Settles N b c (now base) (now check) (now rows) (node .slot) (node .mark)) ⌝ }
+    ensures { λ r. ⌜ ((N : ℕ) (b c : Room) → Settles N b c (now (base .entry)) (now (check .entry)) (now (rows .entry)) (node .slot) (node .mark) → NodePlaced N b c (now (rows .entry)) (node .slot) (node .mark) (node .load) (now (work .entry)) r (now (base .exit)) (now (check .exit)) (now (work .exit))) ⌝ }
 {
-    let d = first_fit(check, rows, front);
-    let behind = open_behind(check, rows, d);
+    let Fit { d, behind } = first_fit(base, check, rows);
     if !within(rows, behind, d, check.len()) {
         return false;
     }
@@ -198,10 +199,9 @@ fn place_row(
     base: &mut [i32],
     check: &mut [i32],
     work: &mut [u32],
-    front: usize,
     near: usize,
 ) -> bool
-    requires { ⌜ (verdict (now table) ≡ Accepted) × (i < rowsOf (now table)) × Front (now check) front ⌝ }
+    requires { ⌜ (verdict (now table) ≡ Accepted) × (i < rowsOf (now table)) ⌝ }
     requires { ⌜ Filled (now table) (length (now check)) (placedNodes (now table) (i + 1)) (now base) (now check) (now work) ⌝ }
     ensures { λ r. ⌜ Tried (now (table .entry)) (length (now (check .entry))) (placedNodes (now (table .entry)) (i + 2)) r (now (base .exit)) (now (check .exit)) (now (work .exit)) ⌝ }
 {
@@ -209,14 +209,7 @@ fn place_row(
     let node = row_node(table, i, work[i], from < to);
     let first = 8 * from;
     let end = 8 * to;
-    place_node(
-        base,
-        check,
-        &table[first..end],
-        &mut work[from..to],
-        node,
-        front,
-    )
+    place_node(base, check, &table[first..end], &mut work[from..to], node)
 }
 
 // The number of rows with one word.
@@ -248,7 +241,7 @@ fn place_root(table: &[i32], base: &mut [i32], check: &mut [i32], work: &mut [u3
         mark: -1,
         load: work.len() as i32,
     };
-    place_node(base, check, &table[..end], &mut work[..k], node, 1)
+    place_node(base, check, &table[..end], &mut work[..k], node)
 }
 
 // The first row from j on whose node has no slot yet: where the children of the next node stand.
@@ -269,13 +262,11 @@ fn place_rows(table: &[i32], base: &mut [i32], check: &mut [i32], work: &mut [u3
     requires { ⌜ Filled (now table) (length (now check)) (placedNodes (now table) 1) (now base) (now check) (now work) ⌝ }
     ensures { λ r. ⌜ Tried (now (table .entry)) (length (now (check .entry))) (placedList (now (table .entry))) r (now (base .exit)) (now (check .exit)) (now (work .exit)) ⌝ }
 {
-    let mut front = 1;
     let mut near = 0;
     let mut i = 0;
     while i < work.len() {
-        front = next_free(check, front);
         near = next_without_slot(work, near);
-        if !place_row(table, i, base, check, work, front, near) {
+        if !place_row(table, i, base, check, work, near) {
             return false;
         }
         i += 1;
@@ -310,7 +301,7 @@ fn mark_row(table: &[i32], i: usize, work: &mut [u32], from: usize, to: usize)
     ensures { λ _. ⌜ Flagged (now (table .entry)) (i + 1) (now (work .exit)) ⌝ }
 {
     let m = list::length_of(table, i);
-    let list::Found::At(j) = list::find_without_last(table, i, m, from, to) else {
+    let list::Found::At(j) = list::find_shorter(table, i, m, from, to) else {
         return;
     };
     work[j] = 1;
@@ -346,9 +337,18 @@ fn prepare(table: &[i32], base: &mut [i32], check: &mut [i32], work: &mut [u32])
     requires { ⌜ Passed (now table) (now base) (now check) (now work) ⌝ }
     ensures { λ _. ⌜ Filled (now (table .entry)) (length (now (check .entry))) (placedNodes (now (table .entry)) 0) (now (base .exit)) (now (check .exit)) (now (work .exit)) ⌝ }
 {
-    wipe(base, check, work);
-    check[0] = double_array::head_check(list::length_of(table, work.len() - 1));
+    free_slots::link_all(base, check);
+    double_array::zero(work);
     mark_continued(table, work);
+}
+
+// Takes the links out. The root's d is 1, and CHECK[0] tells the order.
+fn finish(table: &[i32], base: &mut [i32], check: &mut [i32])
+    requires { ⌜ (verdict (now table) ≡ Accepted) × Ring (now base) (now check) ⌝ }
+    ensures { λ _. ⌜ ((N : ℕ) (b c : Room) → Linked N b c (now (base .entry)) (now (check .entry)) → Unlinked N (update b 0 (pos 1)) (update c 0 (headCheck (orderOf (now (table .entry))))) (now (base .exit)) (now (check .exit))) ⌝ }
+{
+    let order = list::length_of(table, table.len() / 8 - 1);
+    free_slots::unlink_all(base, check, 1, double_array::head_check(order));
 }
 
 // Builds the array of an accepted list, whose work items are in hand.
@@ -358,6 +358,7 @@ fn place_list(table: &[i32], base: &mut [i32], check: &mut [i32], work: &mut [u3
 {
     prepare(table, base, check, work);
     if place_nodes(table, base, check, work) {
+        finish(table, base, check);
         halve(work);
         return Verdict::Accepted;
     }

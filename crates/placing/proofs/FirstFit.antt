@@ -155,22 +155,6 @@ module _ (c : Room) (ws : List ℕ) where
         go (no a) (yes b) = absurd (false≢true (sym (l (firstFit c ws top) fit-positive b) ∙ fit-fits))
         go (no a) (no b) = omega arith
 
-    -- the same of a search that begins at `front`, where the slots before it are taken
-    module _ (front : ℕ) (p : 1 ≤ front) (full : (t : ℕ) → 1 ≤ t → t < front → isFree (c t) ≡ false) where
-      pub fit-only-from : (d : ℕ) → front ≤ d → fits c ws d ≡ true → ((e : ℕ) → front ≤ e → e < d → fits c ws e ≡ false) → d ≡ firstFit c ws top
-      fit-only-from d k q l = fit-only d (omega arith) q (λ e a b. go e a b (decLt e front))
-        where
-          go : (e : ℕ) → 1 ≤ e → e < d → Dec (e < front) → fits c ws e ≡ false
-          go e a b (yes r) = d-taken e (full e a r)
-          go e a b (no r) = l e (omega arith) b
-
-      pub fit-from : (more : ℕ) → top ≤ front + more → search (fits c ws) more front (fits c ws front) ≡ firstFit c ws top
-      fit-from more k =
-          let here = fits c ws front in
-          fit-only-from (search (fits c ws) more front here) (search-from (fits c ws) more front here)
-          (search-passes (fits c ws) more front here refl (past-top top (front + more) h k (omega arith)))
-          (search-first (fits c ws) more front here refl)
-
   -- how far past the last used slot `top` is does not matter
   pub fit-any-top : (a b : ℕ) → ((t : ℕ) → a ≤ t → c t ≡ freeCheck) → ((t : ℕ) → b ≤ t → c t ≡ freeCheck) → firstFit c ws a ≡ firstFit c ws b
   fit-any-top a b f g = fit-only b g (firstFit c ws a) (fit-positive a f) (fit-fits a f) (fit-least a f)

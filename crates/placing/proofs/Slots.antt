@@ -1,18 +1,17 @@
 -- A room's first slots as a list, and what stores on the list are in the room. Assumes nothing.
-use mathlib.Core.Path.{_≡_, refl, sym, ap, ap₂, _∙_, fun-ext}
+use mathlib.Core.Path.{_≡_, refl, sym, ap, ap₂, _∙_}
 use mathlib.Core.Logic.{_≢_}
 use mathlib.Core.Bool.{Bool, true, false, cond, _&&_}
-use mathlib.Core.List.{List, [], _∷_, _++_}
+use mathlib.Core.List.{List, _∷_, _++_}
 use Prim.Native.Nat.{ℕ, zero, suc, _-_, _≤_, _<_}
 use native.Mathlib.Omega.{arith}
-use native.Mathlib.Decide.{ℕ-discrete, decLt}
+use native.Mathlib.Decide.{ℕ-discrete}
 use borrow.Author.Tests.{ne-eqb}
-use lib.IntN.{ℤ, pos, negsuc}
-use lib.ListN.{length, getD, set, take, replicate, length-set, List·getD-eq-default}
+use lib.IntN.{ℤ, pos}
+use lib.ListN.{length, getD, set, take, replicate, length-set}
 use lib.Seq.{ext-getD, getD-set-same, getD-set-other}
-use Rattle.double_array.specs.DoubleArray.{freeCheck, childSlot}
-use Rattle.placing.specs.Trie.{Node}
-use Rattle.placing.specs.Placing.{Room, Placed, roomOf, slots, usedSlots, isFree, update, own, ownIn, settle}
+use Rattle.double_array.specs.DoubleArray.{freeCheck}
+use Rattle.placing.specs.Placing.{Room, slots, usedSlots, isFree, update}
 use Rattle.placing.proofs.FirstFit.{isFree-yes, isFree-no}
 use Rattle.placing.proofs.Rooms.{update-same, update-other}
 
@@ -41,14 +40,6 @@ set-slots n f i v =
     at t l (no e) =
         getD-set-other (slots n f) i t v (pos 0) e ∙ getD-slots n f t (pos 0) l
         ∙ sym (getD-slots n (update f i v) t (pos 0) l ∙ update-other f i v t e)
-
--- a list that reaches as far as the room is used, read with its end counting as free, is the room
-pub roomOf-slots : (n top : ℕ) (c : Room) → ((t : ℕ) → top ≤ t → c t ≡ freeCheck) → top ≤ n → roomOf (slots n c) ≡ c
-roomOf-slots n top c past l = fun-ext (λ t. go t (decLt t n))
-  where
-    go : (t : ℕ) → Dec (t < n) → getD (slots n c) t freeCheck ≡ c t
-    go t (yes h) = getD-slots n c t freeCheck h
-    go t (no h) = List·getD-eq-default (slots n c) freeCheck (omega (arith, length-slots n c)) ∙ sym (past t (omega arith))
 
 -- the first N of the first M slots
 pub take-slots : (N M : ℕ) (f : Room) → N ≤ M → take N (slots M f) ≡ slots N f
@@ -86,32 +77,3 @@ usedSlots-slots (suc n) (suc (suc top)) c past last l =
     go : (b : Bool) → cond (b && false) 0 (suc (suc top)) ≡ suc (suc top)
     go true = refl
     go false = refl
-
--- ---- the children's slots
-
-pub ownIn-slots : (n : ℕ) (behind : Bool) (d s : ℕ) (ws : List ℕ) (c : Room) → ownIn behind d s ws (slots n c) ≡ slots n (own behind d s ws c)
-unfolding ownIn own
-ownIn-slots n behind d s [] c = refl
-ownIn-slots n behind d s (w ∷ ws) c = ap (ownIn behind d s ws) (set-slots n c (childSlot behind d w) (pos s)) ∙ ownIn-slots n behind d s ws (update c (childSlot behind d w) (pos s))
-
-pub length-ownIn : (behind : Bool) (d s : ℕ) (ws : List ℕ) (check : List ℤ) → length (ownIn behind d s ws check) ≡ length check
-unfolding ownIn
-length-ownIn behind d s [] check = refl
-length-ownIn behind d s (w ∷ ws) check = length-ownIn behind d s ws (set check (childSlot behind d w) (pos s)) ∙ length-set check (childSlot behind d w) (pos s)
-
--- one child more, as a loop over the children writes it
-pub ownIn-snoc : (behind : Bool) (d s : ℕ) (ws : List ℕ) (w : ℕ) (check : List ℤ) → ownIn behind d s (ws ++ (w ∷ [])) check ≡ set (ownIn behind d s ws check) (childSlot behind d w) (pos s)
-unfolding ownIn
-ownIn-snoc behind d s [] w check = refl
-ownIn-snoc behind d s (v ∷ ws) w check = ownIn-snoc behind d s ws w (set check (childSlot behind d v) (pos s))
-
--- ---- one node's stores
-
-module _ (N : ℕ) (n : Node) (ws : List ℕ) (behind : Bool) (d : ℕ) (P : Placed) where
-  pub settle-base : set (set (slots N (P .base)) d (n .load)) (P .slot (n .words)) (pos d) ≡ slots N (settle n ws behind d P .base)
-  unfolding settle
-  settle-base = rw (set-slots N (P .base) d (n .load)) (set-slots N (update (P .base) d (n .load)) (P .slot (n .words)) (pos d))
-
-  pub settle-check : set (ownIn behind d (P .slot (n .words)) ws (slots N (P .check))) d (negsuc (n .cost)) ≡ slots N (settle n ws behind d P .check)
-  unfolding settle
-  settle-check = rw (ownIn-slots N behind d (P .slot (n .words)) ws (P .check)) (set-slots N (own behind d (P .slot (n .words)) ws (P .check)) d (negsuc (n .cost)))

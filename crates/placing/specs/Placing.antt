@@ -4,7 +4,6 @@ use mathlib.Core.Bool.{Bool, true, false, cond, _&&_, _||_}
 use mathlib.Core.List.{List, [], _∷_}
 use Prim.Native.Nat.{ℕ, zero, suc, max}
 use lib.Dec.{eqb, leb}
-use lib.ListN.{getD, set}
 use lib.IntN.{ℤ, pos, negsuc}
 use Rattle.integer.specs.Integer.{eqZ}
 use Rattle.backoff.specs.Words.{sameWords}
@@ -101,16 +100,7 @@ unfoldable pub slots : ℕ → Room → List ℤ
 slots zero f = []
 slots (suc n) f = f 0 ∷ slots n (λ t. f (suc t))
 
--- a lent CHECK slice as a room: slots past its end count as free
-abbrev pub roomOf : List ℤ → Room
-roomOf check t = getD check t freeCheck
-
 -- one more than the last slot of a CHECK slice that is not free; 0 where all are free
 unfoldable pub usedSlots : List ℤ → ℕ
 usedSlots [] = 0
 usedSlots (c ∷ check) = cond (isFree c && eqb (usedSlots check) 0) 0 (suc (usedSlots check))
-
--- what `own` stores, on a lent CHECK slice
-unfoldable pub ownIn : Bool → ℕ → ℕ → List ℕ → List ℤ → List ℤ
-ownIn behind d s [] check = check
-ownIn behind d s (w ∷ ws) check = ownIn behind d s ws (set check (childSlot behind d w) (pos s))

@@ -1,157 +1,280 @@
--- Invariants: no d passed fits; the slots ahead of d of the children passed are open, so all are where those of the rest are.
-use mathlib.Core.Path.{_≡_, sym, ap, _∙_}
+-- Invariants: no slot of the ring up to d fits; the slots of the children passed are open on the side that is tried, so all are where those of word w and of the rest are.
+use mathlib.Core.Path.{_≡_, sym, ap, _∙_, subst}
 use mathlib.Core.Bool.{Bool, true, false}
-use mathlib.Core.List.{List}
-use Prim.Native.Nat.{ℕ, _+_, _-_, _/_, _≤_}
+use mathlib.Core.List.{List, _∷_}
+use Prim.Native.Nat.{ℕ, _+_, _-_, _/_, _≤_, _<_}
 use native.Mathlib.Omega.{arith}
-use lib.IntN.{ℤ}
 use lib.ListN.{length}
 use denote.Ref.{now}
 use borrow.Author.Needs.{needs}
 use borrow.Author.Tests.{not-true, not-false}
+use Rattle.backoff.specs.Limits.{wordLimit, slotLimit}
 use Rattle.double_array.specs.DoubleArray.{childSlot}
-use Rattle.list.specs.Table.{rowsOf, field, wordOf}
-use Rattle.placing.specs.Placing.{isFree, allOpen, fits, roomOf}
-use Rattle.placing.proofs.FirstFit.{open-yes, open-taken, d-taken, sides-taken}
+use Rattle.list.specs.Table.{rowsOf}
+use Rattle.placing.specs.Placing.{Room, isFree, isOpen, allOpen, fits}
+use Rattle.placing.proofs.FirstFit.{open-yes, open-taken, sideAt, fits-yes, d-taken, sides-taken}
+use Rattle.free_slots.specs.Ring.{nextFree, wrapped, Linked}
+use Rattle.free_slots.proofs.Ring.{linked-base-length, linked-check-length}
+use Rattle.free_slots.proofs.Search.{Searched, PassedTo, passed-none, passed-next, passed-above, searched-free, fit-found, fit-not-found}
 use Rattle.build.specs.ListTrie.{oldestFrom}
-use Rattle.build.specs.Steps.{oldestOf}
+use Rattle.build.specs.Steps.{oldestOf, FoundFit}
 use Rattle.build.proofs.OldestWords.{open-step, open-fails, open-end}
-use Rattle.build.proofs.Front.{misfit-inside, Missed, missed-none, missed-next, missed-fit}
 use Rattle.build.proofs.first_fit.Statement.{statement}
 use Rattle.build.proofs.first_fit.Tie as tie
 
+abbrev Inv-behind : tie.InvT-behind
+Inv-behind base check rows count last d w₀ k₀ w k =
+    (k ≤ count) × ((N : ℕ) (b c : Room) → Linked N b c base check → allOpen c true d (oldestOf rows) ≡ allOpen c true d (w ∷ oldestFrom rows k (count - k)))
+
+abbrev μ-behind : tie.MeasureT-behind
+μ-behind base check rows count last d w₀ k₀ w k = count - k
+
 abbrev Inv-loop : tie.InvT-loop
-Inv-loop check rows front count d k₀ k = (1 ≤ d) × (allOpen (roomOf check) false d (oldestOf rows) ≡ allOpen (roomOf check) false d (oldestFrom rows k (count - k)))
+Inv-loop base check rows count last d v j w₀ k₀ w k =
+    (k ≤ count) × (w ≤ wordLimit) × ((N : ℕ) (b c : Room) → Linked N b c base check → allOpen c false d (oldestOf rows) ≡ allOpen c false d (w ∷ oldestFrom rows k (count - k)))
 
 abbrev μ-loop : tie.MeasureT-loop
-μ-loop check rows front count d k₀ k = count - k
+μ-loop base check rows count last d v j w₀ k₀ w k = count - k
 
-abbrev Inv-next : tie.InvT-next
-Inv-next check rows front count d₀ d = Missed check (oldestOf rows) front d
+abbrev Inv-free : tie.InvT-free
+Inv-free base check rows count last d₀ d = (N : ℕ) (b c : Room) → Linked N b c base check → PassedTo N c (fits c (oldestOf rows)) d
 
-abbrev μ-next : tie.MeasureT-next
-μ-next check rows front count d₀ d = length check - d
+abbrev μ-free : tie.MeasureT-free
+μ-free base check rows count last d₀ d = length base - d
 
-sub-d : tie.Need-sub-d Inv-loop μ-loop Inv-next μ-next
-sub-d c = omega (arith, c .pre .1 .positive)
-
-next-holds : tie.Need-next-holds Inv-loop μ-loop Inv-next μ-next
-next-holds c = missed-none _ _ _ (c .pre .1)
-
-add-d : tie.Need-add-d Inv-loop μ-loop Inv-next μ-next
-add-d c = omega (arith, c .next .inv .inside, c .before .pre .2)
-
-is-free-requires : tie.Need-is-free-requires Inv-loop μ-loop Inv-next μ-next
-is-free-requires c κs = search needs
-
-abbrev check : tie.Start Inv-loop μ-loop Inv-next μ-next → List ℤ
-check s = now (s .args .check)
-
-abbrev words : tie.Start Inv-loop μ-loop Inv-next μ-next → List ℕ
+abbrev words : tie.Start Inv-behind μ-behind Inv-loop μ-loop Inv-free μ-free → List ℕ
 words s = oldestOf (now (s .args .rows))
 
-taken : (c : tie.Then1 Inv-loop μ-loop Inv-next μ-next) → fits (roomOf (check (c .before .before .before))) (words (c .before .before .before)) (c .before .before .next .d + 1) ≡ false
-taken c = d-taken _ _ _ (sym (c .before .is-free .ensures) ∙ not-true _ (c .if1 .taken))
+last-word-requires : tie.Need-last-word-requires Inv-behind μ-behind Inv-loop μ-loop Inv-free μ-free
+last-word-requires c κs = c .pre .0
 
-next-less : tie.Need-next-less Inv-loop μ-loop Inv-next μ-next
-next-less c = let s = c .before .before .before in omega (arith, misfit-inside (check s) (words s) _ (omega arith) (taken c))
+free-holds : tie.Need-free-holds Inv-behind μ-behind Inv-loop μ-loop Inv-free μ-free
+free-holds c N b room L = passed-none N room (fits room (words (c .before))) (d-taken room (words (c .before))) (L .size .0)
 
-next-again : tie.Need-next-again Inv-loop μ-loop Inv-next μ-next
-next-again c = missed-next _ _ _ (c .before .before .before .pre .1) _ (c .before .before .next .inv) (taken c)
+next-requires : tie.Need-next-requires Inv-behind μ-behind Inv-loop μ-loop Inv-free μ-free
+next-requires c κs =
+    let p = c .before .before .pre .1 in
+    let P = c .free .inv (p .N) (p .b) (p .c) (p .linked) in
+    record { N = p .N; b = p .b; c = p .c; check = _; linked = p .linked; inside = P .inside; member = P .member }
 
-open-behind-requires : tie.Need-open-behind-requires Inv-loop μ-loop Inv-next μ-next
-open-behind-requires c κs = c .before .before .before .pre .0
+-- the b and c that the slices hold
+abbrev Holds : tie.After-next Inv-behind μ-behind Inv-loop μ-loop Inv-free μ-free → ℕ → Room → Room → Type 0
+Holds n N b room = let s = n .before .before .before in Linked N b room (now (s .args .base)) (now (s .args .check))
 
-loop-holds : tie.Need-loop-holds Inv-loop μ-loop Inv-next μ-next
+module _ (n : tie.After-next Inv-behind μ-behind Inv-loop μ-loop Inv-free μ-free) {N : ℕ} {b room : Room} (L : Holds n N b room) where
+  abbrev start : tie.Start Inv-behind μ-behind Inv-loop μ-loop Inv-free μ-free
+  start = n .before .before .before
+
+  abbrev d : ℕ
+  d = n .next .result
+
+  passed : PassedTo N room (fits room (words start)) (n .before .free .d)
+  passed = n .before .free .inv N b room L
+
+  -- where the ring leads
+  led : d ≡ wrapped N (nextFree N room (n .before .free .d))
+  led = n .next .ensures N b room _ L (passed .inside) (passed .member)
+
+  -- the search has come there
+  come : Searched N room (fits room (words start)) d
+  come = subst (Searched N room (fits room (words start))) (sym led) (passed .next)
+
+  module _ (p : 1 ≤ d) where
+    above : n .before .free .d < d
+    above = subst (λ (x : ℕ). n .before .free .d < x) (sym led) (passed-above N room (fits room (words start)) (d-taken room (words start)) passed (subst (λ (x : ℕ). 1 ≤ x) led p))
+
+    less : length (now (start .args .base)) - d < length (now (start .args .base)) - n .before .free .d
+    less = omega (arith, linked-base-length L, above, come .inside)
+
+    -- what the search does with d
+    goes-on : fits room (words start) d ≡ false → PassedTo N room (fits room (words start)) d
+    goes-on h = passed-next N room (fits room (words start)) (d-taken room (words start)) come p h
+
+    free : isFree (room d) ≡ true
+    free = searched-free N room (fits room (words start)) (d-taken room (words start)) come p
+
+    -- the last child's slot may be tested before all
+    tested-first : (behind : Bool) → allOpen room behind d (words start) ≡ allOpen room behind d (n .before .before .last-word .result ∷ words start)
+    tested-first behind = n .before .before .last-word .ensures .same room behind d (open-yes room d p free)
+
+    finds : (behind : Bool) → allOpen room behind d (words start) ≡ true → allOpen room true d (words start) ≡ behind → FoundFit N room (now (start .args .rows)) d behind
+    finds behind h s =
+        let e = fit-found N room (words start) (L .past) come p (fits-yes room (words start) behind d free h) in
+        record { d-is = e; side-is = λ l. sym s ∙ ap (sideAt room (words start)) (omega (arith, e)) }
+
+-- d is a slot
+positive : (e : tie.Else1 Inv-behind μ-behind Inv-loop μ-loop Inv-free μ-free) → 1 ≤ e .before .next .result
+positive e = omega (arith, e .if1 .left)
+
+few : (n : tie.After-next Inv-behind μ-behind Inv-loop μ-loop Inv-free μ-free) → n .next .result ≤ slotLimit
+few n = let p = n .before .before .before .pre .1 in omega (arith, come n (p .linked) .inside, p .linked .size)
+
+-- ---- the pass behind d
+
+behind-holds : tie.Need-behind-holds Inv-behind μ-behind Inv-loop μ-loop Inv-free μ-free
 unfolding rowsOf
-loop-holds c = let rows = now (c .before .before .before .before .before .args .rows) in let e : length rows / 8 - 0 ≡ length rows / 8 = omega arith in (omega arith, rw e)
+behind-holds c =
+    let rows = now (c .before .before .before .before .args .rows) in
+    let e : length rows / 8 - 0 ≡ length rows / 8 = omega arith in
+    (omega arith, λ N b room L. rw e (tested-first (c .before) L (positive c) true))
 
-oldest-word-requires : tie.Need-oldest-word-requires Inv-loop μ-loop Inv-next μ-next
+is-open-behind-requires : tie.Need-is-open-behind-requires Inv-behind μ-behind Inv-loop μ-loop Inv-free μ-free
+is-open-behind-requires c κs = search needs
+
+-- the test that the pass makes
+tested-behind : (c : tie.After-is-open-behind Inv-behind μ-behind Inv-loop μ-loop Inv-free μ-free) {N : ℕ} {b room : Room} → let l = c .before in let n = l .before .before in
+    Holds n N b room → isOpen room (childSlot true (n .next .result) (l .behind .w)) ≡ c .is-open-behind .result
+tested-behind c {N} {b} {room} L = sym (c .is-open-behind .ensures N b room _ L)
+
+-- a child is left
+left : (e : tie.Else3 Inv-behind μ-behind Inv-loop μ-loop Inv-free μ-free) → let l = e .before .before .before in l .behind .k < length (now (l .before .before .before .before .before .args .rows)) / 8
+left e = omega (arith, e .before .before .before .behind .inv .0, e .if3 .left)
+
+oldest-word-requires : tie.Need-oldest-word-requires Inv-behind μ-behind Inv-loop μ-loop Inv-free μ-free
 unfolding rowsOf
-oldest-word-requires c κs = (c .before .before .before .before .before .before .before .pre .0, c .loop-test .taken)
+oldest-word-requires c κs = (c .before .before .before .before .before .before .before .before .pre .0, left c)
 
-add-is-free : tie.Need-add-is-free Inv-loop μ-loop Inv-next μ-next
-add-is-free c = let n = c .before .before .before .before .before .before .before in omega (arith, c .oldest-word .ensures .1, n .next .inv .inside, n .before .pre .2)
-
-is-free-requires-2 : tie.Need-is-free-requires-2 Inv-loop μ-loop Inv-next μ-next
-is-free-requires-2 c κs = search needs
-
-abbrev head : tie.After-is-free2 Inv-loop μ-loop Inv-next μ-next → tie.At-next Inv-loop μ-loop Inv-next μ-next
-head c = c .before .before .before .before .before .before .before .before
-
--- the test that the inner pass makes
-tested : (c : tie.After-is-free2 Inv-loop μ-loop Inv-next μ-next) (v : Bool) → c .is-free2 .result ≡ v → isFree (roomOf (check (head c .before)) (childSlot false (head c .next .d + 1) (wordOf (field (now (head c .before .args .rows)) (c .before .before .before .loop .k) 1)))) ≡ v
-tested c v e =
-    sym (c .is-free2 .ensures ∙ ap (λ (w : ℕ). isFree (roomOf (check (head c .before)) (childSlot false (head c .next .d + 1) w))) (c .before .oldest-word .ensures .0)) ∙ e
-
-missed : (c : tie.Then3 Inv-loop μ-loop Inv-next μ-next) → fits (roomOf (check (head (c .before) .before))) (words (head (c .before) .before)) (head (c .before) .next .d + 1) ≡ false
-missed c =
-    let l = c .before .before .before .before in
-    let b = l .before in
-    sides-taken _ _ _
-    (sym (b .before .open-behind .ensures) ∙ b .if2 .left)
-    (l .loop .inv .1 ∙ open-fails _ _ _ _ _ _ (c .before .before .before .loop-test .taken) (open-taken _ _ (tested (c .before) false (not-true _ (c .if3 .taken)))))
-
-next-less-2 : tie.Need-next-less-2 Inv-loop μ-loop Inv-next μ-next
-next-less-2 c = let s = head (c .before) .before in omega (arith, misfit-inside (check s) (words s) _ (omega arith) (missed c))
-
-next-again-2 : tie.Need-next-again-2 Inv-loop μ-loop Inv-next μ-next
-next-again-2 c = let n = head (c .before) in missed-next _ _ _ (n .before .pre .1) _ (n .next .inv) (missed c)
-
-add-k : tie.Need-add-k Inv-loop μ-loop Inv-next μ-next
+add-k : tie.Need-add-k Inv-behind μ-behind Inv-loop μ-loop Inv-free μ-free
 add-k c = search needs
 
-loop-less : tie.Need-loop-less Inv-loop μ-loop Inv-next μ-next
-loop-less c = search needs
+behind-less : tie.Need-behind-less Inv-behind μ-behind Inv-loop μ-loop Inv-free μ-free
+behind-less c = omega (arith, left (c .before))
 
-loop-again : tie.Need-loop-again Inv-loop μ-loop Inv-next μ-next
-loop-again c =
-    let l = c .before .before .before .before in
-    let h = l .loop .inv .0 in (
-      h,
-      l .loop .inv .1 ∙ open-step _ _ _ _ _ _ (c .before .before .before .loop-test .taken) (open-yes _ _ (omega arith) (tested (c .before) true (not-false _ (c .if3 .left)))),
+behind-again : tie.Need-behind-again Inv-behind μ-behind Inv-loop μ-loop Inv-free μ-free
+behind-again c =
+    let e = c .before in
+    let l = e .before .before .before in
+    let n = l .before .before in (
+      omega (arith, left e),
+      λ N b room L.
+          subst (λ (w : ℕ). allOpen room true (n .next .result) (words (start n L)) ≡ allOpen room true (n .next .result) (w ∷ oldestFrom (now (start n L .args .rows)) (l .behind .k + 1) (length (now (start n L .args .rows)) / 8 - (l .behind .k + 1)))) (sym (c .oldest-word .ensures .0))
+          (l .behind .inv .1 N b room L ∙ open-step _ _ _ _ _ _ _ (left e) (tested-behind (e .before .before) L ∙ not-false _ (e .before .if2 .left))),
     )
 
--- d itself is free
-here : (c : tie.Else1 Inv-loop μ-loop Inv-next μ-next) → isFree (roomOf (check (c .before .before .before)) (c .before .before .next .d + 1)) ≡ true
-here c = sym (c .before .is-free .ensures) ∙ not-false _ (c .if1 .left)
+-- where it leaves, the d
+abbrev chosen : tie.Then2 Inv-behind μ-behind Inv-loop μ-loop Inv-free μ-free → tie.Else1 Inv-behind μ-behind Inv-loop μ-loop Inv-free μ-free
+chosen c = c .before .before .before
 
-returns : tie.Need-returns Inv-loop μ-loop Inv-next μ-next
-returns c =
-    let e = c .before .before in
-    let n = e .before .before in
-    missed-fit _ _ _ (n .before .pre .1) _ (n .next .inv) true (here e) (sym (c .before .open-behind .ensures) ∙ c .if2 .taken)
+closed : (c : tie.Then2 Inv-behind μ-behind Inv-loop μ-loop Inv-free μ-free) {N : ℕ} {b room : Room} → let n = chosen c .before in Holds n N b room → allOpen room true (n .next .result) (words (n .before .before .before)) ≡ false
+closed c {N} {b} {room} L = c .before .before .behind .inv .1 N b room L ∙ open-fails _ _ _ _ _ _ _ (tested-behind (c .before) L ∙ not-true _ (c .if2 .taken))
 
-returns-2 : tie.Need-returns-2 Inv-loop μ-loop Inv-next μ-next
-returns-2 c =
-    let l = c .before in
-    let e = l .before .before .before in
-    let n = e .before .before in
-    missed-fit _ _ _ (n .before .pre .1) _ (n .next .inv) false (here e) (l .loop .inv .1 ∙ open-end _ _ _ _ _ _ (c .loop-test .left))
+-- ---- the pass ahead of d
+
+loop-holds : tie.Need-loop-holds Inv-behind μ-behind Inv-loop μ-loop Inv-free μ-free
+unfolding rowsOf
+loop-holds c =
+    let n = chosen c .before in
+    let rows = now (n .before .before .before .args .rows) in
+    let e : length rows / 8 - 0 ≡ length rows / 8 = omega arith in
+    (omega arith, n .before .before .last-word .ensures .word, λ N b room L. rw e (tested-first n L (positive (chosen c)) false))
+
+add-is-free : tie.Need-add-is-free Inv-behind μ-behind Inv-loop μ-loop Inv-free μ-free
+add-is-free c = omega (arith, c .loop .inv .1, few (chosen (c .before) .before))
+
+is-free-requires : tie.Need-is-free-requires Inv-behind μ-behind Inv-loop μ-loop Inv-free μ-free
+is-free-requires c κs = search needs
+
+-- where the pass behind left
+abbrev gone : tie.After-is-free Inv-behind μ-behind Inv-loop μ-loop Inv-free μ-free → tie.Then2 Inv-behind μ-behind Inv-loop μ-loop Inv-free μ-free
+gone c = c .before .before
+
+tested : (c : tie.After-is-free Inv-behind μ-behind Inv-loop μ-loop Inv-free μ-free) {N : ℕ} {b room : Room} → let n = chosen (gone c) .before in
+    Holds n N b room → isFree (room (childSlot false (n .next .result) (c .before .loop .w))) ≡ c .is-free .result
+tested c {N} {b} {room} L = sym (c .is-free .ensures N b room _ L (omega (arith, positive (chosen (gone c)))))
+
+opened : (c : tie.Else4 Inv-behind μ-behind Inv-loop μ-loop Inv-free μ-free) {N : ℕ} {b room : Room} → let n = chosen (gone (c .before)) .before in
+    Holds n N b room → isOpen room (childSlot false (n .next .result) (c .before .before .loop .w)) ≡ true
+opened c L = open-yes _ _ (omega (arith, positive (chosen (gone (c .before))))) (tested (c .before) L ∙ not-false _ (c .if4 .left))
+
+-- the d does not fit
+missed : (c : tie.Then4 Inv-behind μ-behind Inv-loop μ-loop Inv-free μ-free) {N : ℕ} {b room : Room} → let n = chosen (gone (c .before)) .before in Holds n N b room → fits room (words (n .before .before .before)) (n .next .result) ≡ false
+missed c {N} {b} {room} L =
+    sides-taken _ _ _ (closed (gone (c .before)) L)
+    (c .before .before .loop .inv .2 N b room L ∙ open-fails _ _ _ _ _ _ _ (open-taken _ _ (tested (c .before) L ∙ not-true _ (c .if4 .taken))))
+
+free-less : tie.Need-free-less Inv-behind μ-behind Inv-loop μ-loop Inv-free μ-free
+free-less c = let e = chosen (gone (c .before)) in less (e .before) (e .before .before .before .before .pre .1 .linked) (positive e)
+
+free-again : tie.Need-free-again Inv-behind μ-behind Inv-loop μ-loop Inv-free μ-free
+free-again c N b room L = let e = chosen (gone (c .before)) in goes-on (e .before) L (positive e) (missed c L)
+
+-- a child is left
+left-ahead : (e : tie.Else5 Inv-behind μ-behind Inv-loop μ-loop Inv-free μ-free) → let l = e .before .before .before in l .loop .k < length (now (start (chosen (l .before) .before) (chosen (l .before) .before .before .before .before .pre .1 .linked) .args .rows)) / 8
+left-ahead e = omega (arith, e .before .before .before .loop .inv .0, e .if5 .left)
+
+oldest-word-requires-2 : tie.Need-oldest-word-requires-2 Inv-behind μ-behind Inv-loop μ-loop Inv-free μ-free
+unfolding rowsOf
+oldest-word-requires-2 c κs = (chosen (c .before .before .before .before) .before .before .before .before .pre .0, left-ahead c)
+
+add-k-2 : tie.Need-add-k-2 Inv-behind μ-behind Inv-loop μ-loop Inv-free μ-free
+add-k-2 c = search needs
+
+loop-less : tie.Need-loop-less Inv-behind μ-behind Inv-loop μ-loop Inv-free μ-free
+loop-less c = omega (arith, left-ahead (c .before))
+
+loop-again : tie.Need-loop-again Inv-behind μ-behind Inv-loop μ-loop Inv-free μ-free
+loop-again c =
+    let e = c .before in
+    let l = e .before .before .before in
+    let n = chosen (l .before) .before in (
+      omega (arith, left-ahead e),
+      c .oldest-word2 .ensures .1,
+      λ N b room L.
+          subst (λ (w : ℕ). allOpen room false (n .next .result) (words (start n L)) ≡ allOpen room false (n .next .result) (w ∷ oldestFrom (now (start n L .args .rows)) (l .loop .k + 1) (length (now (start n L .args .rows)) / 8 - (l .loop .k + 1)))) (sym (c .oldest-word2 .ensures .0))
+          (l .loop .inv .2 N b room L ∙ open-step _ _ _ _ _ _ _ (left-ahead e) (opened (e .before) L)),
+    )
+
+-- ---- what is found
+
+returns : tie.Need-returns Inv-behind μ-behind Inv-loop μ-loop Inv-free μ-free
+returns c N b room L =
+    let n = c .before in
+    let ws = words (n .before .before .before) in
+    record {
+      d-is = linked-check-length L ∙ fit-not-found N room ws (L .past) (subst (Searched N room (fits room ws)) (c .if1 .taken) (come n L));
+      side-is = λ l. absurd (omega (arith, linked-check-length L));
+    }
+
+returns-2 : tie.Need-returns-2 Inv-behind μ-behind Inv-loop μ-loop Inv-free μ-free
+returns-2 c N b room L =
+    let l = c .before .before .before in
+    let h = l .behind .inv .1 N b room L ∙ open-end _ _ _ _ _ _ _ (omega (arith, c .if3 .taken)) (tested-behind (c .before .before) L ∙ not-false _ (c .before .if2 .left)) in
+    finds (l .before .before) L (positive (l .before)) true h h
+
+returns-3 : tie.Need-returns-3 Inv-behind μ-behind Inv-loop μ-loop Inv-free μ-free
+returns-3 c N b room L =
+    let l = c .before .before .before in
+    let e = chosen (l .before) in
+    finds (e .before) L (positive e) false (l .loop .inv .2 N b room L ∙ open-end _ _ _ _ _ _ _ (omega (arith, c .if5 .taken)) (opened (c .before) L)) (closed (l .before) L)
 
 pub first-fit-spec : {M : Type 1} → statement M
 first-fit-spec =
     tie.close
     (tie.spec
+    Inv-behind
+    μ-behind
     Inv-loop
     μ-loop
-    Inv-next
-    μ-next
-    sub-d
-    next-holds
-    add-d
-    is-free-requires
-    next-less
-    next-again
-    open-behind-requires
-    loop-holds
+    Inv-free
+    μ-free
+    last-word-requires
+    free-holds
+    next-requires
+    behind-holds
+    is-open-behind-requires
     oldest-word-requires
-    add-is-free
-    is-free-requires-2
-    next-less-2
-    next-again-2
     add-k
+    behind-less
+    behind-again
+    loop-holds
+    add-is-free
+    is-free-requires
+    free-less
+    free-again
+    oldest-word-requires-2
+    add-k-2
     loop-less
     loop-again
     returns
-    returns-2)
+    returns-2
+    returns-3)

@@ -21,25 +21,25 @@ use Rattle.build.proofs.mark_row.Tie as tie
 length-of-requires : tie.Need-length-of-requires
 length-of-requires c κs = row-in _ _ (c .before .pre .1)
 
-abbrev start : tie.After-find-without-last → tie.Start
+abbrev start : tie.After-find-shorter → tie.Start
 start c = c .before .before .before
 
-abbrev table : tie.After-find-without-last → List ℤ
+abbrev table : tie.After-find-shorter → List ℤ
 table c = now (start c .args .table)
 
-abbrev row : tie.After-find-without-last → ℕ
+abbrev row : tie.After-find-shorter → ℕ
 row c = start c .args .i
 
-find-without-last-requires : tie.Need-find-without-last-requires
-find-without-last-requires c κs =
+find-shorter-requires : tie.Need-find-shorter-requires
+find-shorter-requires c κs =
     let s = c .before .before in
     let t = now (s .args .table) in
     let g = accepted-good t (s .pre .0) in
     let l = s .pre .1 in
     (row-in t (s .args .i) l, good-fewer t (s .args .i) _ (omega arith) g, g .row (s .args .i) l, c .length-of .ensures .0, c .length-of .ensures .1)
 
-found : (c : tie.After-find-without-last) → c .find-without-last .result ≡ findIn (table c) (withoutLast (table c) (row c))
-found c = c .find-without-last .ensures ∙ last-before (table c) (start c .pre .0) (row c) (start c .pre .1)
+found : (c : tie.After-find-shorter) → c .find-shorter .result ≡ findIn (table c) (withoutLast (table c) (row c))
+found c = c .find-shorter .ensures ∙ last-before (table c) (start c .pre .0) (row c) (start c .pre .1)
 
 enum-known-j : tie.Need-enum-known-j
 enum-known-j c = search needs
@@ -80,7 +80,7 @@ mark-row-spec =
     tie.close
     (tie.spec
     length-of-requires
-    find-without-last-requires
+    find-shorter-requires
     enum-known-j
     enum-told
     returns

@@ -1,9 +1,10 @@
--- Where all nodes have room, the items are halved; where they have not, the slices are wiped.
+-- Where all nodes have room, the links go and the items are halved; where they have not, the slices are wiped.
 use mathlib.Core.Path.{_∙_}
 use lib.ListN.{length}
 use denote.Ref.{now}
 use borrow.Author.Needs.{needs}
 use Rattle.double_array.proofs.DoubleArray.{sizes-told}
+use Rattle.free_slots.specs.Ring.{Linked}
 use Rattle.build.specs.ListTrie.{placedList}
 use Rattle.build.specs.Steps.{Tried}
 use Rattle.build.proofs.Turn.{filled-check, filled-here}
@@ -26,6 +27,16 @@ start c = prepared c .before .before .before .before .before
 tried : (c : tie.After-place-nodes) → Tried (now (start c .args .table)) (length (now (start c .args .check))) (placedList (now (start c .args .table))) (c .place-nodes .result) (c .place-nodes .last .1 .0) (c .place-nodes .last .1 .1 .0) (c .place-nodes .last .1 .1 .1 .0)
 tried c = rw (filled-check (prepared c .prepare .ensures)) at (c .place-nodes .ensures)
 
+-- the slices with links, once all nodes are placed
+linked : (e : tie.Then1) → let c = e .before .before .before .before .before in let t = now (start c .args .table) in
+    Linked (length (now (start c .args .check))) (placedList t .base) (placedList t .check) (c .place-nodes .last .1 .0) (c .place-nodes .last .1 .1 .0)
+linked e = tried (e .before .before .before .before .before) .filled (e .if1 .taken) .linked
+
+finish-requires : tie.Need-finish-requires
+finish-requires c κs =
+    let e = c .before .before in
+    (start (e .before .before .before .before .before) .pre .accepted, record { N = _; b = _; c = _; linked = linked e })
+
 halve-requires : tie.Need-halve-requires
 halve-requires c κs = search needs
 
@@ -41,9 +52,13 @@ same-length-3 c = search needs
 returns : tie.Need-returns
 returns c =
     let h = c .before .before in
-    let n = h .before .before .before .before .before .before .before in
+    let f = h .before .before .before .before in
+    let e = f .before .before .before in
+    let n = e .before .before .before .before .before in
     let s = start n in
-    rw (h .halve .ensures) (built-accepted (now (s .args .table)) (now (s .args .base)) (now (s .args .check)) (now (s .args .work)) (sizes-told _ _ (s .pre .sizes) .same) (s .pre .each) (h .before .before .if1 .taken) (tried n))
+    rw (h .halve .ensures)
+    (built-accepted (now (s .args .table)) (now (s .args .base)) (now (s .args .check)) (now (s .args .work)) (sizes-told _ _ (s .pre .sizes) .same) (s .pre .each) (s .pre .accepted) (e .if1 .taken) (tried n)
+    (f .finish .ensures _ _ _ (linked e)))
 
 wipe-requires : tie.Need-wipe-requires
 wipe-requires c κs = search needs
@@ -74,6 +89,7 @@ place-list-spec =
     (tie.spec
     prepare-requires
     place-nodes-requires
+    finish-requires
     halve-requires
     same-length
     same-length-2

@@ -13,8 +13,7 @@ use Rattle.backoff.specs.Limits.{rowLimit}
 use Rattle.list.specs.Table.{rowsOf}
 use Rattle.list.proofs.Check.{accepted-size}
 use Rattle.build.proofs.Parts.{count-rows, child-rows}
-use Rattle.build.proofs.Front.{front-first}
-use Rattle.build.proofs.Turn.{root-has-slot, root-fits, root-tried}
+use Rattle.build.proofs.Turn.{root-fits, root-settles, root-tried}
 use Rattle.build.proofs.place_root.Statement.{statement}
 use Rattle.build.proofs.place_root.Tie as tie
 
@@ -47,8 +46,8 @@ place-node-requires c κs =
     let t = now (s .args .table) in
     let k = o .one-word-rows .result in
     let fits = root-fits t (s .pre .0) (s .pre .1) k (o .one-word-rows .ensures) in (
-      (child-rows t (s .pre .0) 0 k fits, root-has-slot t (s .pre .0) (s .pre .1)),
-      (length-take-le _ _ (omega (arith, o .one-word-rows .ensures .within, s .pre .1 .each)) ∙ sym (count-rows t 0 k fits), front-first _),
+      (child-rows t (s .pre .0) 0 k fits, length-take-le _ _ (omega (arith, o .one-word-rows .ensures .within, s .pre .1 .each)) ∙ sym (count-rows t 0 k fits)),
+      (_, _, _, root-settles t (s .pre .0) (s .pre .1) k (o .one-word-rows .ensures)),
     )
 
 same-length : tie.Need-same-length
@@ -66,7 +65,8 @@ returns c =
     let o = p .before .before .before .before .before in
     let s = o .before .before in
     root-tried (now (s .args .table)) (s .pre .0) (s .pre .1) (o .one-word-rows .result) (o .one-word-rows .ensures)
-    (toZ-pos w32 (omega (arith, few s)) ∙ ap pos (s .pre .1 .each)) (p .place-node .ensures)
+    (toZ-pos w32 (omega (arith, few s)) ∙ ap pos (s .pre .1 .each))
+    (p .place-node .ensures _ _ _ (root-settles (now (s .args .table)) (s .pre .0) (s .pre .1) (o .one-word-rows .result) (o .one-word-rows .ensures)))
 
 pub place-root-spec : {M : Type 1} → statement M
 place-root-spec =

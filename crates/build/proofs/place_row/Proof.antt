@@ -1,7 +1,7 @@
 -- The parts handed on are the children's, so the node's turn is the rule's.
 use mathlib.Core.Path.{_≡_}
 use mathlib.Core.List.{List}
-use Prim.Native.Nat.{ℕ, _*_, _-_, _≤_}
+use Prim.Native.Nat.{ℕ, _+_, _*_, _-_, _≤_}
 use native.Mathlib.Omega.{arith}
 use lib.IntN.{ℤ}
 use lib.ListN.{length, take, drop, length-drop}
@@ -11,8 +11,9 @@ use borrow.Author.Needs.{needs}
 use Rattle.list.specs.Table.{rowsOf}
 use Rattle.list.proofs.Table.{row-in}
 use Rattle.list.proofs.Check.{accepted-good}
+use Rattle.build.specs.Steps.{Settles, placedNodes}
 use Rattle.build.proofs.Parts.{partRows, count-rows, child-rows}
-use Rattle.build.proofs.Turn.{row-has-slot, row-fits, row-tried}
+use Rattle.build.proofs.Turn.{row-fits, row-settles, row-tried}
 use Rattle.build.proofs.place_row.Statement.{statement}
 use Rattle.build.proofs.place_row.Tie as tie
 
@@ -77,6 +78,15 @@ part-place-node-start-2 c = omega (arith, bounds (c .before .before .before .bef
 part-place-node-end-2 : tie.Need-part-place-node-end-2
 part-place-node-end-2 c = search needs
 
+-- the node may be placed
+settles : (n : tie.After-row-node) → let k = n .before .before in let s = start k in let P = placedNodes (table k) (s .args .i + 1) in
+    Settles (length (now (s .args .check))) (P .base) (P .check) (now (s .args .base)) (now (s .args .check)) (take (8 * to k - 8 * from k) (drop (8 * from k) (table k))) (n .row-node .result .slot) (n .row-node .result .mark)
+settles n =
+    let k = n .before .before in
+    let s = start k in
+    let e = n .row-node .ensures in
+    rw (rows-are k) (row-settles (table k) (s .pre .0 .0) (s .args .i) (s .pre .0 .1) (s .pre .1) (from k) (to k) (k .children .ensures) (e .0) (e .1))
+
 place-node-requires : tie.Need-place-node-requires
 place-node-requires c κs =
     let n = c .before .before .before .before in
@@ -84,8 +94,11 @@ place-node-requires c κs =
     let s = start k in
     let t = table k in
     let fits = row-fits t (s .pre .0 .0) (s .args .i) (s .pre .0 .1) (s .pre .1) (from k) (to k) (k .children .ensures) in (
-      (rw (rows-are k) (child-rows t (s .pre .0 .0) (from k) (to k - from k) fits), row-has-slot t (s .pre .0 .0) (s .args .i) (s .pre .0 .1) (s .pre .1) _ (n .row-node .ensures .0)),
-      (rw (rows-are k, count-rows t (from k) (to k - from k) fits) (length-take-le _ _ (rw length-drop (omega (arith, bounds k, k .children .ensures .within, s .pre .1 .each)))), s .pre .0 .2),
+      (
+        rw (rows-are k) (child-rows t (s .pre .0 .0) (from k) (to k - from k) fits),
+        rw (rows-are k, count-rows t (from k) (to k - from k) fits) (length-take-le _ _ (rw length-drop (omega (arith, bounds k, k .children .ensures .within, s .pre .1 .each)))),
+      ),
+      (_, _, _, settles n),
     )
 
 same-length : tie.Need-same-length
@@ -105,7 +118,7 @@ returns c =
     let s = start k in
     let n = r .row-node .ensures in
     row-tried (table k) (s .pre .0 .0) (s .args .i) (s .pre .0 .1) (s .pre .1) (from k) (to k) (k .children .ensures) (n .0) (n .1) (n .2)
-    (rw (rows-are k) at (p .place-node .ensures))
+    (rw (rows-are k) at (p .place-node .ensures _ _ _ (settles r)))
 
 pub place-row-spec : {M : Type 1} → statement M
 place-row-spec =

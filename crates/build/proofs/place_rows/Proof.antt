@@ -1,7 +1,7 @@
--- Invariant: the root and the rows before row i are placed, and before `front` no slot is free.
+-- Invariant: the root and the rows before row i are placed.
 use mathlib.Core.Path.{_≡_, sym, _∙_}
 use mathlib.Core.List.{List}
-use Prim.Native.Nat.{ℕ, suc, _+_, _-_, _≤_, _<_}
+use Prim.Native.Nat.{ℕ, suc, _+_, _-_, _≤_}
 use native.Mathlib.Numerals.{add-one}
 use native.Mathlib.Omega.{arith}
 use lib.IntN.{ℤ}
@@ -10,45 +10,36 @@ use denote.Ref.{now}
 use borrow.Author.Needs.{needs}
 use borrow.Author.Tests.{not-true, not-false}
 use Rattle.list.specs.Table.{rowsOf}
-use Rattle.build.specs.ListTrie.{nodesOf}
-use Rattle.build.specs.Steps.{Front, placedNodes, Filled, Tried}
-use Rattle.build.proofs.ListTrie.{length-nodesOf}
-use Rattle.build.proofs.Front.{front-first}
-use Rattle.build.proofs.Turn.{filled-base, filled-check, filled-here, front-stays}
+use Rattle.build.specs.Steps.{placedNodes, Filled, Tried}
+use Rattle.build.proofs.Turn.{filled-base, filled-check, filled-here}
 use Rattle.build.proofs.NodeByNode.{over-refused, all-placed}
 use Rattle.build.proofs.place_rows.Statement.{statement}
 use Rattle.build.proofs.place_rows.Tie as tie
 
-record Reached (t : List ℤ) (N : ℕ) (base check : List ℤ) (work : List ℕ) (front i : ℕ) : Type 0 where
+record Reached (t : List ℤ) (N : ℕ) (base check : List ℤ) (work : List ℕ) (i : ℕ) : Type 0 where
   within : i ≤ rowsOf t
   filled : Filled t N (placedNodes t (i + 1)) base check work
-  taken : Front check front
 
 abbrev Inv-loop : tie.InvT-loop
-Inv-loop table base₀ check₀ work₀ front₀ near₀ i₀ base check work front near i = Reached table (length check₀) base check work front i
+Inv-loop table base₀ check₀ work₀ near₀ i₀ base check work near i = Reached table (length check₀) base check work i
 
 abbrev μ-loop : tie.MeasureT-loop
-μ-loop table base₀ check₀ work₀ front₀ near₀ i₀ base check work front near i = rowsOf table - i
+μ-loop table base₀ check₀ work₀ near₀ i₀ base check work near i = rowsOf table - i
 
 loop-holds : tie.Need-loop-holds Inv-loop μ-loop
-loop-holds c = record { within = omega arith; filled = c .before .pre .1; taken = front-first _ }
-
-next-free-requires : tie.Need-next-free-requires Inv-loop μ-loop
-next-free-requires c κs = c .before .before .loop .inv .taken
+loop-holds c = record { within = omega arith; filled = c .before .pre .1 }
 
 next-without-slot-requires : tie.Need-next-without-slot-requires Inv-loop μ-loop
 next-without-slot-requires c κs = search needs
 
 place-row-requires : tie.Need-place-row-requires Inv-loop μ-loop
 place-row-requires c κs =
-    let f = c .before .before .before .before .before in
-    let l = f .before .before .before in
-    let s = l .before .before in
-    let F = l .loop .inv .filled in
-    ((s .pre .0, omega (arith, f .before .before .loop-test .taken, F .each), f .next-free .ensures .0), filled-here F)
+    let i = c .before .before .before .before .before in
+    let F = i .before .loop .inv .filled in
+    ((i .before .before .before .pre .0, omega (arith, i .loop-test .taken, F .each)), filled-here F)
 
 abbrev at : tie.After-place-row Inv-loop μ-loop → tie.At-loop Inv-loop μ-loop
-at c = c .before .before .before .before .before .before .before .before .before
+at c = c .before .before .before .before .before .before .before
 
 abbrev table : tie.At-loop Inv-loop μ-loop → List ℤ
 table l = now (l .before .before .args .table)
@@ -84,22 +75,14 @@ add-i : tie.Need-add-i Inv-loop μ-loop
 add-i c = search needs
 
 loop-less : tie.Need-loop-less Inv-loop μ-loop
-loop-less c = let p = c .before .before .before .before .before in omega (arith, at p .loop .inv .within, p .before .before .before .before .before .before .before .before .loop-test .taken, at p .loop .inv .filled .each)
+loop-less c = let p = c .before .before .before .before .before in omega (arith, at p .loop .inv .within, p .before .before .before .before .before .before .loop-test .taken, at p .loop .inv .filled .each)
 
 loop-again : tie.Need-loop-again Inv-loop μ-loop
 loop-again c =
     let p = c .before .before .before .before .before in
     let l = at p in
-    let f = p .before .before .before .before .before .before in
-    let t = table l in
     let F = turn p .filled (not-false _ (c .if1 .left)) in
-    let inside : l .loop .i < rowsOf t = omega (arith, f .before .before .loop-test .taken, l .loop .inv .filled .each) in
-    let node : l .loop .i + 1 < length (nodesOf t) = omega (arith, length-nodesOf t) in
-    record {
-      within = omega arith;
-      filled = rw (add-one (l .loop .i + 1)) F;
-      taken = front-stays t (l .before .before .pre .0) node (l .loop .inv .filled) F _ (f .next-free .ensures .0);
-    }
+    record { within = omega (arith, p .before .before .before .before .before .before .loop-test .taken, l .loop .inv .filled .each); filled = rw (add-one (l .loop .i + 1)) F }
 
 same-length-4 : tie.Need-same-length-4 Inv-loop μ-loop
 same-length-4 c = base-kept (c .before)
@@ -120,7 +103,6 @@ place-rows-spec =
     Inv-loop
     μ-loop
     loop-holds
-    next-free-requires
     next-without-slot-requires
     place-row-requires
     same-length
