@@ -9,3 +9,4 @@ pub mod guard;
 pub mod lists;
 pub mod random;
 pub mod reference;
+pub mod states;

@@ -192,10 +192,10 @@ fn from_sentences(
 }
 
 /// The number of words and the words newest first: these ascend as the rows do.
-type Part = (usize, Vec<i32>);
+pub type Part = (usize, Vec<i32>);
 
 /// Adds the shorter parts first, so that the set is a list's wherever it stops.
-fn add_parts(parts: &mut BTreeSet<Part>, words: &[i32], order: usize, most: usize) {
+pub fn add_parts(parts: &mut BTreeSet<Part>, words: &[i32], order: usize, most: usize) {
     for m in 1..=order.min(words.len()) {
         for part in words.windows(m) {
             if parts.len() == most {

@@ -8,6 +8,7 @@ use tests::random::Random;
 use tests::reference::list::{Refusal, Row, ACCEPTED, LARGEST_B, LARGEST_WORD, MOST_ROWS};
 use tests::reference::rule::{Rule, LONGEST_RUN};
 use tests::reference::score::{run, start, EMPTY};
+use tests::states::own_state;
 
 /// What a run leaves behind.
 #[derive(Clone, Debug, PartialEq, Eq)]
@@ -508,18 +509,6 @@ fn longest_run() {
     let outcome = agreed_exact(&mut random, &sample, &EMPTY, &words[1..]);
     assert_eq!((outcome.refusal, outcome.total), (ACCEPTED, -9_000 - 10_000 * 65_534));
     assert_eq!(agreed_exact(&mut random, &sample, &EMPTY, &words).refusal, (14, 0));
-}
-
-/// A random state that passes 16, of words that the array may have.
-fn own_state(random: &mut Random, order: i32, words: &[u32]) -> [i32; 9] {
-    let mut state = EMPTY;
-    let count = random.between(0, order - 1) as usize;
-    state[0] = count as i32;
-    for i in 0..count {
-        state[1 + i] = (random.pick(words) as i32).clamp(1, LARGEST_WORD);
-        state[5 + i] = if random.chance(40) { random.pick(&[0, LARGEST_B, -LARGEST_B]) } else { random.between(-LARGEST_B, LARGEST_B) };
-    }
-    state
 }
 
 /// States of the caller's own making that pass 16 are answered by the formula.

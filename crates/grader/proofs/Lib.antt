@@ -1,5 +1,7 @@
 -- The theorems over the calls' outcomes, and a law of lists.
 pub mod RunsInARow
+pub mod OneWord
+pub mod OneWordExample
 pub mod BatchSheet
 pub mod LeftExtension
 pub mod SentencesApart

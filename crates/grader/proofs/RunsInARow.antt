@@ -59,7 +59,7 @@ module _ (M : Model) where
   places-are s [] = refl
   places-are s (r ∷ rs) = ap₂ (λ (n : ℕ) (l : List ℕ). n ∷ l) (unfold run acceptedRun in cond-place r _ _ refl) (places-are (run M s r .end) rs)
 
-  plain-number : (b : Bool) (r : Run) → plain M b r .number ≡ refusal r
+  pub plain-number : (b : Bool) (r : Run) → plain M b r .number ≡ refusal r
   unfolding plain acceptedRun
   plain-number b r = cond-number r _ _ refl
 

@@ -1,6 +1,8 @@
 -- The answers that cross to C, and the statements over the calls.
 pub mod Exports
 pub mod RunsInARow
+pub mod OneWord
+pub mod OneWordExample
 pub mod SentencesApart
 pub mod BatchSheet
 pub mod MarkedCases
