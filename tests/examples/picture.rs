@@ -242,8 +242,8 @@ fn draw_jumps(drawing: &mut Drawing, array: &Array, walk: &[usize]) {
 fn draw_legend(drawing: &mut Drawing) {
     let y = HEIGHT - 24;
     let entries = [
-        ("node", 28, "node: BASE is d, the slot of its marker; CHECK is its parent, at the root the order + 16"),
-        ("marker", 525, "marker: BASE is 4 × b + 2 × e + f, CHECK is p − 1; the root's holds the number of rows and −1"),
+        ("node", 28, "node: BASE is d, its marker's slot; CHECK is its parent, at the root the order + 16"),
+        ("marker", 525, "marker: BASE is 4 × b + 2 × e + f, CHECK is p − 1; the root's: the rows, −1"),
     ];
     for (class, x, text) in entries {
         drawing.rectangle(class, x, y - 11, 18, 13);
