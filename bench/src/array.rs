@@ -23,13 +23,13 @@ pub fn build_by<S: Search>(table: &[i32], base: &mut [i32], check: &mut [i32], w
     if verdict != ACCEPTED {
         return verdict;
     }
-    S::clear(base, check);
-    if place::<S>(rows, base, check, work).is_none() {
+    clear(base, check);
+    let Some(search) = place::<S>(rows, base, check, work) else {
         clear(base, check);
         work[..rows.len()].fill(0);
         return Status { number: 10, place: 0 };
-    }
-    S::finish(base, check);
+    };
+    search.finish(base, check);
     (base[0], check[0]) = (1, HEAD + rows[rows.len() - 1][0]);
     set_continued(rows, base, check);
     ACCEPTED
@@ -46,10 +46,6 @@ fn clear(base: &mut [i32], check: &mut [i32]) {
 
 /// How the free slots are held and gone through while nodes are placed. Slot 0 is no part of it: it is written at the end.
 pub trait Search: Default {
-    /// Frees all slots.
-    fn clear(base: &mut [i32], check: &mut [i32]) {
-        clear(base, check);
-    }
     /// The smallest d with room for the children behind it or ahead of it, and whether they lie behind. Slots past the end count as free.
     fn first_fit(&mut self, children: &[Row], base: &[i32], check: &[i32]) -> (usize, bool);
     /// Gives a free slot its BASE and CHECK.
@@ -57,7 +53,7 @@ pub trait Search: Default {
         (base[slot], check[slot]) = (load, mark);
     }
     /// Leaves BASE 0 and CHECK FREE in the free slots.
-    fn finish(_base: &mut [i32], _check: &mut [i32]) {}
+    fn finish(&self, _base: &mut [i32], _check: &mut [i32]) {}
 }
 
 /// Every d is tried, 1 first.
@@ -110,7 +106,7 @@ pub fn largest_word(children: &[Row]) -> usize {
 }
 
 /// Places all nodes and writes everything but slot 0 and the f of the markers; nothing where a slot at or past the end is used.
-fn place<S: Search>(rows: &[Row], base: &mut [i32], check: &mut [i32], work: &mut [u32]) -> Option<()> {
+fn place<S: Search>(rows: &[Row], base: &mut [i32], check: &mut [i32], work: &mut [u32]) -> Option<S> {
     let mut search = S::default();
     let ones = rows.partition_point(|row| row[0] == 1);
     let d = settle(&rows[..ones], 0, &mut search, base, check, &mut work[..ones])?;
@@ -128,7 +124,7 @@ fn place<S: Search>(rows: &[Row], base: &mut [i32], check: &mut [i32], work: &mu
         S::take(base, check, d, 4 * row[7] + 2 * extended, row[6] - 1);
         next = end;
     }
-    Some(())
+    Some(search)
 }
 
 /// Finds the d of the node in `slot`, and takes the slots of its children.

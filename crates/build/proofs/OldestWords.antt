@@ -1,43 +1,59 @@
 -- The rows of a node's children, passed one by one: their first words, whether their slots are free, how far they reach, and the stores of their slots.
--- Rows i to n − 1 are left. Assumes nothing.
+-- Assumes nothing.
 use mathlib.Core.Path.{_≡_, refl, sym, ap, _∙_, subst}
-use mathlib.Core.Logic.{_≢_, ⊎-elim}
+use mathlib.Core.Logic.{_≢_}
 use mathlib.Core.Bool.{Bool, true, false, _&&_, false≢true}
 use mathlib.Core.List.{List, [], _∷_, List·Memᴰ, List·Memᴰ·head, List·Memᴰ·tail}
 use Prim.Native.Nat.{ℕ, zero, suc, _+_, _*_, _-_, _%_, _≤_, _<_, max}
 use native.Mathlib.Nat.{not-suc-le-zero}
 use native.Mathlib.Numerals.{add-one}
 use native.Mathlib.Omega.{arith}
-use lib.Dec.{leb}
 use lib.IntN.{ℤ, pos}
 use lib.ListN.{length, getD, set, length-set}
 use lib.Seq.{getD-set-same, getD-set-other}
 use borrow.Author.Count.{below-more}
-use borrow.Author.Tests.{le-leb, lt-leb}
-use Rattle.integer.proofs.Ranges.{lt-or-ge}
 use Rattle.double_array.specs.DoubleArray.{childSlot}
 use Rattle.list.specs.Table.{rowsOf, field, wordOf}
 use Rattle.placing.specs.Placing.{Room, isFree, isOpen, allOpen, update, own, reach}
 use Rattle.placing.proofs.FirstFit.{isFree-yes, open-told, all-open-at}
 use Rattle.placing.proofs.Rooms.{update-other}
-use Rattle.free_slots.specs.Ring.{Linked, Takes}
-use Rattle.free_slots.proofs.Ring.{update-kept}
+use Rattle.free_slots.specs.Chain.{Linked, Takes}
+use Rattle.free_slots.proofs.Chain.{update-kept}
 use Rattle.build.specs.ListTrie.{oldestFrom}
-use Rattle.build.specs.Steps.{oldestOf, Apart, ChildSlots, Settles, Fitting, Given}
+use Rattle.build.specs.Steps.{oldestOf, Rising, ChildSlots, Settles, Fitting, Given}
 
--- what lies behind d reaches no further than d
-pub reach-behind : (d : ℕ) (ws : List ℕ) → reach 0 true d ws ≡ suc d
+-- ---- how far the children reach
+
+-- from a top, and from 0
+pub reach-max : (top : ℕ) (behind : Bool) (d : ℕ) (ws : List ℕ) → reach top behind d ws ≡ max top (reach 0 behind d ws)
 unfolding reach
-reach-behind d [] = omega arith
-reach-behind d (w ∷ ws) = omega (arith, reach-behind d ws)
+reach-max top behind d [] = omega arith
+reach-max top behind d (w ∷ ws) = omega (arith, reach-max top behind d ws)
 
--- of two numbers, the one that is within N does not decide
-pub leb-max : (a b N : ℕ) → a ≤ N → leb (max a b) N ≡ leb b N
-leb-max a b N h =
-    ⊎-elim
-    (λ l. lt-leb (max a b) N (omega arith) ∙ sym (lt-leb b N l))
-    (λ l. le-leb (max a b) N (omega arith) ∙ sym (le-leb b N l))
-    (lt-or-ge N b)
+-- those behind d reach no further than d,
+pub reach-behind : (top d : ℕ) (ws : List ℕ) → reach top true d ws ≡ max top (suc d)
+unfolding reach
+reach-behind top d [] = refl
+reach-behind top d (w ∷ ws) = omega (arith, reach-behind top d ws)
+
+-- those ahead as far as the last, whose word is the largest,
+reach-last : (t : List ℤ) (i n top d : ℕ) → ((j : ℕ) → i ≤ j → j < i + n → wordOf (field t j 1) < wordOf (field t (i + n) 1))
+    → reach top false d (oldestFrom t i (suc n)) ≡ max top (suc (d + wordOf (field t (i + n) 1)))
+unfolding reach oldestFrom
+reach-last t i zero top d h = let e : i + 0 ≡ i = omega arith in rw e (omega arith)
+reach-last t i (suc n) top d h =
+    let e : i + suc n ≡ suc i + n = omega arith in
+    omega (arith, h i (omega arith) (omega arith), ap (λ (x : ℕ). wordOf (field t x 1)) e, reach-last t (suc i) n top d (λ j a b. rw e at (h j (omega arith) (omega arith))))
+
+pub reach-ahead : (rows : List ℤ) (n top d : ℕ) → Rising rows → rowsOf rows ≡ suc n → reach top false d (oldestOf rows) ≡ max top (suc (d + wordOf (field rows n 1)))
+reach-ahead rows n top d A e = let z : 0 + n ≡ n = omega arith in rw e (rw z at (reach-last rows 0 n top d (λ j a b. A .rising j (0 + n) b (omega arith))))
+
+-- and without children d is the last slot
+pub reach-none : (rows : List ℤ) (top d : ℕ) → rowsOf rows ≡ 0 → reach top false d (oldestOf rows) ≡ max top (suc (d + 0))
+unfolding reach oldestFrom
+reach-none rows top d e = rw e (omega arith)
+
+-- ---- rows i to n − 1 are left
 
 module _ (t : List ℤ) (i n : ℕ) where
   abbrev word : ℕ
@@ -75,21 +91,6 @@ module _ (t : List ℤ) (i n : ℕ) where
     reach-step : i < n → reach 0 behind d left ≡ max (suc (childSlot behind d word)) (reach 0 behind d rest)
     unfolding reach
     reach-step l = rw (oldest-step l)
-
-    reach-end : n ≤ i → reach 0 behind d left ≡ suc d
-    unfolding reach
-    reach-end l = rw (oldest-end l) (omega arith)
-
-    -- whether d and the slots of those left lie below N
-    module _ (N : ℕ) where
-      pub within-step : i < n → childSlot behind d word < N → leb (reach 0 behind d left) N ≡ leb (reach 0 behind d rest) N
-      within-step l h = rw (reach-step l) (leb-max (suc (childSlot behind d word)) (reach 0 behind d rest) N h)
-
-      pub within-fails : i < n → N ≤ childSlot behind d word → leb (reach 0 behind d left) N ≡ false
-      within-fails l h = lt-leb (reach 0 behind d left) N (omega (arith, reach-step l))
-
-      pub within-end : n ≤ i → d < N → leb (reach 0 behind d left) N ≡ true
-      within-end l h = le-leb (reach 0 behind d left) N (omega (arith, reach-end l))
 
     -- a child that is left lies within what those left reach
     pub reach-first : (N : ℕ) → i < n → reach 0 behind d left ≤ N → (childSlot behind d word < N) × (reach 0 behind d rest ≤ N)
@@ -209,7 +210,7 @@ module _ {N : ℕ} {b c₀ : Room} {rows : List ℤ} {behind : Bool} {d s : ℕ}
       apart = refl;
     }
 
-    pub owning-next : {base′ check′ : List ℤ} → Apart rows
+    pub owning-next : {base′ check′ : List ℤ} → Rising rows
         → (Linked N b (o .c) base check → isFree (o .c t) ≡ true → Linked N (update b t (pos 0)) (update (o .c) t (pos s)) base′ check′)
         → Owning N b c₀ rows behind d s base′ check′ (i + 1)
     owning-next {base′} {check′} A took = record {
@@ -220,7 +221,7 @@ module _ {N : ℕ} {b c₀ : Room} {rows : List ℤ} {behind : Bool} {d s : ℕ}
       positive = o .positive;
       left = λ k m h.
           ap isFree (update-other (o .c) t (pos s) (childSlot behind d (wordOf (field rows k 1)))
-          (λ e. A .distinct i k (omega arith) h (sym (one-word behind d (wordOf (field rows k 1)) (wordOf (field rows i 1)) (o .positive k h) (o .positive i l) e))))
+          (λ e. absurd (omega (arith, A .rising i k (omega arith) h, one-word behind d (wordOf (field rows k 1)) (wordOf (field rows i 1)) (o .positive k h) (o .positive i l) e))))
           ∙ o .left k (omega arith) h;
       d-positive = o .d-positive;
       d-free = ap isFree (update-other (o .c) t (pos s) d (off-d behind d (wordOf (field rows i 1)) (o .d-positive) (A .positive i l))) ∙ o .d-free;

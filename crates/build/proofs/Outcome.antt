@@ -8,6 +8,7 @@ use lib.Dec.{leb}
 use lib.IntN.{ℤ, pos}
 use lib.ListN.{length, getD, take, drop, replicate, length-map, length-replicate, List·getD-map, drop-of-length-le, length-take}
 use lib.Seq.{ext-getD}
+use borrow.Author.Tests.{le-leb, lt-leb}
 use Rattle.backoff.specs.Limits.{slotLimit}
 use Rattle.backoff.specs.Refusal.{tableLength, arrayLength, noRoom}
 use Rattle.backoff.specs.Run.{written}
@@ -21,10 +22,11 @@ use Rattle.list.specs.ListModel.{continuedIn}
 use Rattle.list.proofs.ListModel.{accepted-model}
 use Rattle.placing.specs.Trie.{nodeAt}
 use Rattle.placing.specs.Placing.{update, placeAll, unplaced, slots}
-use Rattle.placing.proofs.NodeByNode.{Head, placing-head}
-use Rattle.free_slots.specs.Ring.{isLink, Linked, Unlinked}
-use Rattle.free_slots.proofs.Ring.{update-kept}
+use Rattle.placing.proofs.NodeByNode.{Head, placing-inv, placing-head}
+use Rattle.free_slots.specs.Chain.{Unlinked}
+use Rattle.free_slots.proofs.Chain.{update-kept}
 use Rattle.free_slots.proofs.Following.{links-run-through-the-free-slots}
+use Rattle.free_slots.proofs.Linking.{fresh-linked}
 use Rattle.build.specs.ListTrie.{nodesOf, placedList, slotsFrom, rowSlots}
 use Rattle.build.specs.Build.{untouched, filled, emptied, checkedBuild, buildOutcome, IsBuilt, BuildMeans}
 use Rattle.build.specs.Steps.{Flagged, placedNodes, Filled, Tried, halved, Wiped}
@@ -34,17 +36,11 @@ use Rattle.build.proofs.Turn.{item-half}
 
 -- ---- before the first node
 
-pub filled-none : (t : List ℤ) {N : ℕ} {B C : List ℤ} {W : List ℕ} → 2 ≤ N → N ≤ slotLimit
-    → ((head : ℤ) → isLink head ≡ false → Linked N (λ t. pos 0) (update (λ t. freeCheck) 0 head) B C) → Flagged t (rowsOf t) W → Filled t N (placedNodes t 0) B C W
+pub filled-none : (t : List ℤ) {N : ℕ} {B C : List ℤ} {W : List ℕ} → 2 ≤ N → N ≤ slotLimit → B ≡ replicate N (pos 0) → C ≡ replicate N freeCheck → Flagged t (rowsOf t) W → Filled t N (placedNodes t 0) B C W
 unfolding placeAll unplaced continuedIn
-filled-none t low high L F = record {
-  size = (low, high);
-  room = omega arith;
-  linked = L (headCheck (orderOf t)) refl;
-  links = links-run-through-the-free-slots (L (headCheck (orderOf t)) refl);
-  each = F .each;
-  item = F .item;
-}
+filled-none t {N} low high b c F =
+    let L = fresh-linked N (headCheck (orderOf t)) (omega arith) high refl in
+    rw (b, c) (record { size = (low, high); room = omega arith; linked = L; links = links-run-through-the-free-slots L; each = F .each; item = F .item })
 
 -- ---- the rows' slots
 
@@ -83,20 +79,25 @@ list-head : (t : List ℤ) → verdict t ≡ Accepted → Head (orderOf t) (node
 unfolding placedList
 list-head t a = placing-head (orderOf t) (nodesOf t) (nodes-ready t a)
 
+-- from the top on all slots are free
+pub list-past : (t : List ℤ) → verdict t ≡ Accepted → (s : ℕ) → placedList t .top ≤ s → placedList t .check s ≡ freeCheck
+unfolding placedList
+list-past t a = placing-inv (orderOf t) (nodesOf t) (nodes-ready t a) .past
+
 -- a slice as long as what is written
 written-whole : {A : Type 0} (new old : List A) → length new ≡ length old → written new old ≡ new
 unfolding written
 written-whole {A} new old e = ap (λ (l : List A). new ++ l) (drop-of-length-le old {i = length new} (omega arith)) ∙ append-nil new
 
 module _ (t B C : List ℤ) (W : List ℕ) (same : length B ≡ length C) (each : length W ≡ rowsOf t) where
-  pub built-accepted : {placed : Bool} {B₁ C₁ B′ C′ : List ℤ} {W′ : List ℕ} → verdict t ≡ Accepted → placed ≡ true → Tried t (length C) (placedList t) placed B₁ C₁ W′
+  pub built-accepted : {r : ℕ} {B₁ C₁ B′ C′ : List ℤ} {W′ : List ℕ} → verdict t ≡ Accepted → r ≤ length C → Tried t (length C) (placedList t) r B₁ C₁ W′
       → Unlinked (length C) (update (placedList t .base) 0 (pos 1)) (update (placedList t .check) 0 (headCheck (orderOf t))) B′ C′
       → IsBuilt (checkedBuild t B C W Accepted) Accepted B′ C′ (halved W′)
   unfolding filled
   built-accepted a e T U =
       let F = T .filled e in
       let H = list-head t a in
-      let room : leb (placedList t .top) (length B) ≡ true = ap (leb (placedList t .top)) same ∙ sym (T .answer) ∙ e in
+      let room : leb (placedList t .top) (length B) ≡ true = le-leb (placedList t .top) (length B) (omega (arith, F .room)) in
       rw room (record {
         answer-is = refl;
         base-is = U .base-slots ∙ (λ i. slots (sym same i) (update-kept (placedList t .base) 0 (pos 1) (H .base-0) i));
@@ -104,11 +105,11 @@ module _ (t B C : List ℤ) (W : List ℕ) (same : length B ≡ length C) (each 
         work-is = halved-slots F ∙ sym (written-whole (rowSlots t) W (length-rowSlots t ∙ sym each));
       })
 
-  pub built-refused : {placed : Bool} {B₁ C₁ B′ C′ : List ℤ} {W₁ W′ : List ℕ} → placed ≡ false → Tried t (length C) (placedList t) placed B₁ C₁ W₁
+  pub built-refused : {r : ℕ} {B₁ C₁ B′ C′ : List ℤ} {W₁ W′ : List ℕ} → length C < r → Tried t (length C) (placedList t) r B₁ C₁ W₁
       → length B₁ ≡ length B → length C₁ ≡ length C → length W₁ ≡ length W → Wiped B₁ C₁ W₁ B′ C′ W′ → IsBuilt (checkedBuild t B C W Accepted) (Refused noRoom 0) B′ C′ W′
   unfolding emptied
   built-refused e T b c w X =
-      let room : leb (placedList t .top) (length B) ≡ false = ap (leb (placedList t .top)) same ∙ sym (T .answer) ∙ e in
+      let room : leb (placedList t .top) (length B) ≡ false = lt-leb (placedList t .top) (length B) (omega (arith, T .answer)) in
       rw room (record {
         answer-is = refl;
         base-is = X .base-free ∙ ap (λ (n : ℕ). replicate n (pos 0)) b;

@@ -3,39 +3,41 @@ use mathlib.Core.Path.{_≡_, refl, sym, ap, _∙_, subst, transport}
 use mathlib.Core.Logic.{_⊎_, inl, inr, _≢_, ⊎-elim}
 use mathlib.Core.Bool.{Bool, true, false, cond}
 use mathlib.Core.List.{List, [], _∷_, tail-eq-of-cons-eq, List·Memᴰ}
-use Prim.Native.Nat.{ℕ, suc, _+_, _*_, _-_, _/_, _%_, _≤_, _<_, max}
+use Prim.Native.Nat.{ℕ, suc, _+_, _*_, _-_, _/_, _%_, _≤_, _<_, min}
 use native.Mathlib.Omega.{arith}
 use native.Mathlib.Numerals.{add-one}
-use lib.Dec.{leb, ltb, eqb, lit<}
+use lib.Dec.{ltb, eqb, lit<}
 use lib.IntN.{ℤ, pos, negsuc}
 use lib.ListN.{length, getD, take, drop, length-drop}
 use lib.Seq.{length-take-le, getD-take, getD-drop}
-use borrow.Author.Tests.{leb-true}
 use Rattle.integer.proofs.Arithmetic.{zarith, add}
 use Rattle.integer.proofs.Ranges.{lt-or-ge, between-low}
 use Rattle.backoff.specs.declared.Verdict.the-variants.{Accepted}
 use Rattle.backoff.specs.Limits.{leastProbability}
+use Rattle.backoff.specs.Words.{radix, key}
 use Rattle.backoff.specs.Model.{inProbability}
 use Rattle.double_array.specs.DoubleArray.{markerCheck, markerBase, childSlot}
 use Rattle.list.specs.Table.{rowsOf, field, probabilityAt, backoffAt, orderOf, wordOf, words, withoutFirst}
+use Rattle.list.specs.Keys.{rowKey}
 use Rattle.list.specs.Search.{Stretch}
 use Rattle.list.specs.Check.{verdict}
 use Rattle.list.specs.ListModel.{extendedIn, continuedIn}
 use Rattle.list.proofs.ListModel.{stretch-extended}
 use Rattle.list.proofs.Table.{row-in, words-cons}
+use Rattle.list.proofs.Good.{ascend-key}
 use Rattle.list.proofs.Check.{accepted-good, accepted-row}
 use Rattle.placing.specs.Trie.{Node, children, nodeAt}
-use Rattle.placing.specs.Placing.{Placed, allOpen, firstFit, update, own, reach, settle, placeAt, place}
+use Rattle.placing.specs.Placing.{Placed, allOpen, firstFit, update, own, reach, settle, placeAt, place, placeAll, unplaced}
 use Rattle.placing.proofs.FirstFit.{isFree-no, sideAt, fit-any-top}
 use Rattle.placing.proofs.Placing.{Inv, Next, slot-given, slot-kept, slot-below-top, not-negative}
-use Rattle.free_slots.specs.Ring.{isLink, Linked}
-use Rattle.free_slots.proofs.Ring.{linked-base-length, linked-check-length}
+use Rattle.free_slots.specs.Chain.{isLink, Linked}
+use Rattle.free_slots.proofs.Chain.{linked-base-length, linked-check-length}
 use Rattle.free_slots.proofs.Following.{links-run-through-the-free-slots}
 use Rattle.placing.proofs.NodeByNode.{placedFirst-suc, next-at, inv-first}
 use Rattle.build.specs.ListTrie.{nodeOf, rootOf, nodesOf, OneWordRows}
-use Rattle.build.specs.Steps.{oldestOf, Apart, fitOf, sideOf, Settles, Given, NodePlaced, itemOf, placedNodes, Filled, Tried}
+use Rattle.build.specs.Steps.{oldestOf, Rising, fitOf, sideOf, Settles, Given, NodePlaced, itemOf, placedNodes, Filled, Tried}
 use Rattle.build.proofs.ListTrie.{length-nodesOf, nodeAt-root, nodeAt-row, root-words, row-words, one-word, more-words, nodes-ready, row-check, children-stretch, children-root, middle-field}
-use Rattle.build.proofs.OldestWords.{leb-max, oldest-in}
+use Rattle.build.proofs.OldestWords.{oldest-in}
 use Rattle.build.proofs.Parts.{partRows, count-rows, oldest-rows, back, length-back, back-inside, back-before, back-after}
 
 -- rows from to from + n − 1 are the children of the node `us`
@@ -57,12 +59,6 @@ root-children t a k o = record {
   inside = λ j l m. one-word t j (omega (arith, o .one j (omega arith)));
   only = λ j l e. (omega arith, ⊎-elim (λ m. omega arith) (λ m. absurd (more-words t a j l (o .more j m l) e)) (lt-or-ge j k));
 }
-
--- the reach from a given top
-reach-max : (top : ℕ) (behind : Bool) (d : ℕ) (ws : List ℕ) → reach top behind d ws ≡ max top (reach 0 behind d ws)
-unfolding reach
-reach-max top behind d [] = omega arith
-reach-max top behind d (w ∷ ws) = omega (arith, reach-max top behind d ws)
 
 -- an item's slot and f
 pub item-half : (s : ℕ) (f : Bool) → itemOf s f / 2 ≡ s
@@ -124,22 +120,20 @@ module _ (t : List ℤ) (a : verdict t ≡ Accepted) {N n : ℕ} (h : n < length
   next : Next (nodesOf t) (take n (nodesOf t)) P m side d
   next = next-at (orderOf t) (nodesOf t) (nodes-ready t a) n h I
 
-  -- the children's words: none is 0, and no two rows have the same words
+  -- the children's words: none is 0, and they rise as the rows' keys do
   module _ {rows : List ℤ} (words-are : oldestOf rows ≡ ws) (from : ℕ) (S : Children t (m .words) from (rowsOf rows)) (fields : (j : ℕ) → j < rowsOf rows → field rows j 1 ≡ field t (from + j) 1) where
-    rows-apart : Apart rows
-    rows-apart = record {
+    rows-rise : Rising rows
+    unfolding rowKey key
+    rows-rise = record {
       positive = λ k l. next .positive (wordOf (field rows k 1)) (subst (List·Memᴰ (wordOf (field rows k 1))) words-are (oldest-in rows k l));
-      distinct = λ j k l h e.
-          nodes-ready t a .distinct (suc (from + j)) (suc (from + k)) (omega arith) (omega (arith, S .within, length-nodesOf t))
-          (child-words j (omega arith) ∙ ap (λ (w : ℕ). w ∷ m .words) e ∙ sym (child-words k h));
+      rising = λ j k l h. omega (arith, ascend-key t (rowsOf t) (from + j) (from + k) (accepted-good t a) (omega arith) (omega (arith, S .within)), child-key j (omega arith), child-key k h);
     }
       where
-        child-words : (j : ℕ) → j < rowsOf rows → nodeAt (nodesOf t) (suc (from + j)) .words ≡ wordOf (field rows j 1) ∷ m .words
-        child-words j l =
+        child-key : (j : ℕ) → j < rowsOf rows → rowKey t (from + j) ≡ wordOf (field rows j 1) + radix * key (m .words)
+        child-key j l =
             let inside : from + j < rowsOf t = omega (arith, S .within) in
-            row-words t (from + j) inside
-            ∙ words-cons t (from + j) (row-in t (from + j) inside) (accepted-good t a .row (from + j) inside .some)
-            ∙ (λ i. wordOf (sym (fields j l) i) ∷ S .inside (from + j) (omega arith) (omega arith) i)
+            ap key (words-cons t (from + j) (row-in t (from + j) inside) (accepted-good t a .row (from + j) inside .some)
+            ∙ (λ i. wordOf (sym (fields j l) i) ∷ S .inside (from + j) (omega arith) (omega arith) i))
 
     settles : {s : ℕ} {mark : ℤ} → s ≡ P .slot (m .words) → isLink mark ≡ false → Settles N (P .base) (P .check) B C rows s mark
     settles {s} e q = record {
@@ -147,16 +141,16 @@ module _ (t : List ℤ) (a : verdict t ≡ Accepted) {N n : ℕ} (h : n < length
       inside = omega (arith, slot-below-top I (m .words) (next .slotted), F .room);
       taken = isFree-no (P .check s) (λ z. not-negative I (m .words) (next .slotted) s 2147483647 z (sym e));
       apart = q;
-      children = rows-apart;
+      children = rows-rise;
     }
 
   next-is : placedNodes t (suc n) ≡ P′
   unfolding place placeAt
   next-is = placedFirst-suc (orderOf t) (nodesOf t) n h
 
-  module _ {rows : List ℤ} {s : ℕ} {mark load : ℤ} {placed : Bool} {B′ C′ : List ℤ} {I₀ I′ : List ℕ}
-      (words-are : oldestOf rows ≡ ws) (slot-is : s ≡ P .slot (m .words)) (mark-is : mark ≡ negsuc (m .cost)) (load-is : load ≡ m .load)
-      (D : NodePlaced N (P .base) (P .check) rows s mark load I₀ placed B′ C′ I′) where
+  module _ {rows : List ℤ} {s : ℕ} {mark load : ℤ} {top r : ℕ} {B′ C′ : List ℤ} {I₀ I′ : List ℕ}
+      (words-are : oldestOf rows ≡ ws) (top-is : top ≡ P .top) (slot-is : s ≡ P .slot (m .words)) (mark-is : mark ≡ negsuc (m .cost)) (load-is : load ≡ m .load)
+      (D : NodePlaced N (P .base) (P .check) rows s mark load top I₀ r B′ C′ I′) where
     -- the d found is the rule's
     d-is : fitOf N (P .check) rows ≡ d
     d-is = rw words-are (fit-any-top (P .check) ws N (P .top) (λ u l. I .past u (omega (arith, F .room))) (I .past))
@@ -164,19 +158,18 @@ module _ (t : List ℤ) (a : verdict t ≡ Accepted) {N n : ℕ} (h : n < length
     side-is : sideOf N (P .check) rows ≡ side
     side-is = λ i. allOpen (P .check) true (d-is i) (words-are i)
 
-    answer : placed ≡ leb (P′ .top) N
+    answer : min r (suc N) ≡ min (P′ .top) (suc N)
     unfolding settle
-    answer =
-        D .answer ∙ (λ i. leb (reach 0 (side-is i) (d-is i) (words-are i)) N) ∙ sym (ap (λ (x : ℕ). leb x N) (reach-max (P .top) side d ws) ∙ leb-max (P .top) (reach 0 side d ws) N (F .room))
+    answer = D .answer ∙ (λ i. min (reach (top-is i) (side-is i) (d-is i) (words-are i)) (suc N))
 
-    linked-next : placed ≡ true → Linked N (P′ .base) (P′ .check) B′ C′
+    linked-next : r ≤ N → Linked N (P′ .base) (P′ .check) B′ C′
     unfolding settle
     linked-next q =
         transport
         (λ i. Linked N (update (update (P .base) (d-is i) (load-is i)) (slot-is i) (pos (d-is i))) (update (own (side-is i) (d-is i) (slot-is i) (words-are i) (P .check)) (d-is i) (mark-is i)) B′ C′)
         (D .linked q)
 
-    given-next : placed ≡ true → Given side d rows I₀ I′
+    given-next : r ≤ N → Given side d rows I₀ I′
     given-next q = subst (λ (x : ℕ). Given side x rows I₀ I′) d-is (subst (λ (b : Bool). Given b (fitOf N (P .check) rows) rows I₀ I′) side-is (D .given q))
 
     -- the items of the rows: a child's holds its slot, the others are kept
@@ -187,7 +180,7 @@ module _ (t : List ℤ) (a : verdict t ≡ Accepted) {N n : ℕ} (h : n < length
       row : (j : ℕ) → j < rowsOf t → words t j ≡ wordOf (field t j 1) ∷ withoutFirst t j
       row j l = words-cons t j (row-in t j l) (accepted-good t a .row j l .some)
 
-      module _ (q : placed ≡ true) where
+      module _ (q : r ≤ N) where
         count : length I₀ ≡ k
         count = ap length part ∙ length-take-le k (drop from W) (omega (arith, length-drop from W, fits))
 
@@ -222,17 +215,21 @@ module _ (t : List ℤ) (a : verdict t ≡ Accepted) {N n : ℕ} (h : n < length
         filled : Filled t N P′ B′ C′ (back from k W I′)
         filled = record {
           size = F .size;
-          room = leb-true (P′ .top) N (sym answer ∙ q);
+          room = omega (arith, answer);
           linked = linked-next q;
           links = links-run-through-the-free-slots (linked-next q);
           each = length-back from k W I′ fits same ∙ F .each;
           item = item-next;
         }
 
-      tried : Tried t N (placedNodes t (suc n)) placed B′ C′ (back from k W I′)
+      tried : Tried t N (placedNodes t (suc n)) r B′ C′ (back from k W I′)
       tried = rw next-is (record { answer = answer; filled = filled })
 
 -- ---- the root's turn
+
+pub first-top : (t : List ℤ) → placedNodes t 0 .top ≡ 1
+unfolding placeAll unplaced
+first-top t = refl
 
 module _ (t : List ℤ) (a : verdict t ≡ Accepted) {N : ℕ} {B C : List ℤ} {W : List ℕ} (F : Filled t N (placedNodes t 0) B C W) where
   root-node : 0 < length (nodesOf t)
@@ -258,12 +255,12 @@ module _ (t : List ℤ) (a : verdict t ≡ Accepted) {N : ℕ} {B C : List ℤ} 
         settles t a root-node F root-oldest 0 (subst (Children t (nodeAt (nodesOf t) 0 .words) 0) (sym e) root-stretch)
         (λ j l. middle-field t 0 k j 1 (omega arith) (lit< tt)) root-slot refl
 
-    pub root-tried : {load : ℤ} {placed : Bool} {B′ C′ : List ℤ} {I′ : List ℕ} → load ≡ pos (rowsOf t)
-        → NodePlaced N (placedNodes t 0 .base) (placedNodes t 0 .check) (partRows t 0 k) 0 (negsuc 0) load (take k W) placed B′ C′ I′
-        → Tried t N (placedNodes t 1) placed B′ C′ (back 0 k W I′)
+    pub root-tried : {load : ℤ} {r : ℕ} {B′ C′ : List ℤ} {I′ : List ℕ} → load ≡ pos (rowsOf t)
+        → NodePlaced N (placedNodes t 0 .base) (placedNodes t 0 .check) (partRows t 0 k) 0 (negsuc 0) load 1 (take k W) r B′ C′ I′
+        → Tried t N (placedNodes t 1) r B′ C′ (back 0 k W I′)
     unfolding rootOf
     root-tried e D =
-        tried t a root-node F root-oldest
+        tried t a root-node F root-oldest (sym (first-top t))
         root-slot (ap (λ (n : Node). negsuc (n .cost)) (sym (nodeAt-root t))) (e ∙ ap (λ (n : Node). n .load) (sym (nodeAt-root t))) D
         0 k root-stretch refl (λ j l. middle-field t 0 k j 1 l (lit< tt))
 
@@ -309,13 +306,13 @@ module _ (t : List ℤ) (a : verdict t ≡ Accepted) (i : ℕ) (l : i < rowsOf t
         settles t a row-in-nodes F row-oldest from (subst (Children t (nodeAt (nodesOf t) (i + 1) .words) from) (sym n) row-stretch)
         (λ j l. middle-field t from (to - from) j 1 (omega arith) (lit< tt)) (row-slot s e) (ap isLink f ∙ mark-apart t a i l)
 
-    pub row-tried : {s : ℕ} {mark load : ℤ} {placed : Bool} {B′ C′ : List ℤ} {I′ : List ℕ}
-        → s ≡ getD W i 0 / 2 → mark ≡ markerCheck (probabilityAt t i) → load ≡ markerBase (backoffAt t i) (ltb from to) (eqb (getD W i 0 % 2) 1)
-        → NodePlaced N (placedNodes t (i + 1) .base) (placedNodes t (i + 1) .check) (partRows t from (to - from)) s mark load (take (to - from) (drop from W)) placed B′ C′ I′
-        → Tried t N (placedNodes t (i + 2)) placed B′ C′ (back from (to - from) W I′)
-    row-tried {s} e f g D =
+    pub row-tried : {s : ℕ} {mark load : ℤ} {top r : ℕ} {B′ C′ : List ℤ} {I′ : List ℕ}
+        → top ≡ placedNodes t (i + 1) .top → s ≡ getD W i 0 / 2 → mark ≡ markerCheck (probabilityAt t i) → load ≡ markerBase (backoffAt t i) (ltb from to) (eqb (getD W i 0 % 2) 1)
+        → NodePlaced N (placedNodes t (i + 1) .base) (placedNodes t (i + 1) .check) (partRows t from (to - from)) s mark load top (take (to - from) (drop from W)) r B′ C′ I′
+        → Tried t N (placedNodes t (i + 2)) r B′ C′ (back from (to - from) W I′)
+    row-tried {s} o e f g D =
         let two : i + 2 ≡ suc (i + 1) = omega arith in
         rw two
-        (tried t a row-in-nodes F row-oldest
+        (tried t a row-in-nodes F row-oldest o
         (row-slot s e) (f ∙ row-mark) (g ∙ row-load (ltb from to) (stretch-extended t i from to S)) D
         from (to - from) row-stretch refl (λ j h. middle-field t from (to - from) j 1 h (lit< tt)))

@@ -1,11 +1,9 @@
 -- What the steps of a build ask of each other and promise each other. While the nodes are placed, a row's work item is twice its node's slot, 0 where it
 -- has none yet, plus its f. Assumes nothing.
 use mathlib.Core.Path.{_≡_}
-use mathlib.Core.Logic.{_≢_}
 use mathlib.Core.Bool.{Bool, true, false, cond}
 use mathlib.Core.List.{List, _∷_, map}
-use Prim.Native.Nat.{ℕ, _+_, _*_, _/_, _%_, _≤_, _<_, min}
-use lib.Dec.{leb}
+use Prim.Native.Nat.{ℕ, suc, _+_, _*_, _/_, _%_, _≤_, _<_, max, min}
 use lib.IntN.{ℤ, pos}
 use lib.ListN.{length, getD, take, replicate}
 use Rattle.integer.specs.Integer.{between}
@@ -16,7 +14,7 @@ use Rattle.list.specs.Table.{rowsOf, field, orderOf, wordOf, words}
 use Rattle.list.specs.Check.{verdict}
 use Rattle.list.specs.ListModel.{continuedBelow, continuedIn}
 use Rattle.placing.specs.Placing.{Room, Placed, isFree, isOpen, allOpen, firstFit, update, own, reach, placeAll, unplaced}
-use Rattle.free_slots.specs.Ring.{isLink, Linked, LinksRun}
+use Rattle.free_slots.specs.Chain.{isLink, Linked, LinksRun}
 use Rattle.build.specs.ListTrie.{nodesOf, oldestFrom}
 
 -- what refusals 1 to 9 leave, the work items cut to the rows
@@ -42,10 +40,10 @@ pub record ChildRows (rows : List ℤ) : Type 0 where
 abbrev pub oldestOf : List ℤ → List ℕ
 oldestOf rows = oldestFrom rows 0 (rowsOf rows)
 
--- none of them is word 0, and no two are one word
-pub record Apart (rows : List ℤ) : Type 0 where
+-- none of them is word 0, and they rise
+pub record Rising (rows : List ℤ) : Type 0 where
   pub positive : (k : ℕ) → k < rowsOf rows → 1 ≤ wordOf (field rows k 1)
-  pub distinct : (j k : ℕ) → j < k → k < rowsOf rows → wordOf (field rows j 1) ≢ wordOf (field rows k 1)
+  pub rising : (j k : ℕ) → j < k → k < rowsOf rows → wordOf (field rows j 1) < wordOf (field rows k 1)
 
 -- the d of a node with these children, where no slot from N on is taken, and whether they lie behind it
 abbrev pub fitOf : ℕ → Room → List ℤ → ℕ
@@ -54,15 +52,17 @@ fitOf N c rows = firstFit c (oldestOf rows) N
 abbrev pub sideOf : ℕ → Room → List ℤ → Bool
 sideOf N c rows = allOpen c true (fitOf N c rows) (oldestOf rows)
 
--- what a search along the ring finds: d, and whether the children lie behind it, where d lies below slot N, and N where it does not
+-- what a search along the chain finds: d, and whether the children lie behind it, where d lies below slot N, and N where it does not
 pub record FoundFit (N : ℕ) (c : Room) (rows : List ℤ) (d : ℕ) (behind : Bool) : Type 0 where
   pub d-is : d ≡ min (fitOf N c rows) N
   pub side-is : d < N → behind ≡ sideOf N c rows
 
--- where d itself is open, testing the slot of word w before those of the children changes nothing
-pub record TestedFirst (rows : List ℤ) (w : ℕ) : Type 0 where
+-- the word of the last child, 0 where there is none: where d itself is open, testing its slot before those of the children changes nothing, and none of them
+-- lies farther ahead
+pub record LastWord (rows : List ℤ) (w : ℕ) : Type 0 where
   pub word : w ≤ wordLimit
   pub same : (c : Room) (behind : Bool) (d : ℕ) → isOpen c d ≡ true → allOpen c behind d (oldestOf rows) ≡ allOpen c behind d (w ∷ oldestOf rows)
+  pub farthest : Rising rows → (top d : ℕ) → reach top false d (oldestOf rows) ≡ max top (suc (d + w))
 
 -- what lies behind d for these children are slots
 pub record ChildSlots (behind : Bool) (d : ℕ) (rows : List ℤ) : Type 0 where
@@ -74,7 +74,7 @@ pub record Settles (N : ℕ) (b c : Room) (base check rows : List ℤ) (s : ℕ)
   pub inside : s < N
   pub taken : isFree (c s) ≡ false
   pub apart : isLink mark ≡ false
-  pub children : Apart rows
+  pub children : Rising rows
 
 -- it can take d, with its children behind it or ahead
 pub record Fitting (N : ℕ) (c : Room) (rows : List ℤ) (behind : Bool) (d : ℕ) : Type 0 where
@@ -88,11 +88,12 @@ pub record Given (behind : Bool) (d : ℕ) (rows : List ℤ) (items items′ : L
   pub same-length : length items′ ≡ length items
   pub item : (k : ℕ) → k < length items → getD items′ k 0 ≡ 2 * childSlot behind d (wordOf (field rows k 1)) + getD items k 0 % 2
 
--- the node in slot s, whose marker holds `mark` and `load`, takes its d, with its children on the side found, unless it reaches past the end
-pub record NodePlaced (N : ℕ) (b c : Room) (rows : List ℤ) (s : ℕ) (mark load : ℤ) (items : List ℕ) (placed : Bool) (base′ check′ : List ℤ) (items′ : List ℕ) : Type 0 where
-  pub answer : placed ≡ leb (reach 0 (sideOf N c rows) (fitOf N c rows) (oldestOf rows)) N
-  pub linked : placed ≡ true → Linked N (update (update b (fitOf N c rows) load) s (pos (fitOf N c rows))) (update (own (sideOf N c rows) (fitOf N c rows) s (oldestOf rows) c) (fitOf N c rows) mark) base′ check′
-  pub given : placed ≡ true → Given (sideOf N c rows) (fitOf N c rows) rows items items′
+-- the node in slot s, whose marker holds `mark` and `load`, takes its d, with its children on the side found, unless it reaches past the end. The answer r is
+-- one more than the highest slot used, or both are above N
+pub record NodePlaced (N : ℕ) (b c : Room) (rows : List ℤ) (s : ℕ) (mark load : ℤ) (top : ℕ) (items : List ℕ) (r : ℕ) (base′ check′ : List ℤ) (items′ : List ℕ) : Type 0 where
+  pub answer : min r (suc N) ≡ min (reach top (sideOf N c rows) (fitOf N c rows) (oldestOf rows)) (suc N)
+  pub linked : r ≤ N → Linked N (update (update b (fitOf N c rows) load) s (pos (fitOf N c rows))) (update (own (sideOf N c rows) (fitOf N c rows) s (oldestOf rows) c) (fitOf N c rows) mark) base′ check′
+  pub given : r ≤ N → Given (sideOf N c rows) (fitOf N c rows) rows items items′
 
 -- ---- the nodes one by one
 
@@ -118,10 +119,10 @@ pub record Filled (t : List ℤ) (N : ℕ) (P : Placed) (base check : List ℤ) 
   pub each : length items ≡ rowsOf t
   pub item : (j : ℕ) → j < rowsOf t → getD items j 0 ≡ itemOf (P .slot (words t j)) (continuedIn t (words t j))
 
--- P is tried: the answer says whether it has room, and where it has, the slices hold it
-pub record Tried (t : List ℤ) (N : ℕ) (P : Placed) (placed : Bool) (base check : List ℤ) (items : List ℕ) : Type 0 where
-  pub answer : placed ≡ leb (P .top) N
-  pub filled : placed ≡ true → Filled t N P base check items
+-- P is tried: the answer r is its top, or both are above N, and where P has room, the slices hold it
+pub record Tried (t : List ℤ) (N : ℕ) (P : Placed) (r : ℕ) (base check : List ℤ) (items : List ℕ) : Type 0 where
+  pub answer : min r (suc N) ≡ min (P .top) (suc N)
+  pub filled : r ≤ N → Filled t N P base check items
 
 -- the items without their f
 unfoldable pub halved : List ℕ → List ℕ

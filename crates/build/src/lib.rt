@@ -2,20 +2,20 @@
 ghost use mathlib.Core.Path.{_≡_};
 ghost use mathlib.Core.Bool.{true};
 ghost use mathlib.Core.List.{List};
-ghost use Prim.Native.Nat.{ℕ, _+_, _/_, _%_, _≤_, _<_};
-ghost use lib.Dec.{eqb, leb};
+ghost use Prim.Native.Nat.{ℕ, _+_, _/_, _%_, _≤_, _<_, max};
+ghost use lib.Dec.{eqb};
 ghost use lib.IntN.{ℤ, pos};
 ghost use lib.ListN.{length, replicate};
 ghost use Rattle.backoff.specs.Limits.{wordLimit, slotLimit};
 ghost use Rattle.backoff.specs.declared.Verdict.the-variants.{Accepted};
-ghost use Rattle.double_array.specs.DoubleArray.{headCheck, markerCheck, markerBase, childSlot};
+ghost use Rattle.double_array.specs.DoubleArray.{freeCheck, headCheck, markerCheck, markerBase, childSlot};
 ghost use Rattle.list.specs.Table.{rowsOf, field, probabilityAt, backoffAt, orderOf, wordOf};
 ghost use Rattle.list.specs.Check.{verdict};
 ghost use Rattle.placing.specs.Placing.{Room, isOpen, update, own, reach};
-ghost use Rattle.free_slots.specs.Ring.{Linked, Unlinked, Ring};
+ghost use Rattle.free_slots.specs.Chain.{Linked, Unlinked, Chain};
 ghost use Rattle.build.specs.ListTrie.{OneWordRows, placedList};
 ghost use Rattle.build.specs.Build.{checkedBuild, buildOutcome, IsBuilt, BuildMeans};
-ghost use Rattle.build.specs.Steps.{Passed, Wiped, ChildRows, oldestOf, FoundFit, TestedFirst, ChildSlots, Settles, Fitting, Given, NodePlaced, Flagged, placedNodes, Filled, Tried, halved};
+ghost use Rattle.build.specs.Steps.{Passed, Wiped, ChildRows, oldestOf, Rising, FoundFit, LastWord, ChildSlots, Settles, Fitting, Given, NodePlaced, Flagged, placedNodes, Filled, Tried, halved};
 use backoff::Verdict;
 
 // A node to be placed: its slot, and what its marker holds as CHECK and as BASE.
@@ -52,7 +52,7 @@ fn is_open_behind(check: &[i32], d: usize, w: usize) -> bool
 // The word of the child that most often does not fit, the last: 0 where there is none.
 fn last_word(rows: &[i32]) -> usize
     requires { ⌜ ChildRows (now rows) ⌝ }
-    ensures { λ r. ⌜ TestedFirst (now (rows .entry)) r ⌝ }
+    ensures { λ r. ⌜ LastWord (now (rows .entry)) r ⌝ }
 {
     let count = rows.len() / 8;
     if count == 0 {
@@ -64,7 +64,7 @@ fn last_word(rows: &[i32]) -> usize
 // The smallest d for which d and all the children's slots, behind it or else ahead, are free; slots past the end count as free. Where it is none of the
 // slots, their number. On either side the last child is tried first.
 fn first_fit(base: &[i32], check: &[i32], rows: &[i32]) -> Fit
-    requires { ⌜ ChildRows (now rows) × Ring (now base) (now check) ⌝ }
+    requires { ⌜ ChildRows (now rows) × Chain (now base) (now check) ⌝ }
     ensures { λ r. ⌜ ((N : ℕ) (b c : Room) → Linked N b c (now (base .entry)) (now (check .entry)) → FoundFit N c (now (rows .entry)) (r .d) (r .behind)) ⌝ }
 {
     let count = rows.len() / 8;
@@ -72,11 +72,8 @@ fn first_fit(base: &[i32], check: &[i32], rows: &[i32]) -> Fit
     let mut d = 0;
     'free: loop {
         d = free_slots::next(base, d);
-        if d == 0 {
-            break Fit {
-                d: check.len(),
-                behind: false,
-            };
+        if d == check.len() {
+            break Fit { d, behind: false };
         }
         let mut w = last;
         let mut k = 0;
@@ -105,26 +102,25 @@ fn first_fit(base: &[i32], check: &[i32], rows: &[i32]) -> Fit
     }
 }
 
-// Whether d and all the children's slots lie below n, as those behind d do where d does.
-fn within(rows: &[i32], behind: bool, d: usize, n: usize) -> bool
-    requires { ⌜ ChildRows (now rows) × (n ≤ slotLimit) ⌝ }
-    ensures { λ r. ⌜ r ≡ leb (reach 0 behind d (oldestOf (now (rows .entry)))) n ⌝ }
+// The larger one of two numbers.
+fn larger(a: usize, b: usize) -> usize
+    ensures { λ r. ⌜ r ≡ max a b ⌝ }
 {
-    if n <= d {
-        return false;
+    if a < b {
+        return b;
     }
+    a
+}
+
+// One more than the highest slot used, `top` so far, once a node takes d. Ahead of d its last child lies farthest, and behind d all lie below it.
+fn new_top(rows: &[i32], behind: bool, d: usize, top: usize) -> usize
+    requires { ⌜ ChildRows (now rows) × Rising (now rows) × (d ≤ slotLimit) ⌝ }
+    ensures { λ r. ⌜ r ≡ reach top behind d (oldestOf (now (rows .entry))) ⌝ }
+{
     if behind {
-        return true;
+        return larger(top, d + 1);
     }
-    let count = rows.len() / 8;
-    let mut k = 0;
-    while k < count {
-        if n <= d + oldest_word(rows, k) {
-            return false;
-        }
-        k += 1;
-    }
-    true
+    larger(top, d + last_word(rows) + 1)
 }
 
 // The node takes d: its children's slots get its own as CHECK, and d its marker.
@@ -159,25 +155,28 @@ fn give_slots(work: &mut [u32], rows: &[i32], behind: bool, d: usize)
     }
 }
 
-// Places a node, its children's rows and their work items in hand. Answers whether it has room.
+// Places a node, its children's rows and their work items in hand. Answers one more than the highest slot used, `top` so far; where the node has no room,
+// a number above that of the slots.
 fn place_node(
     base: &mut [i32],
     check: &mut [i32],
     rows: &[i32],
     work: &mut [u32],
     node: Node,
-) -> bool
+    top: usize,
+) -> usize
     requires { ⌜ ChildRows (now rows) × (length (now work) ≡ rowsOf (now rows)) ⌝ }
     requires { ⌜ ((N : ℕ) × (b : Room) × (c : Room) × Settles N b c (now base) (now check) (now rows) (node .slot) (node .mark)) ⌝ }
-    ensures { λ r. ⌜ ((N : ℕ) (b c : Room) → Settles N b c (now (base .entry)) (now (check .entry)) (now (rows .entry)) (node .slot) (node .mark) → NodePlaced N b c (now (rows .entry)) (node .slot) (node .mark) (node .load) (now (work .entry)) r (now (base .exit)) (now (check .exit)) (now (work .exit))) ⌝ }
+    ensures { λ r. ⌜ ((N : ℕ) (b c : Room) → Settles N b c (now (base .entry)) (now (check .entry)) (now (rows .entry)) (node .slot) (node .mark) → NodePlaced N b c (now (rows .entry)) (node .slot) (node .mark) (node .load) top (now (work .entry)) r (now (base .exit)) (now (check .exit)) (now (work .exit))) ⌝ }
 {
     let Fit { d, behind } = first_fit(base, check, rows);
-    if !within(rows, behind, d, check.len()) {
-        return false;
+    let reached = new_top(rows, behind, d, top);
+    if check.len() < reached {
+        return reached;
     }
     settle(base, check, rows, node, behind, d);
     give_slots(work, rows, behind, d);
-    true
+    reached
 }
 
 // The node of row i, whose work item holds its slot and f; it is extended or not.
@@ -192,7 +191,7 @@ fn row_node(table: &[i32], i: usize, item: u32, extended: bool) -> Node
     }
 }
 
-// Places the node of row i, whose children's rows are soonest found from `near` on. Answers whether it has room.
+// Places the node of row i, whose children's rows are soonest found from `near` on. Answers the new top.
 fn place_row(
     table: &[i32],
     i: usize,
@@ -200,8 +199,9 @@ fn place_row(
     check: &mut [i32],
     work: &mut [u32],
     near: usize,
-) -> bool
-    requires { ⌜ (verdict (now table) ≡ Accepted) × (i < rowsOf (now table)) ⌝ }
+    top: usize,
+) -> usize
+    requires { ⌜ (verdict (now table) ≡ Accepted) × (i < rowsOf (now table)) × (top ≡ placedNodes (now table) (i + 1) .top) ⌝ }
     requires { ⌜ Filled (now table) (length (now check)) (placedNodes (now table) (i + 1)) (now base) (now check) (now work) ⌝ }
     ensures { λ r. ⌜ Tried (now (table .entry)) (length (now (check .entry))) (placedNodes (now (table .entry)) (i + 2)) r (now (base .exit)) (now (check .exit)) (now (work .exit)) ⌝ }
 {
@@ -209,7 +209,14 @@ fn place_row(
     let node = row_node(table, i, work[i], from < to);
     let first = 8 * from;
     let end = 8 * to;
-    place_node(base, check, &table[first..end], &mut work[from..to], node)
+    place_node(
+        base,
+        check,
+        &table[first..end],
+        &mut work[from..to],
+        node,
+        top,
+    )
 }
 
 // The number of rows with one word.
@@ -228,8 +235,8 @@ fn one_word_rows(table: &[i32]) -> usize
     k
 }
 
-// Places the root. Answers whether it has room.
-fn place_root(table: &[i32], base: &mut [i32], check: &mut [i32], work: &mut [u32]) -> bool
+// Places the root. Answers the top.
+fn place_root(table: &[i32], base: &mut [i32], check: &mut [i32], work: &mut [u32]) -> usize
     requires { ⌜ verdict (now table) ≡ Accepted ⌝ }
     requires { ⌜ Filled (now table) (length (now check)) (placedNodes (now table) 0) (now base) (now check) (now work) ⌝ }
     ensures { λ r. ⌜ Tried (now (table .entry)) (length (now (check .entry))) (placedNodes (now (table .entry)) 1) r (now (base .exit)) (now (check .exit)) (now (work .exit)) ⌝ }
@@ -241,7 +248,7 @@ fn place_root(table: &[i32], base: &mut [i32], check: &mut [i32], work: &mut [u3
         mark: -1,
         load: work.len() as i32,
     };
-    place_node(base, check, &table[..end], &mut work[..k], node)
+    place_node(base, check, &table[..end], &mut work[..k], node, 1)
 }
 
 // The first row from j on whose node has no slot yet: where the children of the next node stand.
@@ -256,34 +263,43 @@ fn next_without_slot(work: &[u32], j: usize) -> usize {
     k
 }
 
-// Places the nodes of the rows, one by one. Answers whether they have room.
-fn place_rows(table: &[i32], base: &mut [i32], check: &mut [i32], work: &mut [u32]) -> bool
-    requires { ⌜ verdict (now table) ≡ Accepted ⌝ }
+// Places the nodes of the rows, one by one, as long as they have room. Answers the new top.
+fn place_rows(
+    table: &[i32],
+    base: &mut [i32],
+    check: &mut [i32],
+    work: &mut [u32],
+    top: usize,
+) -> usize
+    requires { ⌜ (verdict (now table) ≡ Accepted) × (top ≡ placedNodes (now table) 1 .top) ⌝ }
     requires { ⌜ Filled (now table) (length (now check)) (placedNodes (now table) 1) (now base) (now check) (now work) ⌝ }
     ensures { λ r. ⌜ Tried (now (table .entry)) (length (now (check .entry))) (placedList (now (table .entry))) r (now (base .exit)) (now (check .exit)) (now (work .exit)) ⌝ }
 {
+    let mut top = top;
     let mut near = 0;
     let mut i = 0;
     while i < work.len() {
         near = next_without_slot(work, near);
-        if !place_row(table, i, base, check, work, near) {
-            return false;
+        top = place_row(table, i, base, check, work, near, top);
+        if check.len() < top {
+            return top;
         }
         i += 1;
     }
-    true
+    top
 }
 
-// Places the root and the rows. Answers whether they have room.
-fn place_nodes(table: &[i32], base: &mut [i32], check: &mut [i32], work: &mut [u32]) -> bool
+// Places the root and the rows, as long as they have room. Answers the top.
+fn place_nodes(table: &[i32], base: &mut [i32], check: &mut [i32], work: &mut [u32]) -> usize
     requires { ⌜ verdict (now table) ≡ Accepted ⌝ }
     requires { ⌜ Filled (now table) (length (now check)) (placedNodes (now table) 0) (now base) (now check) (now work) ⌝ }
     ensures { λ r. ⌜ Tried (now (table .entry)) (length (now (check .entry))) (placedList (now (table .entry))) r (now (base .exit)) (now (check .exit)) (now (work .exit)) ⌝ }
 {
-    if !place_root(table, base, check, work) {
-        return false;
+    let top = place_root(table, base, check, work);
+    if check.len() < top {
+        return top;
     }
-    place_rows(table, base, check, work)
+    place_rows(table, base, check, work, top)
 }
 
 // Frees all slots and empties the work items.
@@ -337,18 +353,17 @@ fn prepare(table: &[i32], base: &mut [i32], check: &mut [i32], work: &mut [u32])
     requires { ⌜ Passed (now table) (now base) (now check) (now work) ⌝ }
     ensures { λ _. ⌜ Filled (now (table .entry)) (length (now (check .entry))) (placedNodes (now (table .entry)) 0) (now (base .exit)) (now (check .exit)) (now (work .exit)) ⌝ }
 {
-    free_slots::link_all(base, check);
-    double_array::zero(work);
+    wipe(base, check, work);
     mark_continued(table, work);
 }
 
-// Takes the links out. The root's d is 1, and CHECK[0] tells the order.
-fn finish(table: &[i32], base: &mut [i32], check: &mut [i32])
-    requires { ⌜ (verdict (now table) ≡ Accepted) × Ring (now base) (now check) ⌝ }
-    ensures { λ _. ⌜ ((N : ℕ) (b c : Room) → Linked N b c (now (base .entry)) (now (check .entry)) → Unlinked N (update b 0 (pos 1)) (update c 0 (headCheck (orderOf (now (table .entry))))) (now (base .exit)) (now (check .exit))) ⌝ }
+// Takes the links out, where no slot from `top` on is taken. The root's d is 1, and CHECK[0] tells the order.
+fn finish(table: &[i32], base: &mut [i32], check: &mut [i32], top: usize)
+    requires { ⌜ (verdict (now table) ≡ Accepted) × Chain (now base) (now check) ⌝ }
+    ensures { λ _. ⌜ ((N : ℕ) (b c : Room) → Linked N b c (now (base .entry)) (now (check .entry)) → ((t : ℕ) → top ≤ t → c t ≡ freeCheck) → Unlinked N (update b 0 (pos 1)) (update c 0 (headCheck (orderOf (now (table .entry))))) (now (base .exit)) (now (check .exit))) ⌝ }
 {
     let order = list::length_of(table, table.len() / 8 - 1);
-    free_slots::unlink_all(base, check, 1, double_array::head_check(order));
+    free_slots::unlink_all(base, check, top, 1, double_array::head_check(order));
 }
 
 // Builds the array of an accepted list, whose work items are in hand.
@@ -357,8 +372,9 @@ fn place_list(table: &[i32], base: &mut [i32], check: &mut [i32], work: &mut [u3
     ensures { λ r. ⌜ IsBuilt (checkedBuild (now (table .entry)) (now (base .entry)) (now (check .entry)) (now (work .entry)) Accepted) r (now (base .exit)) (now (check .exit)) (now (work .exit)) ⌝ }
 {
     prepare(table, base, check, work);
-    if place_nodes(table, base, check, work) {
-        finish(table, base, check);
+    let top = place_nodes(table, base, check, work);
+    if top <= check.len() {
+        finish(table, base, check, top);
         halve(work);
         return Verdict::Accepted;
     }

@@ -7,15 +7,15 @@ use Prim.Native.Nat.{ℕ, zero, suc, _+_, _-_, _≤_, _<_}
 use native.Mathlib.Omega.{arith}
 use native.Mathlib.Decide.{ℕ-discrete}
 use lib.IntN.{ℤ, pos, natAbs, _-ℤ_}
-use lib.ListN.{getD}
-use borrow.Author.Tests.{ne-eqb}
+use lib.ListN.{length, getD}
+use borrow.Author.Tests.{ne-eqb, lt-ltb, le-ltb}
 use Rattle.integer.proofs.Arithmetic.{zarith, add, sub}
 use Rattle.double_array.specs.DoubleArray.{freeCheck}
 use Rattle.placing.specs.Placing.{Room, isFree}
-use Rattle.free_slots.specs.Ring.{freeFrom, nextFree, lastFree, wrapped, linkTo, Linked, freeSlots, upFrom, downFrom, LinksRun}
+use Rattle.free_slots.specs.Chain.{freeFrom, nextFree, lastFree, inChain, takenBelow, linkCheck, Linked, freeSlots, above, below, upFrom, downFrom, LinksRun}
 use Rattle.free_slots.proofs.Neighbours.{next-first, Last, lastFree-last}
-use Rattle.free_slots.proofs.Taking.{ring-head, ring-slot, wrapped-end, wrapped-slot, unwrapped-head, unwrapped-slot}
-use Rattle.free_slots.proofs.Ring.{up-link, down-link}
+use Rattle.free_slots.proofs.Taking.{chain-head, chain-slot}
+use Rattle.free_slots.proofs.Chain.{linked-base-length, up-link, down-link}
 
 -- no free slot lies before the first one
 freeSlots-first : (c : Room) (k t n : ℕ) → t + k ≡ n → freeSlots c k t ≡ freeSlots c (n - freeFrom c k t) (freeFrom c k t)
@@ -35,38 +35,34 @@ freeSlots-next N c t l h =
     rw (p, h) (ap (λ (r : List ℕ). t ∷ r) (freeSlots-first c (N - suc t) (suc t) N (omega arith)))
 
 module _ {N : ℕ} {b c : Room} {base check : List ℤ} (L : Linked N b c base check) where
+  -- a link of BASE leads to the next free slot
+  leads-up : (t : ℕ) → t < N → inChain c t ≡ true → above base t ≡ nextFree N c t
+  leads-up t l h = omega (arith, ap natAbs (up-link L t l h), next-first c N t l .from)
+
   -- from a free slot u, or above the last slot
-  following : (k u : ℕ) → 1 ≤ u → u ≤ N → (u < N → isFree (c u) ≡ true) → N < u + k → upFrom base k (wrapped N u) ≡ freeSlots c (N - u) u
+  following : (k u : ℕ) → 1 ≤ u → u ≤ N → (u < N → isFree (c u) ≡ true) → N < u + k → upFrom base k u ≡ freeSlots c (N - u) u
   unfolding upFrom freeSlots
   following zero u p w h m = absurd (omega arith)
   following (suc k) u p w h m = go (ℕ-discrete u N) (λ l. following k (nextFree N c u) (omega (arith, next-first c N u l .from)) (next-first c N u l .within) (next-first c N u l .hit) (omega (arith, next-first c N u l .from)))
     where
-      go : Dec (u ≡ N) → (u < N → upFrom base k (wrapped N (nextFree N c u)) ≡ freeSlots c (N - nextFree N c u) (nextFree N c u))
-          → upFrom base (suc k) (wrapped N u) ≡ freeSlots c (N - u) u
+      go : Dec (u ≡ N) → (u < N → upFrom base k (nextFree N c u) ≡ freeSlots c (N - nextFree N c u) (nextFree N c u)) → upFrom base (suc k) u ≡ freeSlots c (N - u) u
       go (yes e) r =
-          let head : wrapped N u ≡ 0 = ap (wrapped N) e ∙ wrapped-end N in
           let none : N - u ≡ 0 = omega arith in
-          rw (head, none)
+          rw (le-ltb u (length base) (omega (arith, linked-base-length L)), none)
       go (no e) r =
           let l : u < N = omega arith in
           let free = h l in
-          let here : wrapped N u ≡ u = wrapped-slot N u e in
-          let link : getD base u (pos 0) ≡ pos (wrapped N (nextFree N c u)) = up-link L u l (ring-slot c u p ∙ free) in
-          rw (here, ne-eqb u 0 (λ q. absurd (omega arith)), link, r l) (sym (freeSlots-next N c u l free))
+          rw (lt-ltb u (length base) (omega (arith, linked-base-length L)))
+          (ap (λ (x : ℕ). u ∷ upFrom base k x) (leads-up u l (chain-slot c u p ∙ free)) ∙ ap (λ (x : List ℕ). u ∷ x) (r l) ∙ sym (freeSlots-next N c u l free))
 
-  runs-up : upFrom base N (natAbs (getD base 0 (pos 0))) ≡ freeSlots c (N - 1) 1
+  runs-up : upFrom base N (above base 0) ≡ freeSlots c (N - 1) 1
   runs-up =
       let f = next-first c N 0 (L .size .0) in
-      let link : getD base 0 (pos 0) ≡ pos (wrapped N (nextFree N c 0)) = up-link L 0 (L .size .0) (ring-head c) in
-      ap (λ (z : ℤ). upFrom base N (natAbs z)) link
+      ap (upFrom base N) (leads-up 0 (L .size .0) (chain-head c))
       ∙ following N (nextFree N c 0) (f .from) (f .within) (f .hit) (omega (arith, f .from))
       ∙ sym (freeSlots-first c (N - 1) 1 N (omega (arith, L .size .0)))
 
 -- ---- back
-
--- a link of CHECK, read
-link-read : (u : ℕ) → natAbs (linkTo u -ℤ freeCheck) ≡ u
-link-read u = let e : linkTo u -ℤ freeCheck ≡ pos u = omega (zarith, add freeCheck (pos u), sub (linkTo u) freeCheck) in ap natAbs e
 
 freeSlots-append : (c : Room) (a b t : ℕ) → freeSlots c (a + b) t ≡ freeSlots c a t ++ freeSlots c b (t + a)
 unfolding freeSlots
@@ -103,6 +99,13 @@ freeSlots-no-last : (c : Room) (u : ℕ) → 1 ≤ u → lastFree c u ≡ 0 → 
 freeSlots-no-last c u l e = freeSlots-none c (u - 1) 1 (λ x a b. lastFree-last c u l .gap x (omega arith) (omega arith))
 
 module _ {N : ℕ} {b c : Room} {base check : List ℤ} (L : Linked N b c base check) where
+  -- a link of CHECK leads to the free slot before
+  leads-down : (t : ℕ) → 1 ≤ t → t < N → isFree (c t) ≡ true → below check t ≡ lastFree c t
+  leads-down t p l h = omega (arith, link-read (getD check t (pos 0)) (takenBelow c t) (down-link L t l (chain-slot c t p ∙ h)), lastFree-last c t p .below)
+    where
+      link-read : (z : ℤ) (k : ℕ) → z ≡ linkCheck k → natAbs (z -ℤ freeCheck) ≡ k
+      link-read z k e = let d : z -ℤ freeCheck ≡ pos k = omega (zarith, add freeCheck (pos k), sub z freeCheck) in ap natAbs d
+
   going-back : (k u : ℕ) → 1 ≤ u → u ≤ N → u ≤ k → downFrom check k (lastFree c u) ≡ reverse (freeSlots c (u - 1) 1)
   unfolding downFrom
   going-back zero u p w m = absurd (omega arith)
@@ -117,19 +120,9 @@ module _ {N : ℕ} {b c : Room} {base check : List ℤ} (L : Linked N b c base c
       go (no e) r =
           let v = lastFree c u in
           let q : 1 ≤ v = omega arith in
-          let free = f .hit q in
-          let link : getD check v (pos 0) ≡ linkTo (lastFree c v) =
-          down-link L v (omega (arith, f .below)) (ring-slot c v q ∙ free) ∙ ap (λ (x : ℕ). linkTo (lastFree c x)) (unwrapped-slot N v q) in
-          let back : natAbs (getD check v (pos 0) -ℤ freeCheck) ≡ lastFree c v = ap (λ (z : ℤ). natAbs (z -ℤ freeCheck)) link ∙ link-read (lastFree c v) in
           rw (ne-eqb v 0 e)
-          (ap (λ (x : ℕ). v ∷ downFrom check k x) back ∙ ap (λ (l : List ℕ). v ∷ l) (r q)
+          (ap (λ (x : ℕ). v ∷ downFrom check k x) (leads-down v q (omega (arith, f .below)) (f .hit q)) ∙ ap (λ (l : List ℕ). v ∷ l) (r q)
           ∙ sym (ap reverse (freeSlots-last c u p e) ∙ reverse-append (freeSlots c (v - 1) 1) (v ∷ [])))
 
   pub links-run-through-the-free-slots : LinksRun N c base check
-  links-run-through-the-free-slots = record { up = runs-up L; down = down }
-    where
-      down : downFrom check N (natAbs (getD check 0 (pos 0) -ℤ freeCheck)) ≡ reverse (freeSlots c (N - 1) 1)
-      down =
-          let link : getD check 0 (pos 0) ≡ linkTo (lastFree c N) = down-link L 0 (L .size .0) (ring-head c) ∙ ap (λ (x : ℕ). linkTo (lastFree c x)) (unwrapped-head N) in
-          ap (λ (z : ℤ). downFrom check N (natAbs (z -ℤ freeCheck))) link ∙ ap (downFrom check N) (link-read (lastFree c N))
-          ∙ going-back N N (L .size .0) (omega arith) (omega arith)
+  links-run-through-the-free-slots = record { up = runs-up L; down = going-back N N (L .size .0) (omega arith) (omega arith) }

@@ -41,7 +41,7 @@ unfolding orderOf rowsOf
 head-is h = toZ-ofZ {w = w32} (sfits-of (h .head-check .ok)) ∙ h .head-check .ensures ∙ ap headCheck (h .before .before .before .length-of .ensures .0)
 
 returns : tie.Need-returns
-returns c N b room L = let u = c .before .before in rw (head-is (u .before)) at (u .unlink-all .ensures N b room L)
+returns c N b room L clear = let u = c .before .before in rw (head-is (u .before)) at (u .unlink-all .ensures N b room L clear)
 
 pub finish-spec : {M : Type 1} → statement M
 finish-spec =

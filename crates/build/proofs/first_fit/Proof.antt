@@ -1,4 +1,4 @@
--- Invariants: no slot of the ring up to d fits; the slots of the children passed are open on the side that is tried, so all are where those of word w and of the rest are.
+-- Invariants: no slot of the chain up to d fits; the slots of the children passed are open on the side that is tried, so all are where those of word w and of the rest are.
 use mathlib.Core.Path.{_≡_, sym, ap, _∙_, subst}
 use mathlib.Core.Bool.{Bool, true, false}
 use mathlib.Core.List.{List, _∷_}
@@ -13,9 +13,9 @@ use Rattle.double_array.specs.DoubleArray.{childSlot}
 use Rattle.list.specs.Table.{rowsOf}
 use Rattle.placing.specs.Placing.{Room, isFree, isOpen, allOpen, fits}
 use Rattle.placing.proofs.FirstFit.{open-yes, open-taken, sideAt, fits-yes, d-taken, sides-taken}
-use Rattle.free_slots.specs.Ring.{nextFree, wrapped, Linked}
-use Rattle.free_slots.proofs.Ring.{linked-base-length, linked-check-length}
-use Rattle.free_slots.proofs.Search.{Searched, PassedTo, passed-none, passed-next, passed-above, searched-free, fit-found, fit-not-found}
+use Rattle.free_slots.specs.Chain.{nextFree, Linked}
+use Rattle.free_slots.proofs.Chain.{linked-base-length, linked-check-length}
+use Rattle.free_slots.proofs.Search.{Searched, PassedTo, passed-none, passed-next, fit-found, fit-not-found}
 use Rattle.build.specs.ListTrie.{oldestFrom}
 use Rattle.build.specs.Steps.{oldestOf, FoundFit}
 use Rattle.build.proofs.OldestWords.{open-step, open-fails, open-end}
@@ -71,43 +71,43 @@ module _ (n : tie.After-next Inv-behind μ-behind Inv-loop μ-loop Inv-free μ-f
   passed : PassedTo N room (fits room (words start)) (n .before .free .d)
   passed = n .before .free .inv N b room L
 
-  -- where the ring leads
-  led : d ≡ wrapped N (nextFree N room (n .before .free .d))
+  -- where the chain leads
+  led : d ≡ nextFree N room (n .before .free .d)
   led = n .next .ensures N b room _ L (passed .inside) (passed .member)
 
   -- the search has come there
   come : Searched N room (fits room (words start)) d
   come = subst (Searched N room (fits room (words start))) (sym led) (passed .next)
 
-  module _ (p : 1 ≤ d) where
-    above : n .before .free .d < d
-    above = subst (λ (x : ℕ). n .before .free .d < x) (sym led) (passed-above N room (fits room (words start)) (d-taken room (words start)) passed (subst (λ (x : ℕ). 1 ≤ x) led p))
-
+  module _ (i : d < N) where
     less : length (now (start .args .base)) - d < length (now (start .args .base)) - n .before .free .d
-    less = omega (arith, linked-base-length L, above, come .inside)
+    less = omega (arith, linked-base-length L, led, passed .above)
 
     -- what the search does with d
     goes-on : fits room (words start) d ≡ false → PassedTo N room (fits room (words start)) d
-    goes-on h = passed-next N room (fits room (words start)) (d-taken room (words start)) come p h
+    goes-on h = passed-next N room (fits room (words start)) (d-taken room (words start)) come i h
 
     free : isFree (room d) ≡ true
-    free = searched-free N room (fits room (words start)) (d-taken room (words start)) come p
+    free = come .free i
 
     -- the last child's slot may be tested before all
     tested-first : (behind : Bool) → allOpen room behind d (words start) ≡ allOpen room behind d (n .before .before .last-word .result ∷ words start)
-    tested-first behind = n .before .before .last-word .ensures .same room behind d (open-yes room d p free)
+    tested-first behind = n .before .before .last-word .ensures .same room behind d (open-yes room d (come .positive) free)
 
     finds : (behind : Bool) → allOpen room behind d (words start) ≡ true → allOpen room true d (words start) ≡ behind → FoundFit N room (now (start .args .rows)) d behind
     finds behind h s =
-        let e = fit-found N room (words start) (L .past) come p (fits-yes room (words start) behind d free h) in
+        let e = fit-found N room (words start) (L .past) come i (fits-yes room (words start) behind d free h) in
         record { d-is = e; side-is = λ l. sym s ∙ ap (sideAt room (words start)) (omega (arith, e)) }
 
 -- d is a slot
+inside : (e : tie.Else1 Inv-behind μ-behind Inv-loop μ-loop Inv-free μ-free) {N : ℕ} {b room : Room} → Holds (e .before) N b room → e .before .next .result < N
+inside e L = omega (arith, e .if1 .left, come (e .before) L .within, linked-check-length L)
+
 positive : (e : tie.Else1 Inv-behind μ-behind Inv-loop μ-loop Inv-free μ-free) → 1 ≤ e .before .next .result
-positive e = omega (arith, e .if1 .left)
+positive e = come (e .before) (e .before .before .before .before .pre .1 .linked) .positive
 
 few : (n : tie.After-next Inv-behind μ-behind Inv-loop μ-loop Inv-free μ-free) → n .next .result ≤ slotLimit
-few n = let p = n .before .before .before .pre .1 in omega (arith, come n (p .linked) .inside, p .linked .size)
+few n = let p = n .before .before .before .pre .1 in omega (arith, come n (p .linked) .within, p .linked .size)
 
 -- ---- the pass behind d
 
@@ -116,7 +116,7 @@ unfolding rowsOf
 behind-holds c =
     let rows = now (c .before .before .before .before .args .rows) in
     let e : length rows / 8 - 0 ≡ length rows / 8 = omega arith in
-    (omega arith, λ N b room L. rw e (tested-first (c .before) L (positive c) true))
+    (omega arith, λ N b room L. rw e (tested-first (c .before) L (inside c L) true))
 
 is-open-behind-requires : tie.Need-is-open-behind-requires Inv-behind μ-behind Inv-loop μ-loop Inv-free μ-free
 is-open-behind-requires c κs = search needs
@@ -166,7 +166,7 @@ loop-holds c =
     let n = chosen c .before in
     let rows = now (n .before .before .before .args .rows) in
     let e : length rows / 8 - 0 ≡ length rows / 8 = omega arith in
-    (omega arith, n .before .before .last-word .ensures .word, λ N b room L. rw e (tested-first n L (positive (chosen c)) false))
+    (omega arith, n .before .before .last-word .ensures .word, λ N b room L. rw e (tested-first n L (inside (chosen c) L) false))
 
 add-is-free : tie.Need-add-is-free Inv-behind μ-behind Inv-loop μ-loop Inv-free μ-free
 add-is-free c = omega (arith, c .loop .inv .1, few (chosen (c .before) .before))
@@ -193,10 +193,10 @@ missed c {N} {b} {room} L =
     (c .before .before .loop .inv .2 N b room L ∙ open-fails _ _ _ _ _ _ _ (open-taken _ _ (tested (c .before) L ∙ not-true _ (c .if4 .taken))))
 
 free-less : tie.Need-free-less Inv-behind μ-behind Inv-loop μ-loop Inv-free μ-free
-free-less c = let e = chosen (gone (c .before)) in less (e .before) (e .before .before .before .before .pre .1 .linked) (positive e)
+free-less c = let e = chosen (gone (c .before)) in let L = e .before .before .before .before .pre .1 .linked in less (e .before) L (inside e L)
 
 free-again : tie.Need-free-again Inv-behind μ-behind Inv-loop μ-loop Inv-free μ-free
-free-again c N b room L = let e = chosen (gone (c .before)) in goes-on (e .before) L (positive e) (missed c L)
+free-again c N b room L = let e = chosen (gone (c .before)) in goes-on (e .before) L (inside e L) (missed c L)
 
 -- a child is left
 left-ahead : (e : tie.Else5 Inv-behind μ-behind Inv-loop μ-loop Inv-free μ-free) → let l = e .before .before .before in l .loop .k < length (now (start (chosen (l .before) .before) (chosen (l .before) .before .before .before .before .pre .1 .linked) .args .rows)) / 8
@@ -230,22 +230,23 @@ returns : tie.Need-returns Inv-behind μ-behind Inv-loop μ-loop Inv-free μ-fre
 returns c N b room L =
     let n = c .before in
     let ws = words (n .before .before .before) in
+    let last : n .next .result ≡ N = c .if1 .taken ∙ linked-check-length L in
     record {
-      d-is = linked-check-length L ∙ fit-not-found N room ws (L .past) (subst (Searched N room (fits room ws)) (c .if1 .taken) (come n L));
-      side-is = λ l. absurd (omega (arith, linked-check-length L));
+      d-is = last ∙ fit-not-found N room ws (L .past) (subst (Searched N room (fits room ws)) last (come n L));
+      side-is = λ l. absurd (omega arith);
     }
 
 returns-2 : tie.Need-returns-2 Inv-behind μ-behind Inv-loop μ-loop Inv-free μ-free
 returns-2 c N b room L =
     let l = c .before .before .before in
     let h = l .behind .inv .1 N b room L ∙ open-end _ _ _ _ _ _ _ (omega (arith, c .if3 .taken)) (tested-behind (c .before .before) L ∙ not-false _ (c .before .if2 .left)) in
-    finds (l .before .before) L (positive (l .before)) true h h
+    finds (l .before .before) L (inside (l .before) L) true h h
 
 returns-3 : tie.Need-returns-3 Inv-behind μ-behind Inv-loop μ-loop Inv-free μ-free
 returns-3 c N b room L =
     let l = c .before .before .before in
     let e = chosen (l .before) in
-    finds (e .before) L (positive e) false (l .loop .inv .2 N b room L ∙ open-end _ _ _ _ _ _ _ (omega (arith, c .if5 .taken)) (opened (c .before) L)) (closed (l .before) L)
+    finds (e .before) L (inside e L) false (l .loop .inv .2 N b room L ∙ open-end _ _ _ _ _ _ _ (omega (arith, c .if5 .taken)) (opened (c .before) L)) (closed (l .before) L)
 
 pub first-fit-spec : {M : Type 1} → statement M
 first-fit-spec =

@@ -1,14 +1,16 @@
 -- Where all nodes have room, the links go and the items are halved; where they have not, the slices are wiped.
 use mathlib.Core.Path.{_∙_}
+use Prim.Native.Nat.{_≤_}
+use native.Mathlib.Omega.{arith}
 use lib.ListN.{length}
 use denote.Ref.{now}
 use borrow.Author.Needs.{needs}
 use Rattle.double_array.proofs.DoubleArray.{sizes-told}
-use Rattle.free_slots.specs.Ring.{Linked}
+use Rattle.free_slots.specs.Chain.{Linked}
 use Rattle.build.specs.ListTrie.{placedList}
 use Rattle.build.specs.Steps.{Tried}
 use Rattle.build.proofs.Turn.{filled-check, filled-here}
-use Rattle.build.proofs.Outcome.{built-accepted, built-refused}
+use Rattle.build.proofs.Outcome.{list-past, built-accepted, built-refused}
 use Rattle.build.proofs.place_list.Statement.{statement}
 use Rattle.build.proofs.place_list.Tie as tie
 
@@ -27,10 +29,14 @@ start c = prepared c .before .before .before .before .before
 tried : (c : tie.After-place-nodes) → Tried (now (start c .args .table)) (length (now (start c .args .check))) (placedList (now (start c .args .table))) (c .place-nodes .result) (c .place-nodes .last .1 .0) (c .place-nodes .last .1 .1 .0) (c .place-nodes .last .1 .1 .1 .0)
 tried c = rw (filled-check (prepared c .prepare .ensures)) at (c .place-nodes .ensures)
 
+-- where all nodes have room
+room : (e : tie.Then1) → let c = e .before .before .before .before .before in c .place-nodes .result ≤ length (now (start c .args .check))
+room e = let c = e .before .before .before .before .before in omega (arith, e .if1 .taken, c .place-nodes .kept .1 .1 .0, filled-check (prepared c .prepare .ensures))
+
 -- the slices with links, once all nodes are placed
 linked : (e : tie.Then1) → let c = e .before .before .before .before .before in let t = now (start c .args .table) in
     Linked (length (now (start c .args .check))) (placedList t .base) (placedList t .check) (c .place-nodes .last .1 .0) (c .place-nodes .last .1 .1 .0)
-linked e = tried (e .before .before .before .before .before) .filled (e .if1 .taken) .linked
+linked e = tried (e .before .before .before .before .before) .filled (room e) .linked
 
 finish-requires : tie.Need-finish-requires
 finish-requires c κs =
@@ -57,8 +63,8 @@ returns c =
     let n = e .before .before .before .before .before in
     let s = start n in
     rw (h .halve .ensures)
-    (built-accepted (now (s .args .table)) (now (s .args .base)) (now (s .args .check)) (now (s .args .work)) (sizes-told _ _ (s .pre .sizes) .same) (s .pre .each) (s .pre .accepted) (e .if1 .taken) (tried n)
-    (f .finish .ensures _ _ _ (linked e)))
+    (built-accepted (now (s .args .table)) (now (s .args .base)) (now (s .args .check)) (now (s .args .work)) (sizes-told _ _ (s .pre .sizes) .same) (s .pre .each) (s .pre .accepted) (room e) (tried n)
+    (f .finish .ensures _ _ _ (linked e) (λ u l. list-past (now (s .args .table)) (s .pre .accepted) u (omega (arith, room e, tried n .answer)))))
 
 wipe-requires : tie.Need-wipe-requires
 wipe-requires c κs = search needs
@@ -80,7 +86,7 @@ returns-2 c =
     let s = start n in
     let p = prepared n .prepare .kept in
     let k = n .place-nodes .kept in
-    built-refused (now (s .args .table)) (now (s .args .base)) (now (s .args .check)) (now (s .args .work)) (sizes-told _ _ (s .pre .sizes) .same) (s .pre .each) (e .if1 .left) (tried n)
+    built-refused (now (s .args .table)) (now (s .args .base)) (now (s .args .check)) (now (s .args .work)) (sizes-told _ _ (s .pre .sizes) .same) (s .pre .each) (omega (arith, e .if1 .left, k .1 .1 .0, filled-check (prepared n .prepare .ensures))) (tried n)
     (k .1 .0 ∙ p .1 .0) (k .1 .1 .0 ∙ p .1 .1 .0) (k .1 .1 .1 .0 ∙ p .1 .1 .1 .0) (w .wipe .ensures)
 
 pub place-list-spec : {M : Type 1} → statement M

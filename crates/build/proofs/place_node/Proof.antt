@@ -1,44 +1,41 @@
 -- The d found is the placing rule's where it lies below the end, and so is the side; the stores are made where its slots lie below the end.
 use mathlib.Core.Path.{_≡_, sym, ap, _∙_, transport}
-use mathlib.Core.Bool.{Bool, true, false≢true}
+use mathlib.Core.Bool.{Bool}
 use mathlib.Core.List.{List}
-use Prim.Native.Nat.{ℕ, _≤_}
+use Prim.Native.Nat.{ℕ, suc, _≤_, min}
 use native.Mathlib.Omega.{arith}
-use lib.Dec.{leb}
 use lib.IntN.{pos}
-use lib.ListN.{length}
 use denote.Ref.{now}
 use borrow.Author.Needs.{needs}
-use borrow.Author.Tests.{leb-true, not-true, not-false}
 use Rattle.backoff.specs.Limits.{slotLimit}
 use Rattle.placing.specs.Placing.{Room, update, own, reach}
 use Rattle.placing.proofs.FirstFit.{isFree-yes, fits-side, fit-fits, fit-free, fit-positive}
 use Rattle.placing.proofs.Rooms.{reach-top}
-use Rattle.free_slots.specs.Ring.{Linked}
-use Rattle.free_slots.proofs.Ring.{linked-check-length}
+use Rattle.free_slots.specs.Chain.{Linked}
+use Rattle.free_slots.proofs.Chain.{linked-check-length}
 use Rattle.free_slots.proofs.Search.{fit-room}
 use Rattle.build.specs.Steps.{oldestOf, fitOf, sideOf, FoundFit, Settles, Fitting, Given}
-use Rattle.build.proofs.OldestWords.{slots-open}
+use Rattle.build.proofs.OldestWords.{reach-max, slots-open}
 use Rattle.build.proofs.place_node.Statement.{statement}
 use Rattle.build.proofs.place_node.Tie as tie
 
 first-fit-requires : tie.Need-first-fit-requires
 first-fit-requires c κs = search needs
 
-few : (s : tie.Start) → length (now (s .args .check)) ≤ slotLimit
-few s = let L = s .pre .1 .3 .linked in omega (arith, linked-check-length L, L .size)
-
 abbrev start : tie.After-first-fit → tie.Start
 start f = f .before .before .before .before
 
-within-requires : tie.Need-within-requires
-within-requires c κs = let s = start c in (s .pre .0 .0, few s)
+abbrev d : tie.After-first-fit → ℕ
+d f = f .first-fit .result .d
+
+few : (c : tie.After-first-fit) → d c ≤ slotLimit
+few c = let p = start c .pre .1 in let L = p .3 .linked in omega (arith, c .first-fit .ensures (p .0) (p .1) (p .2) L .d-is, L .size)
+
+new-top-requires : tie.Need-new-top-requires
+new-top-requires c κs = let s = start c in (s .pre .0 .0, s .pre .1 .3 .children, few c)
 
 abbrev words : tie.Start → List ℕ
 words s = oldestOf (now (s .args .rows))
-
-abbrev d : tie.After-first-fit → ℕ
-d f = f .first-fit .result .d
 
 abbrev behind : tie.After-first-fit → Bool
 behind f = f .first-fit .result .behind
@@ -47,7 +44,7 @@ behind f = f .first-fit .result .behind
 abbrev Asked : tie.Start → ℕ → Room → Room → Type 0
 Asked s N b room = Settles N b room (now (s .args .base)) (now (s .args .check)) (now (s .args .rows)) (s .args .node .slot) (s .args .node .mark)
 
-module _ (w : tie.After-within) {N : ℕ} {b room : Room} (S : Asked (start (w .before)) N b room) where
+module _ (w : tie.After-new-top) {N : ℕ} {b room : Room} (S : Asked (start (w .before)) N b room) where
   abbrev o : tie.After-first-fit
   o = w .before
 
@@ -63,14 +60,15 @@ module _ (w : tie.After-within) {N : ℕ} {b room : Room} (S : Asked (start (w .
   found : FoundFit N room (now (start o .args .rows)) (d o) (behind o)
   found = o .first-fit .ensures N b room (S .linked)
 
-  answered : w .within .result ≡ leb (reach 0 side fit ws) N
-  answered =
-      w .within .ensures ∙ ap (leb (reach 0 (behind o) (d o) ws)) (linked-check-length (S .linked))
-      ∙ fit-room N room ws (S .linked .past) (found .d-is) (found .side-is)
+  abbrev top : ℕ
+  top = start o .args .top
 
-  module _ (yes : w .within .result ≡ true) where
+  answered : min (w .new-top .result) (suc N) ≡ min (reach top side fit ws) (suc N)
+  answered = ap (λ (x : ℕ). min x (suc N)) (w .new-top .ensures) ∙ fit-room N room ws (S .linked .past) top (found .d-is) (found .side-is)
+
+  module _ (yes : w .new-top .result ≤ N) where
     inside : reach 0 side fit ws ≤ N
-    inside = leb-true _ _ (sym answered ∙ yes)
+    inside = omega (arith, answered, reach-max top side fit ws)
 
     d-is : d o ≡ fit
     d-is = omega (arith, found .d-is, inside, reach-top 0 side fit ws)
@@ -96,17 +94,21 @@ same-length-2 c = search needs
 
 returns : tie.Need-returns
 returns c N b room S = record {
-  answer = sym (not-true _ (c .if1 .taken)) ∙ answered (c .before) S;
-  linked = λ e. absurd (false≢true e);
-  given = λ e. absurd (false≢true e);
+  answer = answered (c .before) S;
+  linked = λ e. absurd (omega (arith, c .if1 .taken, linked-check-length (S .linked)));
+  given = λ e. absurd (omega (arith, c .if1 .taken, linked-check-length (S .linked)));
 }
+
+-- where the stores are made
+has-room : (e : tie.Else1) {N : ℕ} {b room : Room} → Asked (start (e .before .before)) N b room → e .before .new-top .result ≤ N
+has-room e S = omega (arith, e .if1 .left, linked-check-length (S .linked))
 
 settle-requires : tie.Need-settle-requires
 settle-requires c κs =
     let e = c .before .before in
     let s = start (e .before .before) in
     let p = s .pre .1 in
-    (s .pre .0 .0, (p .0, p .1, p .2, p .3, fitting (e .before) (p .3) (not-false _ (e .if1 .left))))
+    (s .pre .0 .0, (p .0, p .1, p .2, p .3, fitting (e .before) (p .3) (has-room e (p .3))))
 
 give-slots-requires : tie.Need-give-slots-requires
 give-slots-requires c κs =
@@ -114,7 +116,7 @@ give-slots-requires c κs =
     let w = e .before in
     let s = start (w .before) in
     let S = s .pre .1 .3 in
-    ((s .pre .0 .0, s .pre .0 .1, omega (arith, found w S .d-is, S .linked .size)), slots-open _ _ _ _ (fitting w S (not-false _ (e .if1 .left)) .opened))
+    ((s .pre .0 .0, s .pre .0 .1, few (w .before)), slots-open _ _ _ _ (fitting w S (has-room e S) .opened))
 
 same-length-3 : tie.Need-same-length-3
 same-length-3 c = search needs
@@ -133,9 +135,9 @@ returns-2 c N b room S =
     let w = e .before in
     let s = start (w .before) in
     let slot = s .args .node .slot in
-    let yes = not-false _ (e .if1 .left) in
+    let yes = has-room e S in
     record {
-      answer = sym yes ∙ answered w S;
+      answer = answered w S;
       linked = λ _.
           transport
           (λ i. Linked N (update (update b (d-is w S yes i) (s .args .node .load)) slot (pos (d-is w S yes i))) (update (own (side-is w S yes i) (d-is w S yes i) slot (words s) room) (d-is w S yes i) (s .args .node .mark)) (t .settle .last .0) (t .settle .last .1 .0))
@@ -148,7 +150,7 @@ place-node-spec =
     tie.close
     (tie.spec
     first-fit-requires
-    within-requires
+    new-top-requires
     same-length
     same-length-2
     returns

@@ -1,8 +1,9 @@
 -- The rows are placed where the root is; where it has no room, the list has none.
+use Prim.Native.Nat.{_≤_}
+use native.Mathlib.Omega.{arith}
 use lib.ListN.{length}
 use denote.Ref.{now}
 use borrow.Author.Needs.{needs}
-use borrow.Author.Tests.{not-true, not-false}
 use Rattle.build.specs.Steps.{placedNodes, Filled}
 use Rattle.build.proofs.Turn.{filled-check, filled-here}
 use Rattle.build.proofs.NodeByNode.{over-refused}
@@ -22,16 +23,20 @@ same-length-3 : tie.Need-same-length-3
 same-length-3 c = search needs
 
 returns : tie.Need-returns
-returns c = over-refused 1 (not-true _ (c .if1 .taken)) (c .before .before .before .before .before .place-root .ensures)
+returns c = let r = c .before .before .before .before .before in over-refused 1 (omega (arith, c .if1 .taken, r .place-root .kept .1 .1 .0)) (r .place-root .ensures)
+
+room : (c : tie.Else1) → let r = c .before .before .before .before .before in r .place-root .result ≤ length (now (r .before .before .before .before .before .args .check))
+room c = let r = c .before .before .before .before .before in omega (arith, c .if1 .left, r .place-root .kept .1 .1 .0)
 
 placed : (c : tie.Else1) → let r = c .before .before .before .before .before in let s = r .before .before .before .before .before in
     Filled (now (s .args .table)) (length (now (s .args .check))) (placedNodes (now (s .args .table)) 1) (r .place-root .last .1 .0) (r .place-root .last .1 .1 .0) (r .place-root .last .1 .1 .1 .0)
-placed c = c .before .before .before .before .before .place-root .ensures .filled (not-false _ (c .if1 .left))
+placed c = c .before .before .before .before .before .place-root .ensures .filled (room c)
 
 place-rows-requires : tie.Need-place-rows-requires
 place-rows-requires c κs =
     let e = c .before .before .before in
-    (e .before .before .before .before .before .before .before .before .before .before .pre .0, filled-here (placed e))
+    let r = e .before .before .before .before .before in
+    ((r .before .before .before .before .before .pre .0, omega (arith, room e, r .place-root .ensures .answer)), filled-here (placed e))
 
 same-length-4 : tie.Need-same-length-4
 same-length-4 c = search needs

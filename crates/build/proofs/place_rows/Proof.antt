@@ -8,7 +8,6 @@ use lib.IntN.{ℤ}
 use lib.ListN.{length}
 use denote.Ref.{now}
 use borrow.Author.Needs.{needs}
-use borrow.Author.Tests.{not-true, not-false}
 use Rattle.list.specs.Table.{rowsOf}
 use Rattle.build.specs.Steps.{placedNodes, Filled, Tried}
 use Rattle.build.proofs.Turn.{filled-base, filled-check, filled-here}
@@ -16,18 +15,19 @@ use Rattle.build.proofs.NodeByNode.{over-refused, all-placed}
 use Rattle.build.proofs.place_rows.Statement.{statement}
 use Rattle.build.proofs.place_rows.Tie as tie
 
-record Reached (t : List ℤ) (N : ℕ) (base check : List ℤ) (work : List ℕ) (i : ℕ) : Type 0 where
+record Reached (t : List ℤ) (N : ℕ) (base check : List ℤ) (work : List ℕ) (top i : ℕ) : Type 0 where
   within : i ≤ rowsOf t
+  top-is : top ≡ placedNodes t (i + 1) .top
   filled : Filled t N (placedNodes t (i + 1)) base check work
 
 abbrev Inv-loop : tie.InvT-loop
-Inv-loop table base₀ check₀ work₀ near₀ i₀ base check work near i = Reached table (length check₀) base check work i
+Inv-loop table base₀ check₀ work₀ given top₀ near₀ i₀ base check work top near i = Reached table (length check₀) base check work top i
 
 abbrev μ-loop : tie.MeasureT-loop
-μ-loop table base₀ check₀ work₀ near₀ i₀ base check work near i = rowsOf table - i
+μ-loop table base₀ check₀ work₀ given top₀ near₀ i₀ base check work top near i = rowsOf table - i
 
 loop-holds : tie.Need-loop-holds Inv-loop μ-loop
-loop-holds c = record { within = omega arith; filled = c .before .pre .1 }
+loop-holds c = record { within = omega arith; top-is = c .before .pre .0 .1; filled = c .before .pre .1 }
 
 next-without-slot-requires : tie.Need-next-without-slot-requires Inv-loop μ-loop
 next-without-slot-requires c κs = search needs
@@ -36,7 +36,7 @@ place-row-requires : tie.Need-place-row-requires Inv-loop μ-loop
 place-row-requires c κs =
     let i = c .before .before .before .before .before in
     let F = i .before .loop .inv .filled in
-    ((i .before .before .before .pre .0, omega (arith, i .loop-test .taken, F .each)), filled-here F)
+    ((i .before .before .before .pre .0 .0, omega (arith, i .loop-test .taken, F .each), i .before .loop .inv .top-is), filled-here F)
 
 abbrev at : tie.After-place-row Inv-loop μ-loop → tie.At-loop Inv-loop μ-loop
 at c = c .before .before .before .before .before .before .before
@@ -69,7 +69,7 @@ same-length-3 c = let p = c .before .before .before .before .before in p .place-
 returns : tie.Need-returns Inv-loop μ-loop
 returns c =
     let p = c .before .before .before .before .before in
-    over-refused (suc (at p .loop .i + 1)) (not-true _ (c .if1 .taken)) (turn p)
+    over-refused (suc (at p .loop .i + 1)) (omega (arith, c .if1 .taken, p .place-row .kept .1 .1 .1 .0, filled-check (at p .loop .inv .filled))) (turn p)
 
 add-i : tie.Need-add-i Inv-loop μ-loop
 add-i c = search needs
@@ -81,8 +81,13 @@ loop-again : tie.Need-loop-again Inv-loop μ-loop
 loop-again c =
     let p = c .before .before .before .before .before in
     let l = at p in
-    let F = turn p .filled (not-false _ (c .if1 .left)) in
-    record { within = omega (arith, p .before .before .before .before .before .before .loop-test .taken, l .loop .inv .filled .each); filled = rw (add-one (l .loop .i + 1)) F }
+    let T = turn p in
+    let room : p .place-row .result ≤ length (now (l .before .before .args .check)) = omega (arith, c .if1 .left, p .place-row .kept .1 .1 .1 .0, filled-check (l .loop .inv .filled)) in
+    record {
+      within = omega (arith, p .before .before .before .before .before .before .loop-test .taken, l .loop .inv .filled .each);
+      top-is = rw (add-one (l .loop .i + 1)) (omega (arith, T .answer));
+      filled = rw (add-one (l .loop .i + 1)) (T .filled room);
+    }
 
 same-length-4 : tie.Need-same-length-4 Inv-loop μ-loop
 same-length-4 c = base-kept (c .before)
@@ -94,7 +99,7 @@ same-length-6 : tie.Need-same-length-6 Inv-loop μ-loop
 same-length-6 c = work-kept (c .before)
 
 returns-2 : tie.Need-returns-2 Inv-loop μ-loop
-returns-2 c = let l = c .before in all-placed (l .loop .i + 1) (omega (arith, c .loop-test .left, l .loop .inv .within, l .loop .inv .filled .each)) (l .loop .inv .filled)
+returns-2 c = let l = c .before in all-placed (l .loop .i + 1) (omega (arith, c .loop-test .left, l .loop .inv .within, l .loop .inv .filled .each)) (l .loop .inv .top-is) (l .loop .inv .filled)
 
 pub place-rows-spec : {M : Type 1} → statement M
 place-rows-spec =

@@ -1,29 +1,24 @@
--- The slots are linked, and the items are the rows' f: nothing is placed.
+-- Slots that are all free are linked, and the items are the rows' f: nothing is placed.
 use mathlib.Core.Path.{ap, _∙_}
 use Prim.Native.Nat.{ℕ}
 use native.Mathlib.Omega.{arith}
+use lib.IntN.{pos}
 use lib.ListN.{replicate}
 use denote.Ref.{now}
 use borrow.Author.Needs.{needs}
-use Rattle.double_array.proofs.DoubleArray.{Sizes, sizes-told}
+use Rattle.double_array.proofs.DoubleArray.{sizes-told}
 use Rattle.build.proofs.Outcome.{filled-none}
 use Rattle.build.proofs.prepare.Statement.{statement}
 use Rattle.build.proofs.prepare.Tie as tie
 
-sizes : (s : tie.Start) → Sizes (now (s .args .base)) (now (s .args .check))
-sizes s = sizes-told _ _ (s .pre .sizes)
-
-link-all-requires : tie.Need-link-all-requires
-link-all-requires c κs = let z = sizes (c .before .before .before) in (z .same, omega (arith, z .low, z .same), omega (arith, z .high, z .same))
-
-zero-requires : tie.Need-zero-requires
-zero-requires c κs = search needs
+wipe-requires : tie.Need-wipe-requires
+wipe-requires c κs = search needs
 
 mark-continued-requires : tie.Need-mark-continued-requires
 mark-continued-requires c κs =
-    let z = c .before .before .before in
-    let s = z .before .before .before .before .before .before .before .before in
-    (s .pre .accepted, z .zero .ensures ∙ ap (λ (n : ℕ). replicate n 0) (s .pre .each))
+    let w = c .before .before .before .before .before in
+    let s = w .before .before .before .before .before in
+    (s .pre .accepted, w .wipe .ensures .items-zero ∙ ap (λ (n : ℕ). replicate n 0) (s .pre .each))
 
 same-length : tie.Need-same-length
 same-length c = search needs
@@ -37,17 +32,16 @@ same-length-3 c = search needs
 returns : tie.Need-returns
 returns c =
     let m = c .before .before in
-    let l = m .before .before .before .before .before .before .before .before in
-    let s = l .before .before .before .before in
-    let z = sizes s in
-    filled-none (now (s .args .table)) (omega (arith, z .low, z .same)) (omega (arith, z .high, z .same)) (l .link-all .ensures) (m .mark-continued .ensures)
+    let w = m .before .before .before .before .before .before in
+    let s = w .before .before .before .before .before in
+    let z = sizes-told _ _ (s .pre .sizes) in
+    filled-none (now (s .args .table)) (omega (arith, z .low, z .same)) (omega (arith, z .high, z .same)) (w .wipe .ensures .base-free ∙ ap (λ (n : ℕ). replicate n (pos 0)) (z .same)) (w .wipe .ensures .check-free) (m .mark-continued .ensures)
 
 pub prepare-spec : {M : Type 1} → statement M
 prepare-spec =
     tie.close
     (tie.spec
-    link-all-requires
-    zero-requires
+    wipe-requires
     mark-continued-requires
     same-length
     same-length-2

@@ -15,8 +15,8 @@ use Rattle.double_array.specs.DoubleArray.{childSlot}
 use Rattle.list.specs.Table.{rowsOf, field, wordOf}
 use Rattle.placing.specs.Placing.{Room, isFree, update, own}
 use Rattle.placing.proofs.Rooms.{update-other, reach-top}
-use Rattle.free_slots.specs.Ring.{Linked}
-use Rattle.free_slots.proofs.Ring.{linked-base-length, linked-check-length}
+use Rattle.free_slots.specs.Chain.{Linked}
+use Rattle.free_slots.proofs.Chain.{linked-base-length, linked-check-length}
 use Rattle.build.specs.Steps.{oldestOf, Settles, Fitting}
 use Rattle.build.proofs.OldestWords.{slots-open, Owning, owning-none, owning-takes, owning-next, owning-end}
 use Rattle.build.proofs.settle.Statement.{statement}
