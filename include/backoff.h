@@ -16,11 +16,12 @@
  * call accepts, else those of the first check that fails, in the order that stands at the call. "Untouched" means that
  * every item is as it was before the call; the call may have written the same number there, so the memory is writable.
  *
- * Ownership. The caller owns all memory. A call keeps no pointer, allocates nothing and has no memory of its own. The
- * array is what base and check hold: plain numbers, which may be copied and saved. It must stay unchanged while states
- * over it are in use. A state is nine plain numbers, which may be copied too. It belongs to the array that it came from,
- * or a copy of it; check 16 does not notice a state of another array. Two readings with equal states over one array get
- * the same points whatever follows, so the one with the lower total can be dropped.
+ * Ownership. The caller owns all memory. A call keeps no pointer, allocates nothing and has no memory of its own;
+ * backoff_build and backoff_unload take 65 KiB of stack. The array is what base and check hold: plain numbers, which
+ * may be copied and saved. It must stay unchanged while states over it are in use. A state is nine plain numbers, which
+ * may be copied too. It belongs to the array that it came from, or a copy of it; check 16 does not notice a state of
+ * another array. Two readings with equal states over one array get the same points whatever follows, so the one with
+ * the lower total can be dropped.
  *
  * Arrays. Each row of a list has a node, which is reached from the root in slot 0 by the words of the row, newest first:
  * that is the walk. A node in slot s with base[s] = d has its marker in slot d, which holds p and b of the row, and its

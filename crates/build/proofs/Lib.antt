@@ -8,6 +8,5 @@ pub mod OneWord
 pub mod Parts
 pub mod Turn
 pub mod NodeByNode
-pub mod Continued
 pub mod Outcome
 pub mod FewestSlots

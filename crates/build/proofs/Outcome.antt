@@ -3,19 +3,19 @@ use mathlib.Core.Path.{_≡_, refl, sym, ap, _∙_}
 use mathlib.Core.Bool.{Bool, true, false, cond, _&&_}
 use mathlib.Core.List.{List, [], _++_, append-nil}
 use Prim.Native.Nat.{ℕ, zero, suc, _+_, _/_, _≤_, _<_}
+use native.Mathlib.Decide.{ℕ-discrete}
 use native.Mathlib.Omega.{arith}
 use lib.Dec.{leb}
 use lib.IntN.{ℤ, pos}
-use lib.ListN.{length, getD, take, drop, replicate, length-map, length-replicate, List·getD-map, drop-of-length-le, length-take}
-use lib.Seq.{ext-getD}
+use lib.ListN.{length, getD, take, drop, set, replicate, length-map, length-replicate, List·getD-map, drop-of-length-le, length-take, take-append-drop}
+use lib.Seq.{ext-getD, getD-set-same, getD-set-other}
 use borrow.Author.Tests.{le-leb, lt-leb}
-use Rattle.backoff.specs.Limits.{slotLimit}
 use Rattle.backoff.specs.Refusal.{tableLength, arrayLength, noRoom}
 use Rattle.backoff.specs.Run.{written}
 use Rattle.backoff.specs.declared.Verdict.{Verdict}
 use Rattle.backoff.specs.declared.Verdict.the-variants.{Accepted, Refused}
 use Rattle.double_array.specs.DoubleArray.{freeCheck, headCheck, sizesOk}
-use Rattle.double_array.proofs.DoubleArray.{opened-some}
+use Rattle.double_array.proofs.DoubleArray.{sizes-told, opened-some}
 use Rattle.list.specs.Table.{rowsOf, orderOf, words}
 use Rattle.list.specs.Check.{verdict, tableFits}
 use Rattle.list.specs.ListModel.{continuedIn}
@@ -29,18 +29,38 @@ use Rattle.free_slots.proofs.Following.{links-run-through-the-free-slots}
 use Rattle.free_slots.proofs.Linking.{fresh-linked}
 use Rattle.build.specs.ListTrie.{nodesOf, placedList, slotsFrom, rowSlots}
 use Rattle.build.specs.Build.{untouched, filled, emptied, checkedBuild, buildOutcome, IsBuilt, BuildMeans}
-use Rattle.build.specs.Steps.{Flagged, placedNodes, Filled, Tried, halved, Wiped}
+use Rattle.build.specs.Steps.{Passed, itemOf, Flagged, placedNodes, Filled, Tried, halved, Wiped}
 use Rattle.build.proofs.Built.{build-accepted, build-holds}
 use Rattle.build.proofs.ListTrie.{nodes-ready}
 use Rattle.build.proofs.Turn.{item-half}
 
 -- ---- before the first node
 
-pub filled-none : (t : List ℤ) {N : ℕ} {B C : List ℤ} {W : List ℕ} → 2 ≤ N → N ≤ slotLimit → B ≡ replicate N (pos 0) → C ≡ replicate N freeCheck → Flagged t (rowsOf t) W → Filled t N (placedNodes t 0) B C W
+pub flagged-none : (F : List Bool) (W : List ℕ) → Flagged F 0 W
+flagged-none F W = record { item = λ j l. absurd (omega arith) }
+
+pub flagged-more : (F : List Bool) (i v : ℕ) (W : List ℕ) → i < length W → v ≡ itemOf 0 (getD F i false) → Flagged F i W → Flagged F (i + 1) (set W i v)
+flagged-more F i v W h e f = record { item = λ j l. at j l (ℕ-discrete j i) }
+  where
+    at : (j : ℕ) → j < i + 1 → Dec (j ≡ i) → getD (set W i v) j 0 ≡ itemOf 0 (getD F j false)
+    at j l (yes q) = rw q (getD-set-same W i v 0 h ∙ e)
+    at j l (no q) = getD-set-other W i j v 0 q ∙ f .item j (omega arith)
+
+pub filled-none : (t : List ℤ) {B₀ C₀ B C : List ℤ} {F : List Bool} {W₀ W : List ℕ} → Passed t B₀ C₀ F W₀
+    → B ≡ replicate (length C₀) (pos 0) → C ≡ replicate (length C₀) freeCheck → length W ≡ length W₀ → Flagged F (length W) W → Filled t (length C₀) (placedNodes t 0) B C W
 unfolding placeAll unplaced continuedIn
-filled-none t {N} low high b c F =
-    let L = fresh-linked N (headCheck (orderOf t)) (omega arith) high refl in
-    rw (b, c) (record { size = (low, high); room = omega arith; linked = L; links = links-run-through-the-free-slots L; each = F .each; item = F .item })
+filled-none t {B₀} {C₀} p b c same f =
+    let z = sizes-told B₀ C₀ (p .sizes) in
+    let L = fresh-linked (length C₀) (headCheck (orderOf t)) (omega (arith, z .low, z .same)) (omega (arith, z .high, z .same)) refl in
+    rw (b, c)
+    (record {
+      size = (omega (arith, z .low, z .same), omega (arith, z .high, z .same));
+      room = omega arith;
+      linked = L;
+      links = links-run-through-the-free-slots L;
+      each = same ∙ p .each;
+      item = λ j l. f .item j (omega (arith, same, p .each)) ∙ ap (λ (c : Bool). itemOf 0 c) (p .marked j l (omega (arith, p .each-mark)));
+    })
 
 -- ---- the rows' slots
 
@@ -144,6 +164,9 @@ module _ (t B C : List ℤ) (W : List ℕ) where
   unfolding untouched
   untouched-is v = record { answer-is = refl; base-is = refl; check-is = refl; work-is = refl }
 
+  pub outcome-rows : {v : Verdict} {n k : ℕ} → v ≡ verdict t → v ≡ Refused n k → IsBuilt (checkedBuild t B C W (verdict t)) v B C W
+  outcome-rows {n = n} {k = k} e q = rw (← e, q) (untouched-is (Refused n k))
+
   pub outcome-table : tableFits (length t) ≡ false → IsBuilt (buildOutcome t B C W) (Refused tableLength 0) B C W
   unfolding buildOutcome
   outcome-table e = rw e (untouched-is (Refused tableLength 0))
@@ -154,10 +177,6 @@ module _ (t B C : List ℤ) (W : List ℕ) where
     outcome-sizes e = rw (f, e) (untouched-is (Refused arrayLength 0))
 
     module _ (z : (sizesOk B C && leb (rowsOf t) (length W)) ≡ true) where
-      pub outcome-rows : {v : Verdict} {n k : ℕ} → v ≡ verdict t → v ≡ Refused n k → IsBuilt (buildOutcome t B C W) v B C W
-      unfolding buildOutcome
-      outcome-rows {n = n} {k = k} e q = rw (f, z, ← e, q) (untouched-is (Refused n k))
-
       -- the part of the work items that is the rows' comes back
       part-back : (b : Bool) {r : Verdict} {B′ C′ : List ℤ} {W′ : List ℕ} → IsBuilt (cond b (filled t B C (take (rowsOf t) W)) (emptied t B C (take (rowsOf t) W))) r B′ C′ W′
           → IsBuilt (cond b (filled t B C W) (emptied t B C W)) r B′ C′ (W′ ++ drop (rowsOf t) W)
@@ -175,7 +194,16 @@ module _ (t B C : List ℤ) (W : List ℕ) where
         work-is = ap (λ (l : List ℕ). l ++ drop (rowsOf t) W) (i .work-is) ∙ written-part (rowsOf t) (replicate (rowsOf t) 0) W (length-replicate (rowsOf t) 0);
       }
 
-      pub outcome-placed : verdict t ≡ Accepted → {r : Verdict} {B′ C′ : List ℤ} {W′ : List ℕ} → IsBuilt (checkedBuild t B C (take (rowsOf t) W) Accepted) r B′ C′ W′
-          → IsBuilt (buildOutcome t B C W) r B′ C′ (W′ ++ drop (rowsOf t) W)
+      checked-back : (v : Verdict) {r : Verdict} {B′ C′ : List ℤ} {W′ : List ℕ} → IsBuilt (checkedBuild t B C (take (rowsOf t) W) v) r B′ C′ W′ → IsBuilt (checkedBuild t B C W v) r B′ C′ (W′ ++ drop (rowsOf t) W)
+      unfolding untouched
+      checked-back Accepted i = part-back (leb (placedList t .top) (length B)) i
+      checked-back (Refused n k) i = record {
+        answer-is = i .answer-is;
+        base-is = i .base-is;
+        check-is = i .check-is;
+        work-is = ap (λ (l : List ℕ). l ++ drop (rowsOf t) W) (i .work-is) ∙ take-append-drop (rowsOf t) W;
+      }
+
+      pub outcome-checked : {r : Verdict} {B′ C′ : List ℤ} {W′ : List ℕ} → IsBuilt (checkedBuild t B C (take (rowsOf t) W) (verdict t)) r B′ C′ W′ → IsBuilt (buildOutcome t B C W) r B′ C′ (W′ ++ drop (rowsOf t) W)
       unfolding buildOutcome
-      outcome-placed e i = rw (f, z, e) (part-back (leb (placedList t .top) (length B)) i)
+      outcome-checked i = rw (f, z) (checked-back (verdict t) i)

@@ -12,16 +12,19 @@ use Rattle.backoff.specs.declared.Verdict.the-variants.{Accepted}
 use Rattle.double_array.specs.DoubleArray.{freeCheck, childSlot, sizesOk}
 use Rattle.list.specs.Table.{rowsOf, field, orderOf, wordOf, words}
 use Rattle.list.specs.Check.{verdict}
-use Rattle.list.specs.ListModel.{continuedBelow, continuedIn}
+use Rattle.list.specs.ListModel.{continuedIn}
+use Rattle.list.specs.Marks.{Marked}
 use Rattle.placing.specs.Placing.{Room, Placed, isFree, isOpen, allOpen, firstFit, update, own, reach, placeAll, unplaced}
 use Rattle.free_slots.specs.Chain.{isLink, Linked, LinksRun}
 use Rattle.build.specs.ListTrie.{nodesOf, oldestFrom}
 
--- what refusals 1 to 9 leave, the work items cut to the rows
-pub record Passed (table base check : List ℤ) (items : List ℕ) : Type 0 where
+-- what refusals 1 to 9 leave, the work items cut to the rows, and the rows marked that other rows continue
+pub record Passed (table base check : List ℤ) (marks : List Bool) (items : List ℕ) : Type 0 where
   pub accepted : verdict table ≡ Accepted
   pub sizes : sizesOk base check ≡ true
   pub each : length items ≡ rowsOf table
+  pub each-mark : length marks ≡ rowsOf table
+  pub marked : Marked table (rowsOf table) marks
 
 -- all slots are free, and the items 0
 pub record Wiped (base check : List ℤ) (items : List ℕ) (base′ check′ : List ℤ) (items′ : List ℕ) : Type 0 where
@@ -101,10 +104,9 @@ pub record NodePlaced (N : ℕ) (b c : Room) (rows : List ℤ) (s : ℕ) (mark l
 abbrev pub itemOf : ℕ → Bool → ℕ
 itemOf s f = 2 * s + cond f 1 0
 
--- the items once the rows before row n have given f to the rows that they continue
-pub record Flagged (t : List ℤ) (n : ℕ) (items : List ℕ) : Type 0 where
-  pub each : length items ≡ rowsOf t
-  pub item : (j : ℕ) → j < rowsOf t → getD items j 0 ≡ itemOf 0 (continuedBelow t (words t j) n)
+-- the first n items are the f that is marked: their nodes have no slot yet
+pub record Flagged (marks : List Bool) (n : ℕ) (items : List ℕ) : Type 0 where
+  pub item : (j : ℕ) → j < n → getD items j 0 ≡ itemOf 0 (getD marks j false)
 
 -- the list's first k nodes placed
 abbrev pub placedNodes : List ℤ → ℕ → Placed

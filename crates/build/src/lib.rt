@@ -5,12 +5,12 @@ ghost use mathlib.Core.List.{List};
 ghost use Prim.Native.Nat.{ℕ, _+_, _/_, _%_, _≤_, _<_, max};
 ghost use lib.Dec.{eqb};
 ghost use lib.IntN.{ℤ, pos};
-ghost use lib.ListN.{length, replicate};
+ghost use lib.ListN.{length};
 ghost use Rattle.backoff.specs.Limits.{wordLimit, slotLimit};
 ghost use Rattle.backoff.specs.declared.Verdict.the-variants.{Accepted};
-ghost use Rattle.double_array.specs.DoubleArray.{freeCheck, headCheck, markerCheck, markerBase, childSlot};
+ghost use Rattle.double_array.specs.DoubleArray.{freeCheck, headCheck, markerCheck, markerBase, childSlot, sizesOk};
 ghost use Rattle.list.specs.Table.{rowsOf, field, probabilityAt, backoffAt, orderOf, wordOf};
-ghost use Rattle.list.specs.Check.{verdict};
+ghost use Rattle.list.specs.Check.{tableFits, verdict};
 ghost use Rattle.placing.specs.Placing.{Room, isOpen, update, own, reach};
 ghost use Rattle.free_slots.specs.Chain.{Linked, Unlinked, Chain};
 ghost use Rattle.build.specs.ListTrie.{OneWordRows, placedList};
@@ -311,28 +311,14 @@ fn wipe(base: &mut [i32], check: &mut [i32], work: &mut [u32])
     double_array::zero(work);
 }
 
-// Sets f of the row that is row i without its last word, which is likely among rows `from` to `to` - 1.
-fn mark_row(table: &[i32], i: usize, work: &mut [u32], from: usize, to: usize)
-    requires { ⌜ (verdict (now table) ≡ Accepted) × (i < rowsOf (now table)) × Flagged (now table) i (now work) ⌝ }
-    ensures { λ _. ⌜ Flagged (now (table .entry)) (i + 1) (now (work .exit)) ⌝ }
+// Each row's item becomes its f, as it is marked.
+fn give_flags(marks: &[bool], work: &mut [u32])
+    requires { ⌜ length (now marks) ≡ length (now work) ⌝ }
+    ensures { λ _. ⌜ Flagged (now (marks .entry)) (length (now (work .exit))) (now (work .exit)) ⌝ }
 {
-    let m = list::length_of(table, i);
-    let list::Found::At(j) = list::find_shorter(table, i, m, from, to) else {
-        return;
-    };
-    work[j] = 1;
-}
-
-// Sets f of all rows.
-fn mark_continued(table: &[i32], work: &mut [u32])
-    requires { ⌜ (verdict (now table) ≡ Accepted) × (now work ≡ replicate (rowsOf (now table)) 0) ⌝ }
-    ensures { λ _. ⌜ Flagged (now (table .entry)) (rowsOf (now (table .entry))) (now (work .exit)) ⌝ }
-{
-    let mut shorter = list::Span { from: 0, to: 0 };
     let mut i = 0;
     while i < work.len() {
-        shorter = list::shorter_rows(table, i, shorter);
-        mark_row(table, i, work, shorter.from, shorter.to);
+        work[i] = marks[i] as u32;
         i += 1;
     }
 }
@@ -349,12 +335,12 @@ fn halve(work: &mut [u32])
 }
 
 // Makes the slices ready for the root: nothing is placed, and each row's item is its f.
-fn prepare(table: &[i32], base: &mut [i32], check: &mut [i32], work: &mut [u32])
-    requires { ⌜ Passed (now table) (now base) (now check) (now work) ⌝ }
-    ensures { λ _. ⌜ Filled (now (table .entry)) (length (now (check .entry))) (placedNodes (now (table .entry)) 0) (now (base .exit)) (now (check .exit)) (now (work .exit)) ⌝ }
+fn prepare(base: &mut [i32], check: &mut [i32], marks: &[bool], work: &mut [u32])
+    requires { ⌜ ((t : List ℤ) × Passed t (now base) (now check) (now marks) (now work)) ⌝ }
+    ensures { λ _. ⌜ ((t : List ℤ) → Passed t (now (base .entry)) (now (check .entry)) (now (marks .entry)) (now (work .entry)) → Filled t (length (now (check .entry))) (placedNodes t 0) (now (base .exit)) (now (check .exit)) (now (work .exit))) ⌝ }
 {
     wipe(base, check, work);
-    mark_continued(table, work);
+    give_flags(marks, work);
 }
 
 // Takes the links out, where no slot from `top` on is taken. The root's d is 1, and CHECK[0] tells the order.
@@ -366,12 +352,18 @@ fn finish(table: &[i32], base: &mut [i32], check: &mut [i32], top: usize)
     free_slots::unlink_all(base, check, top, 1, double_array::head_check(order));
 }
 
-// Builds the array of an accepted list, whose work items are in hand.
-fn place_list(table: &[i32], base: &mut [i32], check: &mut [i32], work: &mut [u32]) -> Verdict
-    requires { ⌜ Passed (now table) (now base) (now check) (now work) ⌝ }
+// Builds the array of an accepted list, whose marks and work items are in hand.
+fn place_list(
+    table: &[i32],
+    base: &mut [i32],
+    check: &mut [i32],
+    marks: &[bool],
+    work: &mut [u32],
+) -> Verdict
+    requires { ⌜ Passed (now table) (now base) (now check) (now marks) (now work) ⌝ }
     ensures { λ r. ⌜ IsBuilt (checkedBuild (now (table .entry)) (now (base .entry)) (now (check .entry)) (now (work .entry)) Accepted) r (now (base .exit)) (now (check .exit)) (now (work .exit)) ⌝ }
 {
-    prepare(table, base, check, work);
+    prepare(base, check, marks, work);
     let top = place_nodes(table, base, check, work);
     if top <= check.len() {
         finish(table, base, check, top);
@@ -383,6 +375,20 @@ fn place_list(table: &[i32], base: &mut [i32], check: &mut [i32], work: &mut [u3
         number: backoff::NO_ROOM,
         place: 0,
     }
+}
+
+// Checks 3 to 9, then the array of a list that passes them. The check's own searches tell f. Its marks stand on the stack, since before 9 nothing that is lent may be written.
+fn check_and_place(table: &[i32], base: &mut [i32], check: &mut [i32], work: &mut [u32]) -> Verdict
+    requires { ⌜ (tableFits (length (now table)) ≡ true) × (sizesOk (now base) (now check) ≡ true) × (length (now work) ≡ rowsOf (now table)) ⌝ }
+    ensures { λ r. ⌜ IsBuilt (checkedBuild (now (table .entry)) (now (base .entry)) (now (check .entry)) (now (work .entry)) (verdict (now (table .entry)))) r (now (base .exit)) (now (check .exit)) (now (work .exit)) ⌝ }
+{
+    let rows = work.len();
+    let mut marks = [false; backoff::ROW_LIMIT];
+    let verdict = list::check_and_mark(table, false, &mut marks[..rows]);
+    let Verdict::Accepted = verdict else {
+        return verdict;
+    };
+    place_list(table, base, check, &marks[..rows], work)
 }
 
 // The paper's build. Nothing is written before the list has passed its checks.
@@ -403,9 +409,5 @@ pub fn build(table: &[i32], base: &mut [i32], check: &mut [i32], work: &mut [u32
             place: 0,
         };
     }
-    let verdict = list::check_list(table);
-    let Verdict::Accepted = verdict else {
-        return verdict;
-    };
-    place_list(table, base, check, &mut work[..rows])
+    check_and_place(table, base, check, &mut work[..rows])
 }

@@ -15,7 +15,6 @@ pub mod Queue
 pub mod Enqueued
 pub mod BreadthFirst
 pub mod Placing
-pub mod Marks
 pub mod Written
 pub mod Listed
 pub mod Outcome

@@ -14,7 +14,7 @@ use Rattle.integer.proofs.Ranges.{and-both}
 use Rattle.double_array.specs.DoubleArray.{sizesOk}
 use Rattle.list.specs.Table.{rowsOf}
 use Rattle.list.specs.Check.{tableFits}
-use Rattle.build.proofs.Outcome.{answers, outcome-table, outcome-sizes, outcome-rows, outcome-placed}
+use Rattle.build.proofs.Outcome.{answers, outcome-table, outcome-sizes, outcome-checked}
 use Rattle.build.proofs.build.Statement.{statement}
 use Rattle.build.proofs.build.Tie as tie
 
@@ -78,14 +78,18 @@ returns-2 c =
     (outcome-sizes _ _ _ _ (fits (passed k))
     (⊎-elim (λ v. bad-sizes (record { before = k; if2 = v })) (λ v. short-work (record { before = record { before = k; if2 = v .0 }; if3 = v .1 })) (c .if2 .came)))
 
-check-list-requires : tie.Need-check-list-requires
-check-list-requires c κs = search needs
+slice-relend-prefix-check-and-place : tie.Need-slice-relend-prefix-check-and-place
+slice-relend-prefix-check-and-place c = search needs
 
-enum-told : tie.Need-enum-told
-enum-told c = search needs
+slice-aggregate-check-and-place : tie.Need-slice-aggregate-check-and-place
+slice-aggregate-check-and-place c = sym (length-take-le _ _ (ltb-false _ _ (c .before .before .before .if3 .left)))
 
-enum-told-2 : tie.Need-enum-told-2
-enum-told-2 c = search needs
+check-and-place-requires : tie.Need-check-and-place-requires
+unfolding rowsOf
+check-and-place-requires c κs =
+    let e = c .before .before .before in
+    let k = e .before .before in
+    (fits (passed k), sym (k .sizes-ok .ensures) ∙ not-false _ (e .before .if2 .left), length-take-le _ _ (ltb-false _ _ (e .if3 .left)))
 
 same-length-3 : tie.Need-same-length-3
 same-length-3 c = search needs
@@ -93,46 +97,15 @@ same-length-3 c = search needs
 same-length-4 : tie.Need-same-length-4
 same-length-4 c = search needs
 
-returns-3 : tie.Need-returns-3
-returns-3 c =
-    let l = c .before .before in
-    let e = l .before in
-    answers _ _ _ _ (outcome-rows _ _ _ _ (fits (passed (e .before .before))) (good-sizes e) (l .check-list .ensures .0) (c .enum-told2 .given .1))
-
-slice-relend-prefix-place-list : tie.Need-slice-relend-prefix-place-list
-slice-relend-prefix-place-list c = search needs
-
-slice-aggregate-place-list : tie.Need-slice-aggregate-place-list
-slice-aggregate-place-list c = sym (length-take-le _ _ (ltb-false _ _ (c .before .before .before .before .before .before .if3 .left)))
-
-place-list-requires : tie.Need-place-list-requires
-unfolding rowsOf
-place-list-requires c κs =
-    let l = c .before .before .before .before .before in
-    let e = l .before in
-    record {
-      accepted = sym (l .check-list .ensures .0) ∙ c .before .before .before .enum-told .given .1;
-      sizes = sym (e .before .before .sizes-ok .ensures) ∙ not-false _ (e .before .if2 .left);
-      each = length-take-le _ _ (ltb-false _ _ (e .if3 .left));
-    }
-
 same-length-5 : tie.Need-same-length-5
 same-length-5 c = search needs
 
-same-length-6 : tie.Need-same-length-6
-same-length-6 c = search needs
-
-same-length-7 : tie.Need-same-length-7
-same-length-7 c = search needs
-
-returns-4 : tie.Need-returns-4
+returns-3 : tie.Need-returns-3
 unfolding rowsOf
-returns-4 c =
+returns-3 c =
     let p = c .before .before .before .before in
-    let l = p .before .before .before .before .before .before in
-    let e = l .before in
-    answers _ _ _ _
-    (outcome-placed _ _ _ _ (fits (passed (e .before .before))) (good-sizes e) (sym (l .check-list .ensures .0) ∙ p .before .before .before .before .enum-told .given .1) (p .place-list .ensures))
+    let e = p .before .before .before .before in
+    answers _ _ _ _ (outcome-checked _ _ _ _ (fits (passed (e .before .before))) (good-sizes e) (p .check-and-place .ensures))
 
 pub build-spec : {M : Type 1} → statement M
 build-spec =
@@ -144,16 +117,10 @@ build-spec =
     same-length
     same-length-2
     returns-2
-    check-list-requires
-    enum-told
-    enum-told-2
+    slice-relend-prefix-check-and-place
+    slice-aggregate-check-and-place
+    check-and-place-requires
     same-length-3
     same-length-4
-    returns-3
-    slice-relend-prefix-place-list
-    slice-aggregate-place-list
-    place-list-requires
     same-length-5
-    same-length-6
-    same-length-7
-    returns-4)
+    returns-3)

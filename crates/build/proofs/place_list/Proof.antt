@@ -8,30 +8,37 @@ use borrow.Author.Needs.{needs}
 use Rattle.double_array.proofs.DoubleArray.{sizes-told}
 use Rattle.free_slots.specs.Chain.{Linked}
 use Rattle.build.specs.ListTrie.{placedList}
-use Rattle.build.specs.Steps.{Tried}
+use Rattle.build.specs.Steps.{placedNodes, Filled, Tried}
 use Rattle.build.proofs.Turn.{filled-check, filled-here}
 use Rattle.build.proofs.Outcome.{list-past, built-accepted, built-refused}
 use Rattle.build.proofs.place_list.Statement.{statement}
 use Rattle.build.proofs.place_list.Tie as tie
 
 prepare-requires : tie.Need-prepare-requires
-prepare-requires c κs = search needs
+prepare-requires c κs = (_, c .before .before .before .before .before .pre)
+
+abbrev begun : tie.After-prepare → tie.Start
+begun p = p .before .before .before .before .before .before
+
+-- nothing is placed
+none : (p : tie.After-prepare) → let t = now (begun p .args .table) in Filled t (length (now (begun p .args .check))) (placedNodes t 0) (p .prepare .last .0) (p .prepare .last .1 .0) (p .prepare .last .1 .1 .1 .0)
+none p = p .prepare .ensures (now (begun p .args .table)) (begun p .pre)
 
 place-nodes-requires : tie.Need-place-nodes-requires
-place-nodes-requires c κs = let p = c .before .before .before .before .before .before .before in (p .before .before .before .before .before .pre .accepted, filled-here (p .prepare .ensures))
+place-nodes-requires c κs = let p = c .before .before .before .before .before .before .before in (begun p .pre .accepted, filled-here (none p))
 
 abbrev prepared : tie.After-place-nodes → tie.After-prepare
 prepared c = c .before .before .before .before .before .before .before .before
 
 abbrev start : tie.After-place-nodes → tie.Start
-start c = prepared c .before .before .before .before .before
+start c = begun (prepared c)
 
 tried : (c : tie.After-place-nodes) → Tried (now (start c .args .table)) (length (now (start c .args .check))) (placedList (now (start c .args .table))) (c .place-nodes .result) (c .place-nodes .last .1 .0) (c .place-nodes .last .1 .1 .0) (c .place-nodes .last .1 .1 .1 .0)
-tried c = rw (filled-check (prepared c .prepare .ensures)) at (c .place-nodes .ensures)
+tried c = rw (filled-check (none (prepared c))) at (c .place-nodes .ensures)
 
 -- where all nodes have room
 room : (e : tie.Then1) → let c = e .before .before .before .before .before in c .place-nodes .result ≤ length (now (start c .args .check))
-room e = let c = e .before .before .before .before .before in omega (arith, e .if1 .taken, c .place-nodes .kept .1 .1 .0, filled-check (prepared c .prepare .ensures))
+room e = let c = e .before .before .before .before .before in omega (arith, e .if1 .taken, c .place-nodes .kept .1 .1 .0, filled-check (none (prepared c)))
 
 -- the slices with links, once all nodes are placed
 linked : (e : tie.Then1) → let c = e .before .before .before .before .before in let t = now (start c .args .table) in
@@ -86,8 +93,8 @@ returns-2 c =
     let s = start n in
     let p = prepared n .prepare .kept in
     let k = n .place-nodes .kept in
-    built-refused (now (s .args .table)) (now (s .args .base)) (now (s .args .check)) (now (s .args .work)) (sizes-told _ _ (s .pre .sizes) .same) (s .pre .each) (omega (arith, e .if1 .left, k .1 .1 .0, filled-check (prepared n .prepare .ensures))) (tried n)
-    (k .1 .0 ∙ p .1 .0) (k .1 .1 .0 ∙ p .1 .1 .0) (k .1 .1 .1 .0 ∙ p .1 .1 .1 .0) (w .wipe .ensures)
+    built-refused (now (s .args .table)) (now (s .args .base)) (now (s .args .check)) (now (s .args .work)) (sizes-told _ _ (s .pre .sizes) .same) (s .pre .each) (omega (arith, e .if1 .left, k .1 .1 .0, filled-check (none (prepared n)))) (tried n)
+    (k .1 .0 ∙ p .0) (k .1 .1 .0 ∙ p .1 .0) (k .1 .1 .1 .0 ∙ p .1 .1 .1 .0) (w .wipe .ensures)
 
 pub place-list-spec : {M : Type 1} → statement M
 place-list-spec =

@@ -1,10 +1,8 @@
 -- Slots that are all free are linked, and the items are the rows' f: nothing is placed.
-use mathlib.Core.Path.{ap, _∙_}
+use mathlib.Core.Path.{ap, sym, _∙_}
 use Prim.Native.Nat.{ℕ}
-use native.Mathlib.Omega.{arith}
 use lib.IntN.{pos}
 use lib.ListN.{replicate}
-use denote.Ref.{now}
 use borrow.Author.Needs.{needs}
 use Rattle.double_array.proofs.DoubleArray.{sizes-told}
 use Rattle.build.proofs.Outcome.{filled-none}
@@ -14,11 +12,11 @@ use Rattle.build.proofs.prepare.Tie as tie
 wipe-requires : tie.Need-wipe-requires
 wipe-requires c κs = search needs
 
-mark-continued-requires : tie.Need-mark-continued-requires
-mark-continued-requires c κs =
+give-flags-requires : tie.Need-give-flags-requires
+give-flags-requires c κs =
     let w = c .before .before .before .before .before in
-    let s = w .before .before .before .before .before in
-    (s .pre .accepted, w .wipe .ensures .items-zero ∙ ap (λ (n : ℕ). replicate n 0) (s .pre .each))
+    let p = w .before .before .before .before .before .before .pre .1 in
+    p .each-mark ∙ sym (p .each) ∙ sym (w .wipe .kept .1 .1 .0)
 
 same-length : tie.Need-same-length
 same-length c = search needs
@@ -31,19 +29,12 @@ same-length-3 c = search needs
 
 returns : tie.Need-returns
 returns c =
-    let m = c .before .before in
-    let w = m .before .before .before .before .before .before in
-    let s = w .before .before .before .before .before in
-    let z = sizes-told _ _ (s .pre .sizes) in
-    filled-none (now (s .args .table)) (omega (arith, z .low, z .same)) (omega (arith, z .high, z .same)) (w .wipe .ensures .base-free ∙ ap (λ (n : ℕ). replicate n (pos 0)) (z .same)) (w .wipe .ensures .check-free) (m .mark-continued .ensures)
+    let g = c .before .before in
+    let w = g .before .before .before .before .before .before in
+    λ t p.
+    filled-none t p (w .wipe .ensures .base-free ∙ ap (λ (n : ℕ). replicate n (pos 0)) (sizes-told _ _ (p .sizes) .same)) (w .wipe .ensures .check-free) (g .give-flags .kept .1 .0 ∙ w .wipe .kept .1 .1 .0) (g .give-flags .ensures)
 
 pub prepare-spec : {M : Type 1} → statement M
 prepare-spec =
     tie.close
-    (tie.spec
-    wipe-requires
-    mark-continued-requires
-    same-length
-    same-length-2
-    same-length-3
-    returns)
+    (tie.spec wipe-requires give-flags-requires same-length same-length-2 same-length-3 returns)

@@ -21,22 +21,22 @@ use Rattle.list.specs.declared.Found.{Found}
 use Rattle.list.proofs.Table.{row-in}
 use Rattle.list.proofs.Good.{good-none, good-more}
 use Rattle.list.proofs.Check.{fitting-table, verdict-scan, scan-fault, scan-pass, scan-end, passed-row, accepted-refused, checked-good, checked-before}
-use Rattle.list.proofs.Marks.{marked-start, marked-more}
+use Rattle.list.proofs.Marks.{marked-none, marked-more}
 use Rattle.list.proofs.check_rows.Statement.{statement}
 use Rattle.list.proofs.check_rows.Tie as tie
 
-record Scanned (filling : Bool) (t : List ℤ) (n : ℕ) (old new : List ℕ) (i : ℕ) : Type 0 where
+record Scanned (filling : Bool) (t : List ℤ) (n : ℕ) (old new : List Bool) (i : ℕ) : Type 0 where
   within : i ≤ rowsOf t
   long : length new ≡ length old
   good : Good t i
   rest : verdictFor filling t ≡ scan filling t n i (rowsOf t - i)
-  marks : verdictFor filling t ≡ Accepted → Marked t i old new
+  marks : verdictFor filling t ≡ Accepted → Marked t i new
 
 abbrev Inv-loop : tie.InvT-loop
-Inv-loop table n filling work₀ rows near₀ shorter₀ i₀ work near shorter i = Scanned filling table n work₀ work i
+Inv-loop table n filling marks₀ rows near₀ shorter₀ i₀ marks near shorter i = Scanned filling table n marks₀ marks i
 
 abbrev μ-loop : tie.MeasureT-loop
-μ-loop table n filling work₀ rows near₀ shorter₀ i₀ work near shorter i = rowsOf table - i
+μ-loop table n filling marks₀ rows near₀ shorter₀ i₀ marks near shorter i = rowsOf table - i
 
 loop-holds : tie.Need-loop-holds Inv-loop μ-loop
 loop-holds c =
@@ -46,7 +46,7 @@ loop-holds c =
       long = refl;
       good = good-none _;
       rest = rw (s .pre .1) (verdict-scan _ _ (s .pre .0));
-      marks = λ a. marked-start _ _;
+      marks = λ a. marked-none _ (s .args .marks .now) (s .pre .2);
     }
 
 inside : (c : tie.In-loop Inv-loop μ-loop) → c .before .loop .i < rowsOf (now (c .before .before .before .args .table))
@@ -107,8 +107,8 @@ loop-again c =
       good = good-more _ _ (l .loop .inv .good) (p .fields .good) (p .after);
       rest = l .loop .inv .rest ∙ scan-pass _ _ _ _ _ h e;
       marks = λ a.
-          let f : m .mark-continued .last .1 .1 .0 ≡ markFound (findIn t (withoutLast t i)) (l .loop .work) = m .mark-continued .ensures ∙ ap (λ (f : Found). markFound f (l .loop .work)) (r .row-fault .ensures .1 (d .if1 .left) ∙ checked-before (s .args .filling) t a i h) in
-          rw f (marked-more t (checked-good (s .args .filling) t a) i (s .args .work .now) (l .loop .work) (s .pre .2) (l .loop .inv .marks a));
+          let f : m .mark-continued .last .1 .1 .0 ≡ markFound (findIn t (withoutLast t i)) (l .loop .marks) = m .mark-continued .ensures ∙ ap (λ (f : Found). markFound f (l .loop .marks)) (r .row-fault .ensures .1 (d .if1 .left) ∙ checked-before (s .args .filling) t a i h) in
+          rw f (marked-more t (checked-good (s .args .filling) t a) i (l .loop .marks) (l .loop .inv .marks a));
     }
 
 passed-all : (c : tie.After-loop Inv-loop μ-loop) → c .before .loop .i ≡ rowsOf (now (c .before .before .before .args .table))
