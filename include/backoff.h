@@ -45,7 +45,8 @@
  * docs/command-line.md has its form, and examples/saved.c follows it.
  *
  * Threads. Calls may run at the same time if no slice that one of them writes is lent to another. So threads may share
- * one array for lookups, starts, runs, batches, fragments and unloading, each with its own slices to be written. */
+ * one array for lookups, starts, runs, batches, listings, fragments and unloading, each with its own slices to be
+ * written. */
 #ifndef BACKOFF_H
 #define BACKOFF_H
 
@@ -61,7 +62,7 @@ extern "C" {
  * other's lists and arrays. A higher minor number means further calls or numbers. Where a call or a struct changes, a
  * point becomes another part of a logarithm, or arrays get another head (check[0]), the major number changes. */
 #define BACKOFF_VERSION_MAJOR 3
-#define BACKOFF_VERSION_MINOR 0
+#define BACKOFF_VERSION_MINOR 1
 #define BACKOFF_VERSION_PATCH 0
 
 /* The numbers of refusals. The place is the row for 3 to 8, the word (from 1) for 12 in a run or a fragment, the
@@ -97,8 +98,9 @@ enum backoff_number {
     BACKOFF_ARPA_WORD = 18,      /* a word of an ARPA text has no line among the rows of one word */
     BACKOFF_ARPA_COUNT = 19,     /* a section of an ARPA text has more or fewer lines than its count says */
     BACKOFF_SENTENCE_ENDS = 20,  /* the end of a sentence of a batch is below the one before it, or past the words */
-    BACKOFF_BAD_FRAGMENT = 21    /* kept is not the smaller of n-1 and count, the state is one that 16 refuses, or total is
+    BACKOFF_BAD_FRAGMENT = 21,   /* kept is not the smaller of n-1 and count, the state is one that 16 refuses, or total is
                                     further from 0 than count * n * 99,000,000 */
+    BACKOFF_LISTING_SIZE = 22    /* the k of a listing is outside 1..4, or more than 16 words are usable */
 };
 
 /* Sizes and limits. */
@@ -117,6 +119,9 @@ enum backoff_limit {
     BACKOFF_LARGEST_BACKOFF = 99000000,
     BACKOFF_POINTS_PER_LOG = 1000000, /* the points of a base-10 logarithm of 1 */
     BACKOFF_ORDER_HEAD = 16,          /* check[0] of an array is its order and this */
+    BACKOFF_SENTENCE_LIMIT = 4,       /* the most words of a listed sentence */
+    BACKOFF_USABLE_LIMIT = 16,        /* the most words of which listed sentences are made */
+    BACKOFF_LISTING_LIMIT = 65536,    /* the most sentences of a listing */
     BACKOFF_UNKNOWN_WORD = 1,
     BACKOFF_START_WORD = 2,      /* <s> */
     BACKOFF_END_WORD = 3,        /* </s> */
@@ -232,6 +237,28 @@ struct backoff_sheet {
 struct backoff_sheet backoff_batch(const int32_t *base, size_t base_len, const int32_t *check, size_t check_len,
                                    const uint32_t *words, size_t words_len, const uint32_t *ends, size_t ends_len,
                                    int32_t *points, size_t points_len, uint8_t *lengths, size_t lengths_len);
+
+/* The answer of a listing: sentences is how many sentences are listed, and 0 where the call refuses. */
+struct backoff_listing {
+    uint32_t number;
+    uint32_t place;
+    uint32_t sentences;
+};
+
+/* Lists every sentence of k words, k from 1 to 4, with its total. Sentences are made of the usable words: those that have a
+ * row of one word, other than 2 and 3; word 1 is one of them. Over an array that backoff_build did not write, they are those
+ * for which the root has a child. There may be 16 at most, and v usable words make v^k sentences. Each is listed once, in
+ * ascending order, the first word weighing most: of the words 1, 4 and 5 the sentences of two words are 1 1, 1 4, 1 5, 4 1,
+ * 4 4, 4 5, 5 1, 5 4, 5 5. Sentence i, from 1, has its words in words[k * (i - 1)] and the k - 1 items after it, and its
+ * total in totals[i - 1]: the total of a run over its words and a 3, from the state after <s>. k * BACKOFF_LISTING_LIMIT
+ * words and BACKOFF_LISTING_LIMIT totals are enough for any array. Where no word is usable, which no build leaves, there is
+ * no sentence, and nothing is walked.
+ * Refusals: 11; 22; 15, where words has fewer than k * v^k items or totals fewer than v^k; 12, where a sentence meets it.
+ * Accepted: words and totals have the listing, and are untouched past it.
+ * After 11, 15 and 22: words and totals are untouched.
+ * After 12: words and totals are 0 where the listing would stand, and untouched past it. */
+struct backoff_listing backoff_sentences(const int32_t *base, size_t base_len, const int32_t *check, size_t check_len,
+                                         uint32_t k, uint32_t *words, size_t words_len, int64_t *totals, size_t totals_len);
 
 /* Some words of a reading, scored without left context: the total of their points, how many they are, how many first words
  * are kept (the smaller of n - 1 and count), these words as they were given, and the state after all words. Unused items of
@@ -418,6 +445,11 @@ static inline struct backoff_sheet backoff_array_batch(const struct backoff_arra
                          points_len, lengths, lengths_len);
 }
 
+static inline struct backoff_listing backoff_array_sentences(const struct backoff_array *array, uint32_t k, uint32_t *words,
+                                                             size_t words_len, int64_t *totals, size_t totals_len) {
+    return backoff_sentences(array->base, array->slots, array->check, array->slots, k, words, words_len, totals, totals_len);
+}
+
 static inline struct backoff_joined backoff_array_score_fragment(const struct backoff_array *array, const uint32_t *words,
                                                                  size_t words_len) {
     return backoff_score_fragment(array->base, array->slots, array->check, array->slots, words, words_len);
@@ -459,6 +491,7 @@ static inline const char *backoff_reason(uint32_t number) {
         "A section of the ARPA text has more or fewer lines than its count says.",
         "The end of a sentence is below the one before it, or past the words.",
         "The fragment's kept words, state or total cannot come from an array of this order.",
+        "The sentences to be listed have no words or more than 4, or there are more than 16 words to make them of.",
     };
     return number < sizeof reasons / sizeof reasons[0] ? reasons[number] : "No call refuses by this number.";
 }

@@ -2,7 +2,7 @@
 
 use crate::list::{LARGEST_WORD, MOST_ROWS};
 use crate::score::LONGEST_RUN;
-use tests::lists::{mild, natural, natural_sentence, pruned, table, uniform};
+use tests::lists::{mild, natural, natural_sentence, of_words, pruned, table, uniform};
 use tests::random::Random;
 use tests::reference::array::MOST_SLOTS;
 use tests::reference::build::FREE;
@@ -126,6 +126,11 @@ impl List {
         let lists =
             [("natural", natural(&mut random, 5, LARGEST_WORD, MOST_ROWS)), ("uniform", uniform(&mut random, 5, LARGEST_WORD, MOST_ROWS))];
         lists.map(|(name, rows)| (name, List::built(rows, MOST_SLOTS / 4)))
+    }
+
+    /// A list of an order over the words from 1 to this one: the parts of so many random sentences.
+    pub fn of_words(order: usize, last: i32, sentences: usize) -> List {
+        List::new(of_words(&mut Random::new(9), order, &(1..=last).collect::<Vec<i32>>(), sentences))
     }
 
     pub fn rows(&self) -> usize {

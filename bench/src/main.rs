@@ -1,5 +1,6 @@
 //! The calls against Rust written by the team for the same work. Without arguments it prints Markdown tables of ratios, times and memory,
-//! `reading` prints those of ARPA texts alone, `building` that of builders; `instructions KIND LENGTH` runs the scorers once, for `bench/instructions` to count.
+//! `reading` prints those of ARPA texts alone, `building` that of builders, `sentences` that of small sentences; `instructions KIND LENGTH` runs the scorers once, for
+//! `bench/instructions` to count.
 //! `pictured` prints the tables of docs/performance.svg, for which `bench/run` makes the libraries of `bench/peers`; `draw` draws it from a page that has them.
 
 mod arpa;
@@ -22,6 +23,7 @@ mod plain;
 mod reading;
 mod report;
 mod score;
+mod sentences;
 mod time;
 mod unload;
 
@@ -36,6 +38,7 @@ fn main() -> ExitCode {
         ["draw"] => return draw(),
         ["reading"] => reading::print_tables(),
         ["building"] => building::print_table(),
+        ["sentences"] => sentences::print_table(),
         ["text", sentences] => building::print_text(sentences.parse().expect("a number of sentences")),
         ["instructions", kind, length] => instructions::run(kind, length),
         _ => return ExitCode::from(2),

@@ -3,7 +3,7 @@
 use crate::list::MOST_ROWS;
 use crate::lists::{List, KINDS};
 use crate::measure::{build, measure, unload, Measured, PRUNED};
-use crate::{batch, building, filling, reading};
+use crate::{batch, building, filling, reading, sentences};
 use tests::reference::array::MOST_SLOTS;
 
 /// The lists of a kind and what was measured on them, 1,000 rows first.
@@ -25,6 +25,7 @@ pub fn print() {
     print_memory(&results);
     print_largest(&results);
     batch::print_threads(&results[0].lists[1]);
+    sentences::print_table();
     building::print_table();
     reading::print_tables();
 }

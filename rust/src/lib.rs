@@ -118,6 +118,15 @@ pub struct Sheet {
     pub matched: [u32; 5],
 }
 
+/// The answer of a listing: `sentences` is how many sentences are listed, and 0 where the call refuses.
+#[repr(C)]
+#[derive(Clone, Copy, Debug, PartialEq, Eq)]
+pub struct Listing {
+    pub number: u32,
+    pub place: u32,
+    pub sentences: u32,
+}
+
 /// Some words of a reading, scored without left context: their total, how many they are, how many first words are kept (the smaller of n − 1 and `count`), these
 /// words as they were given (unused ones 0), and the state after all words.
 ///
@@ -165,7 +174,7 @@ pub struct Joined {
 }
 
 mod raw {
-    use super::{Found, Fragment, Joined, Rows, Sheet, Status, Total};
+    use super::{Found, Fragment, Joined, Listing, Rows, Sheet, Status, Total};
 
     // A slice crosses as a pointer and a length.
     extern "C" {
@@ -252,6 +261,18 @@ mod raw {
             lengths: *mut u8,
             lengths_len: usize,
         ) -> Sheet;
+
+        pub fn backoff_sentences(
+            base: *const i32,
+            base_len: usize,
+            check: *const i32,
+            check_len: usize,
+            k: u32,
+            words: *mut u32,
+            words_len: usize,
+            totals: *mut i64,
+            totals_len: usize,
+        ) -> Listing;
 
         pub fn backoff_score_fragment(
             base: *const i32,
@@ -395,6 +416,46 @@ pub fn batch(base: &[i32], check: &[i32], words: &[u32], ends: &[u32], points: &
             points.len(),
             lengths.as_mut_ptr(),
             lengths.len(),
+        )
+    }
+}
+
+/// Lists every sentence of `k` words, 1 to 4, with its total, for which it is scored from `<s>` and closed with a 3. Sentences are made of the usable words: those that have a
+/// row of one word, other than 2 and 3; word 1 is one of them. v usable words, 16 at most, make v<sup>k</sup> sentences; each is listed once, in ascending order, the first word
+/// weighing most. `words` has at least k items for each sentence, `totals` at least one; for any array `k` times [`limits::LISTING_LIMIT`] and
+/// [`limits::LISTING_LIMIT`] items are enough.
+///
+/// Refusals: 11; 22, where `k` is outside 1 to 4 or more than 16 words are usable; 15; 12, whose place is 0. After 12 `words` and `totals` are 0 where the listing would stand; after
+/// the others they are untouched. They are always untouched past the listing.
+///
+/// ```
+/// # let list = [
+/// #     [1, 1, 0, 0, 0, 0, -20_000, 0],
+/// #     [1, 2, 0, 0, 0, 0, -990_000, -3_000],
+/// #     [1, 3, 0, 0, 0, 0, -10_000, 0],
+/// #     [1, 4, 0, 0, 0, 0, -6_000, -2_000],
+/// #     [2, 2, 4, 0, 0, 0, -4_000, 0],
+/// # ];
+/// # let (mut base, mut check, mut work) = ([0; 64], [0; 64], [0; 5]);
+/// # assert_eq!(backoff::build(list.as_flattened(), &mut base, &mut check, &mut work).number, 0);
+/// // Words 1 and 4 are usable.
+/// let (mut words, mut totals) = ([0; 8], [0; 4]);
+/// assert_eq!(backoff::sentences(&base, &check, 2, &mut words, &mut totals).sentences, 4);
+/// assert_eq!(words.as_chunks::<2>().0, [[1, 1], [1, 4], [4, 1], [4, 4]]);
+/// assert_eq!(totals, [-53_000, -41_000, -36_000, -24_000]);
+/// ```
+pub fn sentences(base: &[i32], check: &[i32], k: u32, words: &mut [u32], totals: &mut [i64]) -> Listing {
+    unsafe {
+        raw::backoff_sentences(
+            base.as_ptr(),
+            base.len(),
+            check.as_ptr(),
+            check.len(),
+            k,
+            words.as_mut_ptr(),
+            words.len(),
+            totals.as_mut_ptr(),
+            totals.len(),
         )
     }
 }

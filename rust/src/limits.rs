@@ -28,6 +28,12 @@ pub const LARGEST_BACKOFF: i32 = 99_000_000;
 pub const POINTS_PER_LOG: i32 = 1_000_000;
 /// `check[0]` of an array is its order and this.
 pub const ORDER_HEAD: i32 = 16;
+/// The most words of a listed sentence.
+pub const SENTENCE_LIMIT: usize = 4;
+/// The most words of which listed sentences are made.
+pub const USABLE_LIMIT: usize = 16;
+/// The most sentences of a listing.
+pub const LISTING_LIMIT: usize = 65_536;
 /// `</s>`, which ends a sentence.
 pub const END_WORD: u32 = 3;
 /// Added to the length byte of an unknown word.

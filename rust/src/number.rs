@@ -22,3 +22,4 @@ pub const ARPA_WORD: u32 = 18;
 pub const ARPA_COUNT: u32 = 19;
 pub const SENTENCE_ENDS: u32 = 20;
 pub const BAD_FRAGMENT: u32 = 21;
+pub const LISTING_SIZE: u32 = 22;

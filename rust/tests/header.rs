@@ -32,6 +32,9 @@ fn limits() {
         ("SLOT_LIMIT", SLOT_LIMIT),
         ("RECORD_BYTES", RECORD_BYTES),
         ("TEXT_LIMIT", TEXT_LIMIT),
+        ("SENTENCE_LIMIT", SENTENCE_LIMIT),
+        ("USABLE_LIMIT", USABLE_LIMIT),
+        ("LISTING_LIMIT", LISTING_LIMIT),
         ("END_WORD", END_WORD as usize),
         ("UNKNOWN_LENGTH", UNKNOWN_LENGTH as usize),
         ("EXTENDED_LENGTH", EXTENDED_LENGTH as usize),
@@ -76,6 +79,7 @@ fn refusals() {
         ("ARPA_COUNT", ARPA_COUNT),
         ("SENTENCE_ENDS", SENTENCE_ENDS),
         ("BAD_FRAGMENT", BAD_FRAGMENT),
+        ("LISTING_SIZE", LISTING_SIZE),
     ];
     assert_eq!(numbers("backoff_number"), ours.map(|(name, number)| (name.to_string(), number as i64)).into());
 }

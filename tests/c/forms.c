@@ -2,7 +2,7 @@
  * sample's array and over one whose head is refused; and the array in its fewest slots is the one of a build into more. */
 #include "test.h"
 
-enum { ROWS = 9, ITEMS = 72, SLOTS = 64, LEAST = 20, WORDS = 5 };
+enum { ROWS = 9, ITEMS = 72, SLOTS = 64, LEAST = 20, WORDS = 5, SENTENCES = 9 };
 
 static const uint32_t WORDS_SCORED[WORDS] = {4, 5, 9, 4, BACKOFF_END_WORD};
 static const uint32_t ENDS[2] = {2, 5};
@@ -16,6 +16,8 @@ struct lent {
     int32_t state[BACKOFF_STATE_LENGTH];
     int32_t points[WORDS];
     uint8_t lengths[WORDS];
+    uint32_t listed[2 * SENTENCES];
+    int64_t totals[SENTENCES];
 };
 
 static struct lent plain, formed;
@@ -36,6 +38,10 @@ static int same_found(struct backoff_found a, struct backoff_found b) {
 static int same_sheet(struct backoff_sheet a, struct backoff_sheet b) {
     return a.number == b.number && a.place == b.place && a.sentences == b.sentences && a.total == b.total &&
            a.words == b.words && a.unknown == b.unknown && memcmp(a.matched, b.matched, sizeof a.matched) == 0;
+}
+
+static int same_listing(struct backoff_listing a, struct backoff_listing b) {
+    return a.number == b.number && a.place == b.place && a.sentences == b.sentences;
 }
 
 static int same_joined(struct backoff_joined a, struct backoff_joined b) {
@@ -73,6 +79,12 @@ static void expect_readers(uint32_t number) {
                                backoff_array_batch(&array, WORDS_SCORED, WORDS, ENDS, 2, formed.points, WORDS,
                                                    formed.lengths, WORDS)) &&
                         same_slices());
+    struct backoff_listing listing =
+        backoff_array_sentences(&array, 2, formed.listed, 2 * SENTENCES, formed.totals, SENTENCES);
+    expect("sentences", same_listing(backoff_sentences(plain.base, SLOTS, plain.check, SLOTS, 2, plain.listed, 2 * SENTENCES,
+                                                       plain.totals, SENTENCES),
+                                     listing) &&
+                            same_slices());
     struct backoff_joined fragment = backoff_array_score_fragment(&array, WORDS_SCORED, WORDS);
     expect("fragment",
            same_joined(backoff_score_fragment(plain.base, SLOTS, plain.check, SLOTS, WORDS_SCORED, WORDS), fragment));

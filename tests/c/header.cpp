@@ -2,6 +2,7 @@
 #include "backoff.h"
 
 static_assert(BACKOFF_BAD_STATE == 16 && BACKOFF_LEAST_BACKOFF == -BACKOFF_LARGEST_BACKOFF, "numbers of the header");
+static_assert(BACKOFF_LISTING_SIZE == 22 && BACKOFF_LISTING_LIMIT == 65536, "number and limit of a listing");
 static_assert(BACKOFF_UNKNOWN_LENGTH == 8 && BACKOFF_EXTENDED_LENGTH == 16, "what is added to a length byte");
 
 int main() {
@@ -11,6 +12,7 @@ int main() {
     const backoff_status none = backoff_start(nullptr, 0, nullptr, 0, state, BACKOFF_STATE_LENGTH);
     const backoff_rows no_text = backoff_arpa(nullptr, 0, false, nullptr, 0, nullptr, 0);
     const backoff_sheet no_sheet = backoff_batch(nullptr, 0, nullptr, 0, nullptr, 0, nullptr, 0, nullptr, 0, nullptr, 0);
+    const backoff_listing no_listing = backoff_sentences(nullptr, 0, nullptr, 0, 1, nullptr, 0, nullptr, 0);
     const backoff_fragment empty{};
     const backoff_joined no_fragment = backoff_join_fragments(nullptr, 0, nullptr, 0, empty, empty);
     const backoff_rows no_list = backoff_fill(nullptr, 0, nullptr, 0);
@@ -18,6 +20,7 @@ int main() {
     const backoff_found not_found = backoff_array_lookup(&no_array, nullptr, 0);
     const bool formed = not_found.number == BACKOFF_ARRAY_HEAD && backoff_reason(not_found.number) != backoff_reason(0);
     const bool holds = missing.number == BACKOFF_RESERVED_WORD && none.number == BACKOFF_ARRAY_HEAD && state[0] == 0;
-    const bool refused = no_sheet.number == BACKOFF_ARRAY_HEAD && no_fragment.number == BACKOFF_ARRAY_HEAD;
+    const bool refused = no_sheet.number == BACKOFF_ARRAY_HEAD && no_listing.number == BACKOFF_ARRAY_HEAD &&
+                         no_fragment.number == BACKOFF_ARRAY_HEAD;
     return holds && refused && formed && no_text.number == BACKOFF_ARPA_LINE && no_list.number == BACKOFF_TABLE_LENGTH ? 0 : 1;
 }

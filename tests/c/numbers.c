@@ -49,6 +49,9 @@ static void expect_array_numbers(void) {
     state[0] = 3;
     expect("bad state by its numbers", run_is(BACKOFF_STATE_LENGTH, 2, BACKOFF_BAD_STATE, 0));
     state[0] = 0;
+    expect("listing size",
+           backoff_sentences(base, SLOTS, check, SLOTS, BACKOFF_SENTENCE_LIMIT + 1, NULL, 0, NULL, 0).number ==
+               BACKOFF_LISTING_SIZE);
     base[work[4]] = 0;
     expect("broken node at the second word", run_is(BACKOFF_STATE_LENGTH, 2, BACKOFF_BROKEN_NODE, 2));
 }
@@ -78,9 +81,32 @@ static void expect_limits(void) {
                                BACKOFF_ARRAY_LENGTH, 0));
 }
 
+/* The longest sentences over so many usable words: 1, then 4 and those after it. */
+static struct backoff_listing list_usable(int32_t usable) {
+    enum { MOST = BACKOFF_USABLE_LIMIT + 3, WIDE = 2 * MOST + 2 };
+    static int32_t rows[MOST][BACKOFF_ROW_ITEMS], wide_base[WIDE], wide_check[WIDE];
+    static uint32_t slots[MOST], words[BACKOFF_SENTENCE_LIMIT * BACKOFF_LISTING_LIMIT];
+    static int64_t totals[BACKOFF_LISTING_LIMIT];
+    size_t count = (size_t)usable + 2;
+    for (int32_t i = 0; i < usable + 2; i++) {
+        rows[i][0] = 1;
+        rows[i][1] = i + 1;
+    }
+    backoff_build(&rows[0][0], BACKOFF_ROW_ITEMS * count, wide_base, WIDE, wide_check, WIDE, slots, count);
+    return backoff_sentences(wide_base, WIDE, wide_check, WIDE, BACKOFF_SENTENCE_LIMIT, words,
+                             sizeof words / sizeof words[0], totals, BACKOFF_LISTING_LIMIT);
+}
+
+static void expect_listing_limits(void) {
+    struct backoff_listing most = list_usable(BACKOFF_USABLE_LIMIT), more = list_usable(BACKOFF_USABLE_LIMIT + 1);
+    expect("the most sentences", most.number == BACKOFF_ACCEPTED && most.sentences == BACKOFF_LISTING_LIMIT);
+    expect("one usable word more", more.number == BACKOFF_LISTING_SIZE && more.sentences == 0);
+}
+
 int main(void) {
     expect_list_numbers();
     expect_array_numbers();
     expect_limits();
+    expect_listing_limits();
     return counted();
 }

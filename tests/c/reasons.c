@@ -1,7 +1,7 @@
 /* Each refusal number has a sentence of its own, and so has every number that is none. */
 #include "test.h"
 
-enum { NUMBERS = BACKOFF_BAD_FRAGMENT + 1 };
+enum { NUMBERS = BACKOFF_LISTING_SIZE + 1 };
 
 static int is_sentence(const char *text) {
     size_t length = strlen(text);
@@ -19,6 +19,7 @@ int main(void) {
     for (uint32_t number = 0; number <= NUMBERS; number++)
         expect("a sentence of its own", is_sentence(backoff_reason(number)) && is_own(number));
     expect("all further numbers are none", strcmp(backoff_reason(NUMBERS), backoff_reason(UINT32_MAX)) == 0);
-    expect("the last number is that of fragments", strstr(backoff_reason(BACKOFF_BAD_FRAGMENT), "fragment") != NULL);
+    expect("the number of fragments", strstr(backoff_reason(BACKOFF_BAD_FRAGMENT), "fragment") != NULL);
+    expect("the last number is that of listings", strstr(backoff_reason(BACKOFF_LISTING_SIZE), "listed") != NULL);
     return counted();
 }

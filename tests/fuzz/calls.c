@@ -4,7 +4,7 @@
 #include <stdio.h>
 
 /* In one call of LOCKED the slices that are not to be written lie in pages that cannot be written. */
-enum { NUMBERS = 22, SMALL_LIST = 8 * 300, SMALL_ARRAY = 4000, SMALL_TEXT = 1 << 16, LOCKED = 10 };
+enum { NUMBERS = 23, SMALL_LIST = 8 * 300, SMALL_ARRAY = 4000, SMALL_TEXT = 1 << 16, LOCKED = 10 };
 
 #define LIST_NUMBERS (1u << 1 | 0x3Fu << 3 | 1u << 9)
 
@@ -31,6 +31,7 @@ static const struct form FORMS[CALLS] = {
     {"backoff_score_fragment", 3, {false}, 1u << 11 | 1u << 12 | 1u << 14},
     {"backoff_join_fragments", 4, {false}, 1u << 11 | 1u << 12 | 1u << 14 | 1u << 21},
     {"backoff_fill", 2, {false, true}, LIST_NUMBERS | 1u << 15},
+    {"backoff_sentences", 5, {false, false, false, true, true}, 1u << 11 | 1u << 12 | 1u << 15 | 1u << 22},
 };
 
 /* How often each call gave each number. */
@@ -73,6 +74,11 @@ static struct answer of_sheet(struct backoff_sheet sheet) {
     return answer;
 }
 
+static struct answer of_listing(struct backoff_listing listing) {
+    struct answer answer = {.number = listing.number, .place = listing.place, .sentences = listing.sentences};
+    return answer;
+}
+
 static struct answer of_joined(struct backoff_joined joined) {
     struct answer answer = {.number = joined.number, .place = joined.place, .fragment = joined.fragment};
     return answer;
@@ -100,6 +106,9 @@ static struct answer perform(enum call call, bool flag, void *const *p, const st
                                       s[4].count, p[5], s[5].count));
     case FILL:
         return of_rows(backoff_fill(p[0], s[0].count, p[1], s[1].count));
+    case SENTENCES:
+        return of_listing(backoff_sentences(p[0], s[0].count, p[1], s[1].count, words_of(s[2])[0], p[3], s[3].count, p[4],
+                                            s[4].count));
     case FRAGMENT:
         return of_joined(backoff_score_fragment(p[0], s[0].count, p[1], s[1].count, p[2], s[2].count));
     case JOIN:
@@ -129,9 +138,15 @@ static struct answer ask_at(enum placement placement, enum call call, bool flag,
 
 /* ---- what must hold of a slice */
 
+static bool is_item(struct slice slice, size_t i, int32_t number) {
+    return slice.width == 1   ? bytes_of(slice)[i] == (uint8_t)number
+           : slice.width == 8 ? totals_of(slice)[i] == number
+                              : ints(slice)[i] == number;
+}
+
 static bool is_all(struct slice slice, size_t end, int32_t number) {
     for (size_t i = 0; i < end; i++)
-        if (slice.width == 1 ? bytes_of(slice)[i] != (uint8_t)number : ints(slice)[i] != number)
+        if (!is_item(slice, i, number))
             return false;
     return true;
 }
@@ -417,6 +432,31 @@ static void see_batch(const struct slice *before, const struct slice *after, str
         see_sheet(after[5], sentences, last, answer);
 }
 
+/* The number, and the words of the listing; its totals are compared in sentences.c. */
+static void see_sentences(const struct slice *before, const struct slice *after, struct answer answer) {
+    bool head = is_head(before[0], before[1]);
+    uint32_t k = words_of(before[2])[0];
+    struct slice usable = head ? usable_words(before[0], before[1]) : block(0, 4);
+    bool size = head && is_listing(k, usable.count);
+    size_t count = size ? sentence_count(usable.count, k) : 0, words = size ? k * count : 0;
+    bool fits = before[3].count >= words && before[4].count >= count;
+    require((answer.number == 11) == !head, "11 exactly where the head is wrong");
+    require((answer.number == 22) == (head && !size), "22 exactly where there are too many words, or k is wrong");
+    require((answer.number == 15) == (size && !fits), "15 exactly where a slice is too short");
+    require(answer.place == 0, "place of a listing");
+    require(answer.sentences == (answer.number == 0 ? count : 0), "the number of sentences");
+    if (answer.number != 0 && answer.number != 12) {
+        require(same(before[3], after[3]) && same(before[4], after[4]), "words and totals untouched");
+        return;
+    }
+    require(is_kept_from(before[3], after[3], words) && is_kept_from(before[4], after[4], count),
+            "words and totals past the listing");
+    if (answer.number == 12)
+        require(is_all(after[3], words, 0) && is_all(after[4], count, 0), "words and totals 0 after 12");
+    else
+        require(same(part_of(after[3], 0, words), sentences_by_rules(usable, k)), "the sentences in their order");
+}
+
 /* The empty fragment where refused; else one that passes 21, of these first words. */
 static void see_first_words(struct backoff_fragment fragment, int32_t order, uint64_t count, const uint32_t *words,
                             size_t words_len) {
@@ -525,6 +565,9 @@ static void see(enum call call, bool flag, const struct slice *before, const str
         break;
     case FILL:
         see_filling(before, after, answer);
+        break;
+    case SENTENCES:
+        see_sentences(before, after, answer);
         break;
     default:
         see_unload(before, after, answer);

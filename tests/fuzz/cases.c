@@ -1,5 +1,5 @@
 /* The cases: lists, built arrays, arrays that no build wrote, lengths, ARPA texts (arpa.c), batches (batch.c), fragments
- * (fragments.c) and fillings (filling.c), with what must hold between calls. */
+ * (fragments.c), fillings (filling.c) and small sentences (sentences.c), with what must hold between calls. */
 #include "fuzz.h"
 
 /* ---- the calls, with fresh slices to be written */
@@ -398,6 +398,9 @@ static void limit_case(size_t kind) {
     case 6:
         filling_limit_case();
         break;
+    case 7:
+        sentence_limit_case();
+        break;
     default:
         built = build_fitting(table);
         see_split(built, empty_state(), text(table, words));
@@ -407,11 +410,11 @@ static void limit_case(size_t kind) {
 }
 
 /* The limits, each once from this case on; they take long, so a wrong library is mostly caught before. */
-enum { FIRST_LIMIT = 400, LIMITS = 8 };
+enum { FIRST_LIMIT = 400, LIMITS = 9 };
 
 /* The other cases are drawn, those of the limits rarely. */
 void run_case(uint64_t number) {
-    size_t kind = below(1900);
+    size_t kind = below(2050);
     if (number >= FIRST_LIMIT && number < FIRST_LIMIT + LIMITS)
         limit_case((size_t)number - FIRST_LIMIT);
     else if (kind < 1)
@@ -432,6 +435,8 @@ void run_case(uint64_t number) {
         batch_case();
     else if (kind < 1700)
         fragment_case();
-    else
+    else if (kind < 1900)
         filling_case();
+    else
+        sentence_case();
 }

@@ -149,6 +149,26 @@ struct slice accepted_list(void) {
     return table;
 }
 
+/* The list with at least so many rows of one word: words up to 60 are added. */
+struct slice with_words(struct slice table, size_t words) {
+    static int32_t rows[MOST_ROWS][8];
+    size_t count = rows_in(table), ones = 0;
+    memcpy(rows, table.items, table.count * 4);
+    while (ones < count && rows[ones][0] == 1)
+        ones++;
+    while (ones < words) {
+        int32_t word = between(4, 60);
+        size_t before = count;
+        add_row(rows, &count, &word, 1);
+        rows[count - 1][6] = count > before ? drawn_probability() : rows[count - 1][6];
+        ones += count - before;
+    }
+    qsort(rows, count, sizeof rows[0], compare_rows);
+    struct slice longer = block(8 * count, 4);
+    memcpy(longer.items, rows, 8 * count * 4);
+    return longer;
+}
+
 /* Numbers of which five in a row add up to a p in range. */
 void soften(struct slice table) {
     int32_t order = row_of(table, rows_in(table) - 1)[0];

@@ -18,10 +18,12 @@ static inline uint32_t *words_of(struct slice slice) { return (uint32_t *)slice.
 
 static inline uint8_t *bytes_of(struct slice slice) { return (uint8_t *)slice.items; }
 
+static inline int64_t *totals_of(struct slice slice) { return (int64_t *)slice.items; }
+
 static inline struct backoff_fragment fragment_in(struct slice slice) { return *(struct backoff_fragment *)slice.items; }
 
 /* The calls, the most slices that one of them takes, and their answers put into one form. */
-enum call { CHECK, BUILD, LOOKUP, START, RUN, PLAIN, UNLOAD, ARPA, BATCH, FRAGMENT, JOIN, FILL, CALLS };
+enum call { CHECK, BUILD, LOOKUP, START, RUN, PLAIN, UNLOAD, ARPA, BATCH, FRAGMENT, JOIN, FILL, SENTENCES, CALLS };
 
 enum { MOST_SLICES = 6 };
 
@@ -64,6 +66,7 @@ bool chance(size_t percent);
 int32_t extreme(void);
 struct slice rubbish(size_t count, size_t width);
 struct slice accepted_list(void);
+struct slice with_words(struct slice table, size_t words);
 void soften(struct slice table);
 struct slice longest_list(size_t rows);
 void damage_list(struct slice *table);
@@ -120,6 +123,13 @@ bool side_fits(struct slice taken, size_t d, bool behind, const int32_t *words, 
 struct answer lookup_by_rules(struct slice base, struct slice check, struct slice words);
 uint32_t unload_by_rules(struct slice base, struct slice check, struct slice table, struct slice work);
 
+/* What document 02 says of all small sentences (sentence_rules.c): the words of which they are made, whether 22 lets k and
+ * the number of these words pass, how many sentences there are, and their words one after the other. */
+struct slice usable_words(struct slice base, struct slice check);
+bool is_listing(uint32_t k, size_t usable);
+size_t sentence_count(size_t usable, uint32_t k);
+struct slice sentences_by_rules(struct slice usable, uint32_t k);
+
 /* What document 02 says of an ARPA text (arpa_rules.c): fills table and store as the call must leave them. */
 struct answer arpa_by_rules(struct slice text, bool to_be_filled, struct slice table, struct slice store);
 
@@ -149,6 +159,10 @@ struct arrays other_arrays(struct slice table);
 /* Batches (batch.c). */
 void batch_case(void);
 void batch_limit_case(void);
+
+/* All small sentences (sentences.c). */
+void sentence_case(void);
+void sentence_limit_case(void);
 
 /* Fragments (fragments.c). */
 void fragment_case(void);

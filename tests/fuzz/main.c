@@ -8,7 +8,7 @@
 #include <time.h>
 
 /* So many cases are run however slow the machine is: enough to meet every number. */
-enum { LEAST_CASES = 7600 };
+enum { LEAST_CASES = 8200 };
 
 static unsigned long long seed, number;
 

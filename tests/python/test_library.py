@@ -40,8 +40,8 @@ LIMITS = [
     "END_WORD",
     "UNKNOWN_LENGTH",
 ]
-# Numbers that no call of the module gives: acceptance, the totals program's, and that of fragments.
-OTHER_NUMBERS = {0, 13, 21}
+# Numbers that no call of the module gives: acceptance, the totals program's, those of fragments and of listings.
+OTHER_NUMBERS = {0, 13, 21, 22}
 
 
 def printed_by_c(expressions: list[str]) -> list[int]:

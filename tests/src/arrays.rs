@@ -1,9 +1,10 @@
 //! Arrays to lend: those of the placing rule, those of another rule, changed ones, and ones that no build wrote.
 
 use crate::random::Random;
-use crate::reference::array::{Side, HEAD};
+use crate::reference::array::{Array, Side, HEAD};
 use crate::reference::build::{place, place_by, slots_used, write, Node, FREE};
 use crate::reference::list::{Row, LARGEST_B, LOWEST_P};
+use crate::reference::sentences::usable_words;
 
 #[derive(Clone, Debug, PartialEq, Eq)]
 pub struct Arrays {
@@ -19,6 +20,17 @@ impl Arrays {
     /// The order that the head tells.
     pub fn order(&self) -> i32 {
         self.check[0] - HEAD
+    }
+
+    /// How many words are usable in small sentences, where 11 lets the head pass.
+    pub fn usable(&self) -> usize {
+        usable_words(&Array::new(&self.base, &self.check).expect("a head that 11 lets pass")).len()
+    }
+
+    /// How many words and totals all sentences of k words have.
+    pub fn listing(&self, k: u32) -> (usize, usize) {
+        let count = self.usable().pow(k);
+        (k as usize * count, count)
     }
 
     /// Item i of BASE, then of CHECK.

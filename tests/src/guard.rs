@@ -16,6 +16,10 @@ impl Guard for u32 {
     const GUARD: u32 = 0x5A5A_5A5A;
 }
 
+impl Guard for i64 {
+    const GUARD: i64 = 0x5A5A_5A5A_5A5A_5A5A;
+}
+
 impl Guard for u8 {
     const GUARD: u8 = 0x5A;
 }

@@ -83,6 +83,41 @@ pub fn tiny(random: &mut Random, order: usize) -> Vec<Row> {
     }
 }
 
+/// A list of an order with so many words besides `<s>` and `</s>`: word 1, and others that leave gaps between them.
+pub fn with_usable(random: &mut Random, order: usize, usable: usize, sentences: usize) -> Vec<Row> {
+    let highest = random.pick(&[4 + 2 * usable as i32, 300, LARGEST_WORD]);
+    let mut words = BTreeSet::from(MARKS);
+    while words.len() < MARKS.len() + usable - 1 {
+        words.insert(random.between(4, highest));
+    }
+    of_words(random, order, &words.into_iter().collect::<Vec<i32>>(), sentences)
+}
+
+/// Such a list of few words, whose array is small.
+pub fn tiny_usable(random: &mut Random, order: usize) -> Vec<Row> {
+    loop {
+        let (usable, sentences) = (1 + random.below(4), random.below(3));
+        let rows = with_usable(random, order, usable, sentences);
+        if rows.len() <= 25 && rows.iter().all(|row| row.words[0] <= 30) {
+            return rows;
+        }
+    }
+}
+
+/// A list of an order with rows for the marks and each of these words, and for the parts of so many random sentences of them.
+pub fn of_words(random: &mut Random, order: usize, words: &[i32], sentences: usize) -> Vec<Row> {
+    let first = (0..order).map(|_| random.pick(words)).collect();
+    let (mut alone, mut left) = (words.iter(), sentences);
+    let sentence = |random: &mut Random| {
+        if let Some(&word) = alone.next() {
+            return Some(vec![word]);
+        }
+        left = left.checked_sub(1)?;
+        Some((0..order + 2).map(|_| random.pick(words)).collect())
+    };
+    from_sentences(random, order, MOST_ROWS, first, sentence)
+}
+
 /// A list of the given number of rows whose words are all equally frequent.
 pub fn uniform(random: &mut Random, order: usize, words: i32, rows: usize) -> Vec<Row> {
     let sentence = |random: &mut Random| Some((0..order).map(|_| random.between(1, words)).collect());

@@ -2,7 +2,7 @@
 -- Assumes nothing.
 use mathlib.Core.Path.{_≡_, refl, sym, ap, ap₂, _∙_}
 use mathlib.Core.Bool.{true, false, cond}
-use mathlib.Core.List.{List, [], _∷_, _++_, map, append-assoc, append-nil, map-append}
+use mathlib.Core.List.{List, [], _∷_, _++_, map, append-assoc, map-append}
 use mathlib.Core.Option.{Option}
 use Prim.Native.Nat.{ℕ, suc, _+_, _*_, _-_, _%_, _≤_, _<_}
 use native.Mathlib.Numerals.{add-one}
@@ -17,6 +17,7 @@ use Rattle.backoff.specs.Limits.{orderLimit, largestBackoff, runLimit}
 use Rattle.backoff.specs.Run.{Run}
 use Rattle.backoff.specs.Runs.{flat}
 use Rattle.backoff.specs.Store.{Store}
+use Rattle.backoff.proofs.Runs.{flat-one}
 use Rattle.score.proofs.Written.{drop-more}
 use Rattle.batch.specs.Sheet.{stretch, sentence, sentences, lastEnd, wordsRun, closed, isScored, sentenceTotal, wordPoints, wordBytes, closingBytes, totalOf, firstRefused, badEnd}
 use Rattle.batch.specs.Inner.{counted, Tallied, AllScored, OneRefused}
@@ -24,14 +25,6 @@ use Rattle.batch.proofs.Ends.{lastEnd-next, good-end, good-last}
 use Rattle.batch.proofs.Counts.{tallied-small, tallied-closing, counted-small}
 
 -- ---- sentences in two parts
-
-flat-append : {A : Type 0} (xs ys : List (List A)) → flat (xs ++ ys) ≡ flat xs ++ flat ys
-unfolding flat
-flat-append [] ys = refl
-flat-append (x ∷ xs) ys = ap (λ z. x ++ z) (flat-append xs ys) ∙ sym (append-assoc x (flat xs) (flat ys))
-
-flat-one : {A : Type 0} (xs : List (List A)) (x : List A) → flat (xs ++ (x ∷ [])) ≡ flat xs ++ x
-flat-one xs x = flat-append xs (x ∷ []) ∙ (unfold flat in ap (λ z. flat xs ++ z) (append-nil x))
 
 pub sentences-append : (a : ℕ) (es fs : List ℕ) (r : Run) → sentences a (es ++ fs) r ≡ sentences a es r ++ sentences (lastEnd a es) fs r
 unfolding sentences lastEnd

@@ -12,6 +12,7 @@ use Rattle.backoff.specs.declared.Verdict.the-variants.{Accepted}
 use Rattle.double_array.specs.Lookup.{lookupIn, lookupOutcome}
 use Rattle.double_array.proofs.DoubleArray.{sizes-shown}
 use Rattle.batch.specs.Sheet.{sheetOutcome}
+use Rattle.sentences.specs.Listing.{listingOutcome}
 use Rattle.fragments.specs.Outcome.{fragmentOutcome, joinOutcome}
 use Rattle.build.specs.Build.{Built, buildOutcome}
 use Rattle.build.specs.FewestSlots.{fewest, cutBase, cutCheck, Lent}
@@ -30,6 +31,7 @@ builds-answer-alike table base check base′ check′ work work′ e e′ =
       starts = λ l. ap (λ (o : Option Store). startOutcome o l) same;
       runs = λ l r. ap (λ (o : Option Store). runOutcome o l r) same;
       sheets = λ ends r. ap (λ (o : Option Store). sheetOutcome o ends r) same;
+      listings = λ k words totals. ap (λ (o : Option Store). listingOutcome o k words totals) same;
       fragments = λ ws. ap (λ (o : Option Store). fragmentOutcome o ws) same;
       joins = λ one two. ap (λ (o : Option Store). joinOutcome o one two) same;
       unloads = λ t w. build-unloads table base check work t w e ∙ sym (build-unloads table base′ check′ work′ t w e′);

@@ -3,6 +3,7 @@ pub mod Exports
 pub mod RunsInARow
 pub mod OneWord
 pub mod OneWordExample
+pub mod Sentences
 pub mod SentencesApart
 pub mod BatchSheet
 pub mod MarkedCases

@@ -6,6 +6,7 @@ use double_array::Lookup;
 use fragments::Fragment;
 use fragments::Joined;
 use score::State;
+use sentences::Listing;
 ghost use mathlib.Core.Path.{_≡_};
 ghost use lib.ListN.{length};
 ghost use Rattle.backoff.specs.Model.{AcceptedModel};
@@ -20,6 +21,8 @@ ghost use Rattle.score.specs.Answers.{numbersOf};
 ghost use Rattle.score.specs.Meaning.{StartMeans, RunMeans};
 ghost use Rattle.batch.specs.Sheet.{sheetOutcome};
 ghost use Rattle.batch.specs.Meaning.{SheetMeans};
+ghost use Rattle.sentences.specs.Listing.{listingOutcome};
+ghost use Rattle.sentences.specs.Meaning.{ListingMeans};
 ghost use Rattle.fragments.specs.Outcome.{fragmentOutcome, joinOutcome};
 ghost use Rattle.fragments.specs.Meaning.{ScoringMeans, JoinMeans};
 ghost use Rattle.plain.specs.Plain.{runOf, plainOutcome, PlainMeans};
@@ -263,6 +266,21 @@ pub extern "C" fn backoff_batch(
     ensures meaning { λ r. ⌜ SheetMeans (now (ends .entry)) (runOf (now (words .entry)) (now (points .entry)) (now (lengths .entry))) (record { sheet = r; points = now (points .exit); lengths = now (lengths .exit) }) ⌝ }
 {
     batch::score_batch(base, check, words, ends, points, lengths)
+}
+
+// Lists every sentence of k usable words in order, with its total from `<s>` to the closing 3: 11, 22, 15, 12.
+#[no_mangle]
+pub extern "C" fn backoff_sentences(
+    base: &[i32],
+    check: &[i32],
+    k: u32,
+    words: &mut [u32],
+    totals: &mut [i64],
+) -> Listing
+    ensures outcome { λ r. ⌜ record { listing = r; words = now (words .exit); totals = now (totals .exit) } ≡ listingOutcome (opened (now (base .entry)) (now (check .entry))) k (now (words .entry)) (now (totals .entry)) ⌝ }
+    ensures meaning { λ r. ⌜ ListingMeans (opened (now (base .entry)) (now (check .entry))) k (now (words .entry)) (now (totals .entry)) (record { listing = r; words = now (words .exit); totals = now (totals .exit) }) ⌝ }
+{
+    sentences::list_sentences(base, check, k, words, totals)
 }
 
 // Scores words without left context, as a fragment: 11, 14, 12. Nothing is written.

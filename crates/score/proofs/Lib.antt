@@ -10,4 +10,5 @@ pub mod Beginning
 pub mod Stepping
 pub mod Running
 pub mod Pieces
+pub mod Closing
 pub mod Outcomes

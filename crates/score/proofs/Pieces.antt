@@ -26,7 +26,7 @@ use Rattle.score.specs.Answers.{Summed, summed}
 use Rattle.score.proofs.Running.{beforeAll, before-none}
 
 -- the same words, numbered from a further on
-abbrev shifted : ℕ → Ran → Ran
+abbrev pub shifted : ℕ → Ran → Ran
 shifted a (ran ps bs t) = ran ps bs t
 shifted a (refusedAt k) = refusedAt (a + k)
 
@@ -60,7 +60,7 @@ module _ (S : Store) where
       go ih stuck q = let h : k ≡ j = cc in omega arith
 
   -- words, and then what comes of others from the state that they leave
-  abbrev followedBy : Ran → (Carried → Ran) → Ran
+  abbrev pub followedBy : Ran → (Carried → Ran) → Ran
   followedBy (ran ps bs t) rest = beforeAll ps bs (rest t)
   followedBy (refusedAt k) rest = refusedAt k
 

@@ -1,4 +1,5 @@
 -- What must be believed of start and run, and what the inner functions are held to.
 pub mod Answers
+pub mod Closing
 pub mod Meaning
 pub mod Inner

@@ -21,6 +21,7 @@ ghost use Rattle.backoff.specs.NineNumbers.{all, padded, nine, nineZeros, state
 ghost use Rattle.backoff.specs.Store.{isBroken, wordStep, runOver, ranAnswer, runOutcome, refusedStart, startStep, startOutcome};
 ghost use Rattle.double_array.specs.DoubleArray.{freeCheck, markerAt, lookMarker, childAt, rootChild, isArray, orderIn, storeIn, opened};
 ghost use Rattle.score.specs.Answers.{numbersOf, kindByte, byteOf, answerOf, startedOf, summedOf, summed};
+ghost use Rattle.score.specs.Closing.{pointsOver};
 ghost use Rattle.score.specs.Meaning.{StartMeans, RunMeans};
 ghost use Rattle.score.specs.Inner.{partOk, firstOf, packedAs, heldIn, Carries, longestLive, WalkedOver, ScoredAs, SteppedTo, earlyRefusal};
 
@@ -61,6 +62,12 @@ pub struct Ran {
     pub place: u32,
     pub total: i64,
     pub end: State,
+}
+
+// The points of a sentence's last word and of its 3 together.
+pub enum Closed {
+    Points(i64),
+    Refused,
 }
 
 // The slot at which a word's walk begins, and the word that it is scored as.
@@ -669,6 +676,41 @@ pub fn sum_words(base: &[i32], check: &[i32], order: usize, state: State, words:
         total: sum,
         end,
     }
+}
+
+// A sentence's last word and its 3, from the state that the words before them left. No sentence is begun behind the 3.
+pub fn sum_closed(base: &[i32], check: &[i32], order: usize, state: State, last: u32) -> Closed
+    requires { ⌜ isArray (now base) (now check) ≡ true ⌝ }
+    requires { ⌜ order ≡ orderIn (now check) ⌝ }
+    requires { ⌜ stateOk order (numbersOf state) ≡ true ⌝ }
+    ensures { λ r. ⌜ r ≡ pointsOver (storeIn (now (base .entry)) (now (check .entry))) (last ∷ endWord ∷ []) (stateIn (numbersOf state)) ⌝ }
+{
+    let words = [last, backoff::END_WORD];
+    let mut carried = pack(state);
+    let mut backoffs = lent(state);
+    let mut total: i64 = 0;
+    let mut i = 0;
+    while i < 2 {
+        let First::From { slot, word } = first_node(check, words[i]) else {
+            return Closed::Refused;
+        };
+        let walked = walk(base, check, order, slot, carried, &mut backoffs);
+        let Walked::Whole {
+            points,
+            passed,
+            kept,
+            extended,
+        } = walked
+        else {
+            return Closed::Refused;
+        };
+        let stepped = scored(carried.words, word, points, passed, kept, extended);
+        total += points as i64;
+        let next = stepped.next;
+        carried = next;
+        i += 1;
+    }
+    Closed::Points(total)
 }
 
 // The number of the refusal that meets a run before its words are scored, 0 if none does.

@@ -9,5 +9,6 @@ pub mod fragments;
 pub mod list;
 pub mod rule;
 pub mod score;
+pub mod sentences;
 pub mod totals;
 pub mod unload;

@@ -1,0 +1,68 @@
+-- What a listing means: every sentence of k usable words, each once and ascending, with its total. Assumes nothing.
+use mathlib.Core.Path.{_≡_}
+use mathlib.Core.Bool.{Bool, true, false, _&&_, _||_}
+use mathlib.Core.List.{List, [], _∷_}
+use mathlib.Core.Option.{Option, some}
+use Prim.Native.Nat.{ℕ, _*_, _^_, _≤_, _<_}
+use lib.Dec.{eqb, ltb}
+use lib.ListN.{length, take, drop, getD}
+use lib.IntN.{ℤ, pos, _+ℤ_}
+use Rattle.backoff.specs.Limits.{wordLimit, endWord}
+use Rattle.backoff.specs.Refusal.{brokenNode}
+use Rattle.backoff.specs.Run.{Answer}
+use Rattle.backoff.specs.Store.{Store, runOutcome}
+use Rattle.sentences.specs.Sentences.{usable}
+use Rattle.sentences.specs.Listing.{Outcome, begun, closedRun, isScored, sentenceTotal, usableOver, sentencesOver}
+
+-- "ascending order, the first word weighing most": at the first place where the two differ the word of the first is the smaller
+unfoldable pub precedes : List ℕ → List ℕ → Bool
+precedes [] [] = false
+precedes [] (v ∷ vs) = false
+precedes (u ∷ us) [] = false
+precedes (u ∷ us) (v ∷ vs) = ltb u v || (eqb u v && precedes us vs)
+
+-- a sentence of k words, each of 1 to 65,535, for which the root has a child, and neither 2 nor 3
+pub record IsSentence (S : Store) (k : ℕ) (s : List ℕ) : Type 0 where
+  pub size : length s ≡ k
+  pub words : (j : ℕ) → j < k → (1 ≤ getD s j 0) × ((getD s j 0 ≤ wordLimit) × (usable S (getD s j 0) ≡ true))
+
+-- "every sentence of k words .. Sentences come in ascending order, the first word weighing most, each once."
+pub record ListsAll (S : Store) (k : ℕ) (ss : List (List ℕ)) : Type 0 where
+  pub sentences : (i : ℕ) → i < length ss → IsSentence S k (getD ss i [])
+  pub every : (s : List ℕ) → IsSentence S k s → (i : ℕ) × ((i < length ss) × (getD ss i [] ≡ s))
+  pub ascending : (i j : ℕ) → i < j → j < length ss → precedes (getD ss i []) (getD ss j []) ≡ true
+  pub once : (i j : ℕ) → i < length ss → j < length ss → getD ss i [] ≡ getD ss j [] → i ≡ j
+
+-- the same by start, a run over the sentence's words and a run of the 3 behind it
+module _ (o : Option Store) (s : List ℕ) where
+  abbrev pub wordsRun : Answer (List ℤ)
+  wordsRun = runOutcome o (begun o .state) (closedRun s)
+
+  abbrev pub threeRun : Answer (List ℤ)
+  threeRun = runOutcome o (wordsRun .end) (closedRun (endWord ∷ []))
+
+  pub record InRuns : Type 0 where
+    pub scored : isScored o s ≡ (eqb (begun o .number) 0 && (eqb (wordsRun .number) 0 && eqb (threeRun .number) 0))
+    pub total : isScored o s ≡ true → sentenceTotal o s ≡ wordsRun .total +ℤ threeRun .total
+
+-- an accepted listing over a store
+pub record Listed (S : Store) (k : ℕ) (words : List ℕ) (totals : List ℤ) (r : Outcome) : Type 0 where
+  pub lists-all : ListsAll S k (sentencesOver (some S) k)
+  pub sentences : r .listing .sentences ≡ length (sentencesOver (some S) k)
+  pub count : length (sentencesOver (some S) k) ≡ length (usableOver (some S)) ^ k
+  -- the i-th sentence's words and its total
+  pub words-of : (i : ℕ) → i < r .listing .sentences → take k (drop (k * i) (r .words)) ≡ getD (sentencesOver (some S) k) i []
+  pub scored : (i : ℕ) → i < r .listing .sentences → isScored (some S) (getD (sentencesOver (some S) k) i []) ≡ true
+  pub total-of : (i : ℕ) → i < r .listing .sentences → getD (r .totals) i (pos 0) ≡ sentenceTotal (some S) (getD (sentencesOver (some S) k) i [])
+  -- what lies past the listing is as it was
+  pub words-past : drop (k * r .listing .sentences) (r .words) ≡ drop (k * r .listing .sentences) words
+  pub totals-past : drop (r .listing .sentences) (r .totals) ≡ drop (r .listing .sentences) totals
+
+pub record ListingMeans (o : Option Store) (k : ℕ) (words : List ℕ) (totals : List ℤ) (r : Outcome) : Type 0 where
+  pub place : r .listing .place ≡ 0
+  pub accepted : r .listing .number ≡ 0 → (S : Store) × ((o ≡ some S) × Listed S k words totals r)
+  pub refused : (r .listing .number ≡ 0 → ⊥) → r .listing .sentences ≡ 0
+  -- but for 12, a refusal writes nothing
+  pub untouched : (r .listing .number ≡ 0 → ⊥) → (r .listing .number ≡ brokenNode → ⊥) → (r .words ≡ words) × (r .totals ≡ totals)
+  -- 12 is met by some sentence of the listing
+  pub broken : r .listing .number ≡ brokenNode → (i : ℕ) × ((i < length (sentencesOver o k)) × (isScored o (getD (sentencesOver o k) i []) ≡ false))
