@@ -62,7 +62,7 @@ extern "C" {
  * other's lists and arrays. A higher minor number means further calls or numbers. Where a call or a struct changes, a
  * point becomes another part of a logarithm, or arrays get another head (check[0]), the major number changes. */
 #define BACKOFF_VERSION_MAJOR 3
-#define BACKOFF_VERSION_MINOR 1
+#define BACKOFF_VERSION_MINOR 2
 #define BACKOFF_VERSION_PATCH 0
 
 /* The numbers of refusals. The place is the row for 3 to 8, the word (from 1) for 12 in a run or a fragment, the
@@ -260,6 +260,26 @@ struct backoff_listing {
 struct backoff_listing backoff_sentences(const int32_t *base, size_t base_len, const int32_t *check, size_t check_len,
                                          uint32_t k, uint32_t *words, size_t words_len, int64_t *totals, size_t totals_len);
 
+/* The answer of the largest move: the distance of two totals, and the numbers of the two sentences in the listing, from 1.
+ * All three are 0 where no pair is named, and where the call refuses. */
+struct backoff_move {
+    uint32_t number;
+    uint32_t place;
+    int64_t distance;
+    uint32_t first;
+    uint32_t second;
+};
+
+/* Lists the sentences of k words as backoff_sentences does, and finds how far one word can move a total: the largest
+ * distance between the totals of two of them that differ at one place, exactly, and the pair that reaches it. first is the
+ * smaller of the two numbers; sentence i has its words in words[k * (i - 1)] and the k - 1 items after it, its total in
+ * totals[i - 1]. Of several pairs it is the one whose first sentence, then second, is the earliest in the listing. So where
+ * all totals are equal, the distance is 0 and the pair is 1 and 2. Fewer than two usable words make no pair: then all three
+ * are 0. Over the array of backoff_build the distance is at most n * (2 * n - 1) * 99,000,000, where n is the order.
+ * Refusals, and what words and totals hold after each answer: as at backoff_sentences. */
+struct backoff_move backoff_largest_move(const int32_t *base, size_t base_len, const int32_t *check, size_t check_len,
+                                         uint32_t k, uint32_t *words, size_t words_len, int64_t *totals, size_t totals_len);
+
 /* Some words of a reading, scored without left context: the total of their points, how many they are, how many first words
  * are kept (the smaller of n - 1 and count), these words as they were given, and the state after all words. Unused items of
  * first are 0; a join does not read them. Nine zeros, nothing kept, count 0 and total 0 are the empty fragment. A fragment
@@ -448,6 +468,12 @@ static inline struct backoff_sheet backoff_array_batch(const struct backoff_arra
 static inline struct backoff_listing backoff_array_sentences(const struct backoff_array *array, uint32_t k, uint32_t *words,
                                                              size_t words_len, int64_t *totals, size_t totals_len) {
     return backoff_sentences(array->base, array->slots, array->check, array->slots, k, words, words_len, totals, totals_len);
+}
+
+static inline struct backoff_move backoff_array_largest_move(const struct backoff_array *array, uint32_t k, uint32_t *words,
+                                                             size_t words_len, int64_t *totals, size_t totals_len) {
+    return backoff_largest_move(array->base, array->slots, array->check, array->slots, k, words, words_len, totals,
+                                totals_len);
 }
 
 static inline struct backoff_joined backoff_array_score_fragment(const struct backoff_array *array, const uint32_t *words,

@@ -26,7 +26,7 @@ from ctypes import c_bool, c_char_p, c_int64, c_size_t, c_uint32, c_uint64, c_vo
 from dataclasses import dataclass
 from typing import Iterable, Iterator, NamedTuple, Optional, Union
 
-__version__ = "3.1.0"
+__version__ = "3.2.0"
 __all__ = ["FullScoreReturn", "LanguageModel", "Model", "Refused", "Sheet", "State"]
 
 Text = Union[str, bytes]

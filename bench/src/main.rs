@@ -11,6 +11,7 @@ mod figures;
 mod filling;
 mod fragments;
 mod instructions;
+mod largest_move;
 mod linked;
 mod list;
 mod lists;

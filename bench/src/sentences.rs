@@ -1,6 +1,7 @@
-//! All small sentences as the team writes them in Rust, each beginning scored once; and the table of times.
+//! All small sentences as the team writes them in Rust, each beginning scored once; and the table of times, with those of the largest move.
 
 use crate::array::{head_fits, order};
+use crate::largest_move::largest_move;
 use crate::list::LARGEST_WORD;
 use crate::lists::{Arrays, List};
 use crate::packed::Packed;
@@ -59,17 +60,16 @@ fn usable_words(check: &[i32]) -> Option<([u32; MOST_USABLE], usize)> {
     Some((usable, count))
 }
 
-/// Lists all sentences of k words: 11, 22, 15, 12.
-#[inline(never)]
-pub fn sentences<S: State + Copy>(base: &[i32], check: &[i32], k: u32, words: &mut [u32], totals: &mut [i64]) -> Listing {
-    let refused = |number| Listing { number, place: 0, sentences: 0 };
+/// Lists all sentences of k words and gives the number of usable words: 11, 22, 15, 12.
+#[inline(always)]
+pub fn list<S: State + Copy>(base: &[i32], check: &[i32], k: u32, words: &mut [u32], totals: &mut [i64]) -> Result<usize, u32> {
     if !head_fits(base, check) {
-        return refused(11);
+        return Err(11);
     }
-    let Some((usable, v)) = usable_words(check).filter(|_| (1..=LONGEST_SENTENCE).contains(&k)) else { return refused(22) };
+    let (usable, v) = usable_words(check).filter(|_| (1..=LONGEST_SENTENCE).contains(&k)).ok_or(22u32)?;
     let (k, count) = (k as usize, v.pow(k));
     if words.len() < k * count || totals.len() < count {
-        return refused(15);
+        return Err(15);
     }
     let (words, totals) = (&mut words[..k * count], &mut totals[..count]);
     let (order, usable) = (order(check) as usize, &usable[..v]);
@@ -80,36 +80,66 @@ pub fn sentences<S: State + Copy>(base: &[i32], check: &[i32], k: u32, words: &m
     if listed.is_none() && count > 0 {
         words.fill(0);
         totals.fill(0);
-        return refused(12);
+        return Err(12);
     }
-    Listing { number: 0, place: 0, sentences: count as u32 }
+    Ok(v)
+}
+
+#[inline(never)]
+pub fn sentences<S: State + Copy>(base: &[i32], check: &[i32], k: u32, words: &mut [u32], totals: &mut [i64]) -> Listing {
+    match list::<S>(base, check, k, words, totals) {
+        Ok(v) => Listing { number: 0, place: 0, sentences: v.pow(k) as u32 },
+        Err(number) => Listing { number, place: 0, sentences: 0 },
+    }
 }
 
 /// The lists over which sentences are listed: an order, and how many random sentences their rows are the parts of.
 const LISTS: [(usize, usize); 3] = [(2, 20), (3, 100), (5, 2_000)];
 
 pub fn print_table() {
-    println!("\n## All small sentences\n\nNanoseconds for each sentence of k words, over lists of 16 usable words.\n");
+    println!("\n## All small sentences\n\nNanoseconds for each sentence of k words, over lists of 16 usable words. The largest move lists them too.\n");
     println!("| call | order | rows | k | ours | counterpart | ratio |\n|---|--:|--:|--:|--:|--:|--:|");
     for (order, sentences) in LISTS {
         let list = List::of_words(order, MOST_USABLE as i32 + 2, sentences);
         for k in [3, 4] {
             eprintln!("bench: sentences, order {order}, k {k}");
-            let Compared { ours, rust, ratio } = measure(&list.arrays, k);
-            let each = |seconds: f64| 1e9 * seconds / MOST_USABLE.pow(k) as f64;
-            println!("| sentences | {order} | {} | {k} | {:.1} | {:.1} | {ratio:.2} |", thousands(list.rows()), each(ours), each(rust));
+            print_row("sentences", &list, k, listing(&list.arrays, k));
+            print_row("largest move", &list, k, moving(&list.arrays, k));
         }
     }
 }
 
-fn measure(arrays: &Arrays, k: u32) -> Compared {
+fn print_row(call: &str, list: &List, k: u32, compared: Compared) {
+    let Compared { ours, rust, ratio } = compared;
+    let each = |seconds: f64| 1e9 * seconds / MOST_USABLE.pow(k) as f64;
+    let (order, rows) = (order(&list.arrays.check), thousands(list.rows()));
+    println!("| {call} | {order} | {rows} | {k} | {:.1} | {:.1} | {ratio:.2} |", each(ours), each(rust));
+}
+
+/// Slices for the longest listing of k words.
+fn room(k: u32) -> (Vec<u32>, Vec<i64>) {
+    (vec![0; k as usize * MOST_SENTENCES], vec![0; MOST_SENTENCES])
+}
+
+fn listing(arrays: &Arrays, k: u32) -> Compared {
     let Arrays { base, check, .. } = arrays;
-    let [mut left, mut right] = [(); 2].map(|()| (vec![0; k as usize * MOST_SENTENCES], vec![0; MOST_SENTENCES]));
+    let (mut left, mut right) = (room(k), room(k));
     let accepted = Listing { number: 0, place: 0, sentences: MOST_USABLE.pow(k) as u32 };
     let mut ours = || assert_eq!(backoff::sentences(base, check, k, &mut left.0, &mut left.1), accepted);
     let mut rust = || assert_eq!(sentences::<Packed>(base, check, k, &mut right.0, &mut right.1), accepted);
     let compared = compare(&mut ours, &mut rust);
     assert!(left == right, "the listings agree");
+    compared
+}
+
+fn moving(arrays: &Arrays, k: u32) -> Compared {
+    let Arrays { base, check, .. } = arrays;
+    let (mut left, mut right) = (room(k), room(k));
+    let largest = largest_move::<Packed>(base, check, k, &mut right.0, &mut right.1);
+    let mut ours = || assert_eq!(backoff::largest_move(base, check, k, &mut left.0, &mut left.1), largest);
+    let mut rust = || assert_eq!(largest_move::<Packed>(base, check, k, &mut right.0, &mut right.1), largest);
+    let compared = compare(&mut ours, &mut rust);
+    assert!(largest.first > 0 && left == right, "the listings agree");
     compared
 }
 

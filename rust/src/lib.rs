@@ -127,6 +127,18 @@ pub struct Listing {
     pub sentences: u32,
 }
 
+/// The answer of the largest move: the distance of two totals, and the numbers of the two sentences in the listing, from 1. All three are 0 where no pair is named, and where the call
+/// refuses.
+#[repr(C)]
+#[derive(Clone, Copy, Debug, PartialEq, Eq)]
+pub struct Move {
+    pub number: u32,
+    pub place: u32,
+    pub distance: i64,
+    pub first: u32,
+    pub second: u32,
+}
+
 /// Some words of a reading, scored without left context: their total, how many they are, how many first words are kept (the smaller of n − 1 and `count`), these
 /// words as they were given (unused ones 0), and the state after all words.
 ///
@@ -174,7 +186,7 @@ pub struct Joined {
 }
 
 mod raw {
-    use super::{Found, Fragment, Joined, Listing, Rows, Sheet, Status, Total};
+    use super::{Found, Fragment, Joined, Listing, Move, Rows, Sheet, Status, Total};
 
     // A slice crosses as a pointer and a length.
     extern "C" {
@@ -273,6 +285,18 @@ mod raw {
             totals: *mut i64,
             totals_len: usize,
         ) -> Listing;
+
+        pub fn backoff_largest_move(
+            base: *const i32,
+            base_len: usize,
+            check: *const i32,
+            check_len: usize,
+            k: u32,
+            words: *mut u32,
+            words_len: usize,
+            totals: *mut i64,
+            totals_len: usize,
+        ) -> Move;
 
         pub fn backoff_score_fragment(
             base: *const i32,
@@ -447,6 +471,45 @@ pub fn batch(base: &[i32], check: &[i32], words: &[u32], ends: &[u32], points: &
 pub fn sentences(base: &[i32], check: &[i32], k: u32, words: &mut [u32], totals: &mut [i64]) -> Listing {
     unsafe {
         raw::backoff_sentences(
+            base.as_ptr(),
+            base.len(),
+            check.as_ptr(),
+            check.len(),
+            k,
+            words.as_mut_ptr(),
+            words.len(),
+            totals.as_mut_ptr(),
+            totals.len(),
+        )
+    }
+}
+
+/// Lists the sentences of `k` words as [`sentences`] does, and finds how far one word can move a total: the largest distance between the totals of two of them that differ at one
+/// place, and the pair that reaches it. Of several pairs it is the one whose first sentence, then second, is the earliest in the listing; where all totals are equal, that is 1 and 2.
+/// Fewer than two usable words make no pair: the distance is 0 and both numbers are 0. Over the array of a list of order n the distance is at most n × (2 × n − 1) ×
+/// [`limits::LARGEST_BACKOFF`].
+///
+/// Refusals, and what `words` and `totals` hold after each answer, are those of [`sentences`].
+///
+/// ```
+/// # let list = [
+/// #     [1, 1, 0, 0, 0, 0, -20_000, 0],
+/// #     [1, 2, 0, 0, 0, 0, -990_000, -3_000],
+/// #     [1, 3, 0, 0, 0, 0, -10_000, 0],
+/// #     [1, 4, 0, 0, 0, 0, -6_000, -2_000],
+/// #     [2, 2, 4, 0, 0, 0, -4_000, 0],
+/// # ];
+/// # let (mut base, mut check, mut work) = ([0; 64], [0; 64], [0; 5]);
+/// # assert_eq!(backoff::build(list.as_flattened(), &mut base, &mut check, &mut work).number, 0);
+/// // The sentences are 1 1, 1 4, 4 1 and 4 4. Between 1 1 and 4 1 the first word differs.
+/// let (mut words, mut totals) = ([0; 8], [0; 4]);
+/// let answer = backoff::largest_move(&base, &check, 2, &mut words, &mut totals);
+/// assert_eq!((answer.distance, answer.first, answer.second), (17_000, 1, 3));
+/// assert_eq!(totals, [-53_000, -41_000, -36_000, -24_000]);
+/// ```
+pub fn largest_move(base: &[i32], check: &[i32], k: u32, words: &mut [u32], totals: &mut [i64]) -> Move {
+    unsafe {
+        raw::backoff_largest_move(
             base.as_ptr(),
             base.len(),
             check.as_ptr(),

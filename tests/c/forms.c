@@ -44,6 +44,11 @@ static int same_listing(struct backoff_listing a, struct backoff_listing b) {
     return a.number == b.number && a.place == b.place && a.sentences == b.sentences;
 }
 
+static int same_move(struct backoff_move a, struct backoff_move b) {
+    return a.number == b.number && a.place == b.place && a.distance == b.distance && a.first == b.first &&
+           a.second == b.second;
+}
+
 static int same_joined(struct backoff_joined a, struct backoff_joined b) {
     const struct backoff_fragment *one = &a.fragment, *two = &b.fragment;
     return a.number == b.number && a.place == b.place && one->total == two->total && one->count == two->count &&
@@ -85,6 +90,11 @@ static void expect_readers(uint32_t number) {
                                                        plain.totals, SENTENCES),
                                      listing) &&
                             same_slices());
+    struct backoff_move move = backoff_array_largest_move(&array, 1, formed.listed, 2 * SENTENCES, formed.totals, SENTENCES);
+    expect("largest move", same_move(backoff_largest_move(plain.base, SLOTS, plain.check, SLOTS, 1, plain.listed,
+                                                          2 * SENTENCES, plain.totals, SENTENCES),
+                                     move) &&
+                               same_slices());
     struct backoff_joined fragment = backoff_array_score_fragment(&array, WORDS_SCORED, WORDS);
     expect("fragment",
            same_joined(backoff_score_fragment(plain.base, SLOTS, plain.check, SLOTS, WORDS_SCORED, WORDS), fragment));

@@ -13,6 +13,7 @@ int main() {
     const backoff_rows no_text = backoff_arpa(nullptr, 0, false, nullptr, 0, nullptr, 0);
     const backoff_sheet no_sheet = backoff_batch(nullptr, 0, nullptr, 0, nullptr, 0, nullptr, 0, nullptr, 0, nullptr, 0);
     const backoff_listing no_listing = backoff_sentences(nullptr, 0, nullptr, 0, 1, nullptr, 0, nullptr, 0);
+    const backoff_move no_move = backoff_largest_move(nullptr, 0, nullptr, 0, 1, nullptr, 0, nullptr, 0);
     const backoff_fragment empty{};
     const backoff_joined no_fragment = backoff_join_fragments(nullptr, 0, nullptr, 0, empty, empty);
     const backoff_rows no_list = backoff_fill(nullptr, 0, nullptr, 0);
@@ -21,6 +22,6 @@ int main() {
     const bool formed = not_found.number == BACKOFF_ARRAY_HEAD && backoff_reason(not_found.number) != backoff_reason(0);
     const bool holds = missing.number == BACKOFF_RESERVED_WORD && none.number == BACKOFF_ARRAY_HEAD && state[0] == 0;
     const bool refused = no_sheet.number == BACKOFF_ARRAY_HEAD && no_listing.number == BACKOFF_ARRAY_HEAD &&
-                         no_fragment.number == BACKOFF_ARRAY_HEAD;
+                         no_move.number == BACKOFF_ARRAY_HEAD && no_fragment.number == BACKOFF_ARRAY_HEAD;
     return holds && refused && formed && no_text.number == BACKOFF_ARPA_LINE && no_list.number == BACKOFF_TABLE_LENGTH ? 0 : 1;
 }

@@ -4,7 +4,7 @@
 #include <stdio.h>
 
 /* In one call of LOCKED the slices that are not to be written lie in pages that cannot be written. */
-enum { NUMBERS = 23, SMALL_LIST = 8 * 300, SMALL_ARRAY = 4000, SMALL_TEXT = 1 << 16, LOCKED = 10 };
+enum { NUMBERS = 23, SMALL_LIST = 8 * 300, SMALL_ARRAY = 4000, SMALL_TEXT = 1 << 16, SMALL_LISTING = 1500, LOCKED = 10 };
 
 #define LIST_NUMBERS (1u << 1 | 0x3Fu << 3 | 1u << 9)
 
@@ -32,6 +32,7 @@ static const struct form FORMS[CALLS] = {
     {"backoff_join_fragments", 4, {false}, 1u << 11 | 1u << 12 | 1u << 14 | 1u << 21},
     {"backoff_fill", 2, {false, true}, LIST_NUMBERS | 1u << 15},
     {"backoff_sentences", 5, {false, false, false, true, true}, 1u << 11 | 1u << 12 | 1u << 15 | 1u << 22},
+    {"backoff_largest_move", 5, {false, false, false, true, true}, 1u << 11 | 1u << 12 | 1u << 15 | 1u << 22},
 };
 
 /* How often each call gave each number. */
@@ -79,6 +80,16 @@ static struct answer of_listing(struct backoff_listing listing) {
     return answer;
 }
 
+/* The distance counts as the total. */
+static struct answer of_move(struct backoff_move move) {
+    struct answer answer = {.number = move.number,
+                            .place = move.place,
+                            .total = move.distance,
+                            .first = move.first,
+                            .second = move.second};
+    return answer;
+}
+
 static struct answer of_joined(struct backoff_joined joined) {
     struct answer answer = {.number = joined.number, .place = joined.place, .fragment = joined.fragment};
     return answer;
@@ -108,6 +119,9 @@ static struct answer perform(enum call call, bool flag, void *const *p, const st
         return of_rows(backoff_fill(p[0], s[0].count, p[1], s[1].count));
     case SENTENCES:
         return of_listing(backoff_sentences(p[0], s[0].count, p[1], s[1].count, words_of(s[2])[0], p[3], s[3].count, p[4],
+                                            s[4].count));
+    case MOVE:
+        return of_move(backoff_largest_move(p[0], s[0].count, p[1], s[1].count, words_of(s[2])[0], p[3], s[3].count, p[4],
                                             s[4].count));
     case FRAGMENT:
         return of_joined(backoff_score_fragment(p[0], s[0].count, p[1], s[1].count, p[2], s[2].count));
@@ -432,8 +446,9 @@ static void see_batch(const struct slice *before, const struct slice *after, str
         see_sheet(after[5], sentences, last, answer);
 }
 
-/* The number, and the words of the listing; its totals are compared in sentences.c. */
-static void see_sentences(const struct slice *before, const struct slice *after, struct answer answer) {
+/* The number, and the words of the listing; its totals are compared in sentences.c. Gives the sentences of an accepted
+ * call, 0 where it is refused. */
+static size_t see_listing(const struct slice *before, const struct slice *after, struct answer answer) {
     bool head = is_head(before[0], before[1]);
     uint32_t k = words_of(before[2])[0];
     struct slice usable = head ? usable_words(before[0], before[1]) : block(0, 4);
@@ -444,10 +459,9 @@ static void see_sentences(const struct slice *before, const struct slice *after,
     require((answer.number == 22) == (head && !size), "22 exactly where there are too many words, or k is wrong");
     require((answer.number == 15) == (size && !fits), "15 exactly where a slice is too short");
     require(answer.place == 0, "place of a listing");
-    require(answer.sentences == (answer.number == 0 ? count : 0), "the number of sentences");
     if (answer.number != 0 && answer.number != 12) {
         require(same(before[3], after[3]) && same(before[4], after[4]), "words and totals untouched");
-        return;
+        return 0;
     }
     require(is_kept_from(before[3], after[3], words) && is_kept_from(before[4], after[4], count),
             "words and totals past the listing");
@@ -455,6 +469,28 @@ static void see_sentences(const struct slice *before, const struct slice *after,
         require(is_all(after[3], words, 0) && is_all(after[4], count, 0), "words and totals 0 after 12");
     else
         require(same(part_of(after[3], 0, words), sentences_by_rules(usable, k)), "the sentences in their order");
+    return answer.number == 12 ? 0 : count;
+}
+
+static void see_sentences(const struct slice *before, const struct slice *after, struct answer answer) {
+    require(answer.sentences == see_listing(before, after, answer), "the number of sentences");
+}
+
+/* The move by all pairs; of a long listing, that the pair is one. */
+static void see_move(const struct slice *before, const struct slice *after, struct answer answer) {
+    size_t count = see_listing(before, after, answer);
+    uint32_t k = words_of(before[2])[0];
+    const uint32_t *words = words_of(after[3]);
+    if (count <= SMALL_LISTING) {
+        struct answer ruled = move_by_rules(after[3], after[4], k, count);
+        require(answer.total == ruled.total, "the largest distance, 0 where refused");
+        require(answer.first == ruled.first && answer.second == ruled.second, "the earliest pair, zeros where refused");
+        return;
+    }
+    require(answer.first >= 1 && answer.first < answer.second && answer.second <= count, "the numbers of a pair");
+    require(differ_at_one_place(words + k * (answer.first - 1), words + k * (answer.second - 1), k), "a pair");
+    int64_t apart = totals_of(after[4])[answer.first - 1] - totals_of(after[4])[answer.second - 1];
+    require(answer.total == (apart < 0 ? -apart : apart), "the distance of the pair");
 }
 
 /* The empty fragment where refused; else one that passes 21, of these first words. */
@@ -569,6 +605,9 @@ static void see(enum call call, bool flag, const struct slice *before, const str
     case SENTENCES:
         see_sentences(before, after, answer);
         break;
+    case MOVE:
+        see_move(before, after, answer);
+        break;
     default:
         see_unload(before, after, answer);
     }
@@ -577,8 +616,8 @@ static void see(enum call call, bool flag, const struct slice *before, const str
 static bool same_answer(struct answer a, struct answer b) {
     return a.number == b.number && a.place == b.place && a.found == b.found && a.p == b.p && a.b == b.b &&
            a.left == b.left && a.total == b.total && a.sentences == b.sentences && a.words == b.words &&
-           a.unknown == b.unknown && memcmp(a.matched, b.matched, sizeof a.matched) == 0 &&
-           same_fragment(a.fragment, b.fragment);
+           a.unknown == b.unknown && memcmp(a.matched, b.matched, sizeof a.matched) == 0 && a.first == b.first &&
+           a.second == b.second && same_fragment(a.fragment, b.fragment);
 }
 
 /* The call that is made, or was made last. */

@@ -23,7 +23,7 @@ static inline int64_t *totals_of(struct slice slice) { return (int64_t *)slice.i
 static inline struct backoff_fragment fragment_in(struct slice slice) { return *(struct backoff_fragment *)slice.items; }
 
 /* The calls, the most slices that one of them takes, and their answers put into one form. */
-enum call { CHECK, BUILD, LOOKUP, START, RUN, PLAIN, UNLOAD, ARPA, BATCH, FRAGMENT, JOIN, FILL, SENTENCES, CALLS };
+enum call { CHECK, BUILD, LOOKUP, START, RUN, PLAIN, UNLOAD, ARPA, BATCH, FRAGMENT, JOIN, FILL, SENTENCES, MOVE, CALLS };
 
 enum { MOST_SLICES = 6 };
 
@@ -39,6 +39,8 @@ struct answer {
     uint32_t words;
     uint32_t unknown;
     uint32_t matched[BACKOFF_ORDER_LIMIT];
+    uint32_t first;
+    uint32_t second;
     struct backoff_fragment fragment;
 };
 
@@ -68,6 +70,7 @@ struct slice rubbish(size_t count, size_t width);
 struct slice accepted_list(void);
 struct slice with_words(struct slice table, size_t words);
 void soften(struct slice table);
+void even_out(struct slice table);
 struct slice longest_list(size_t rows);
 void damage_list(struct slice *table);
 struct slice text(struct slice table, size_t count);
@@ -129,6 +132,10 @@ struct slice usable_words(struct slice base, struct slice check);
 bool is_listing(uint32_t k, size_t usable);
 size_t sentence_count(size_t usable, uint32_t k);
 struct slice sentences_by_rules(struct slice usable, uint32_t k);
+
+/* What document 02 says of the largest move (sentence_rules.c). */
+bool differ_at_one_place(const uint32_t *one, const uint32_t *two, uint32_t k);
+struct answer move_by_rules(struct slice words, struct slice totals, uint32_t k, size_t count);
 
 /* What document 02 says of an ARPA text (arpa_rules.c): fills table and store as the call must leave them. */
 struct answer arpa_by_rules(struct slice text, bool to_be_filled, struct slice table, struct slice store);

@@ -1,4 +1,5 @@
-/* What document 02 says of all small sentences: which there are over an array, and in which order. */
+/* What document 02 says of all small sentences: which there are over an array, in which order, and how far one word moves
+ * their totals. */
 #include "fuzz.h"
 
 /* "The listed words other than 2 and 3", ascending: those for which the root has a child, be it broken. */
@@ -40,4 +41,27 @@ struct slice sentences_by_rules(struct slice usable, uint32_t k) {
             at[place - 1] = 0;
     }
     return words;
+}
+
+bool differ_at_one_place(const uint32_t *one, const uint32_t *two, uint32_t k) {
+    uint32_t places = 0;
+    for (uint32_t i = 0; i < k; i++)
+        places += one[i] != two[i];
+    return places == 1;
+}
+
+/* "The exact largest distance between totals of two sentences that differ at one place, and the pair that reaches it whose
+ * first sentence, then second, is earliest": all pairs in this order. Where there is none, all stays 0. */
+struct answer move_by_rules(struct slice words, struct slice totals, uint32_t k, size_t count) {
+    struct answer move = {.number = BACKOFF_ACCEPTED};
+    for (size_t i = 0; i < count; i++) {
+        for (size_t j = i + 1; j < count; j++) {
+            int64_t apart = totals_of(totals)[i] - totals_of(totals)[j], distance = apart < 0 ? -apart : apart;
+            if (!differ_at_one_place(words_of(words) + k * i, words_of(words) + k * j, k))
+                continue;
+            if (move.first == 0 || distance > move.total)
+                move = (struct answer){.total = distance, .first = (uint32_t)i + 1, .second = (uint32_t)j + 1};
+        }
+    }
+    return move;
 }

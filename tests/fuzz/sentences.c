@@ -1,4 +1,5 @@
-/* All small sentences, over arrays that a build wrote and over others, beside start and runs, and beside plain scoring. */
+/* All small sentences and the largest move among them, over arrays that a build wrote and over others: totals beside start
+ * and runs, and beside plain scoring. */
 #include "fuzz.h"
 
 struct listing {
@@ -13,11 +14,15 @@ static struct slice number_slice(uint32_t number) {
     return slice;
 }
 
-static struct listing list_sentences(struct arrays a, uint32_t k, size_t words, size_t totals) {
+static struct listing list_by(enum call call, struct arrays a, uint32_t k, size_t words, size_t totals) {
     struct slice slices[5] = {a.base, a.check, number_slice(k), rubbish(words, 4), rubbish(totals, 8)};
-    struct answer answer = ask(SENTENCES, false, slices);
+    struct answer answer = ask(call, false, slices);
     struct listing listing = {answer, slices[3], slices[4]};
     return listing;
+}
+
+static struct listing list_sentences(struct arrays a, uint32_t k, size_t words, size_t totals) {
+    return list_by(SENTENCES, a, k, words, totals);
 }
 
 static size_t count_usable(struct arrays a) { return is_head(a.base, a.check) ? usable_words(a.base, a.check).count : 0; }
@@ -66,6 +71,20 @@ static void see_as_plain(struct slice table, uint32_t k, struct listing listing)
     }
 }
 
+/* The largest move lists what a listing lists, and is refused as that is; over a build it is within T-11's figure. */
+static void see_largest_move(struct arrays a, uint32_t k, struct listing listing, bool built) {
+    struct listing moved = list_by(MOVE, a, k, listing.words.count, listing.totals.count);
+    require(moved.answer.number == listing.answer.number, "the largest move is refused as a listing");
+    if (listing.answer.number == 11 || listing.answer.number == 15 || listing.answer.number == 22)
+        return;
+    size_t count = sentence_count(count_usable(a), k);
+    require(same(part_of(moved.words, 0, k * count), part_of(listing.words, 0, k * count)) &&
+                same(part_of(moved.totals, 0, count), part_of(listing.totals, 0, count)),
+            "the listing of the largest move");
+    int64_t order = order_in(a.check);
+    require(!built || moved.answer.total <= order * (2 * order - 1) * BACKOFF_LARGEST_BACKOFF, "T-11's figure");
+}
+
 /* A number of words that is mostly allowed, and for which there are at most so many sentences. */
 static uint32_t drawn_length(size_t usable, size_t most) {
     static const uint32_t odd[] = {0, 5, 6, 16, 257, 65537, 0x80000001, 0xFFFFFFFF};
@@ -82,12 +101,15 @@ static void see_lengths(struct arrays a, uint32_t k, size_t words, size_t totals
     list_sentences(a, k, less(words, below(3)), less(totals, below(2)));
     list_sentences(a, k, words + below(3), totals + below(3));
     list_sentences(a, k, below(4), below(4));
+    list_by(MOVE, a, k, less(words, below(2)) + below(3), less(totals, below(2)) + below(3));
 }
 
 void sentence_case(void) {
     struct slice table = accepted_list();
     if (chance(20))
         table = with_words(table, 17 + below(4));
+    if (chance(30))
+        even_out(table);
     bool built = chance(40);
     struct arrays a = built ? build_fitting(table) : other_arrays(table);
     size_t usable = count_usable(a);
@@ -100,6 +122,7 @@ void sentence_case(void) {
         see_as_runs(a, k, listing);
     if (built && listing.answer.number == 0)
         see_as_plain(table, k, listing);
+    see_largest_move(a, k, listing, built);
     see_lengths(a, k, words, totals);
 }
 
@@ -113,6 +136,7 @@ void sentence_limit_case(void) {
     require(listing.answer.sentences == most, "the longest listing is accepted");
     see_as_runs(a, k, listing);
     see_as_plain(table, k, listing);
+    see_largest_move(a, k, listing, true);
     a = build_fitting(with_words(table, BACKOFF_USABLE_LIMIT + 3));
     for (k = 1; k <= BACKOFF_SENTENCE_LIMIT; k++)
         require(list_sentences(a, k, k * most, most).answer.number == 22, "one usable word more gives 22");

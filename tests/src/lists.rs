@@ -168,6 +168,17 @@ pub fn mild(random: &mut Random, rows: &[Row]) -> Vec<Row> {
     rows.iter().map(points).collect()
 }
 
+/// The rows with few different numbers, so that many totals are equal.
+pub fn even(random: &mut Random, rows: &[Row]) -> Vec<Row> {
+    let order = rows.last().map_or(0, |row| row.words.len());
+    let points = |row: &Row| Row {
+        words: row.words.clone(),
+        p: -random.between(0, 2),
+        b: if row.words.len() == order { 0 } else { random.between(-1, 1) },
+    };
+    rows.iter().map(points).collect()
+}
+
 /// A text over a list: words of its rows, in their order or alone, and words that it may not have.
 pub fn text(random: &mut Random, rows: &[Row], length: usize) -> Vec<u32> {
     let mut words = Vec::new();

@@ -13,17 +13,14 @@ use mir.Val.{SFits, ofZ, toZ}
 use mir.Facts.{toZ-ofZ}
 use borrow.Author.Tests.{eq-eqb, ne-eqb, eqb-true, eqb-false}
 use Rattle.integer.proofs.Arithmetic.{zarith, abs, add, and-no}
-use Rattle.backoff.specs.Limits.{runLimit, orderLimit, largestBackoff}
-use Rattle.backoff.specs.Refusal.{arrayHead, badState}
+use Rattle.backoff.specs.Limits.{runLimit}
 use Rattle.backoff.specs.NineNumbers.{nineZeros}
-use Rattle.backoff.specs.Run.{Run, Answer, refusedRun}
+use Rattle.backoff.specs.Run.{Run, Answer}
 use Rattle.backoff.specs.Runs.{flat}
 use Rattle.backoff.specs.Store.{Store, Started, startOutcome, runOutcome}
-use Rattle.backoff.proofs.Sizes.{total-size}
 use Rattle.backoff.proofs.Slices.{Keeps, runOutcome-keeps}
-use Rattle.double_array.specs.DoubleArray.{isArray, storeIn, opened}
-use Rattle.double_array.proofs.DoubleArray.{opened-some, opened-none, opened-order}
-use Rattle.score.proofs.Rows.{rows-in-probability, rows-in-backoff}
+use Rattle.double_array.specs.DoubleArray.{opened}
+use Rattle.score.proofs.Sizes.{runTotal, run-total-small}
 use Rattle.batch.specs.declared.Sentence.{Sentence}
 use Rattle.batch.specs.declared.Sentence.the-variants.{Whole, Refused}
 use Rattle.batch.specs.Sheet.{sentence, sentences, wordPoints, wordBytes, closingBytes, stretch, lastEnd, badEnd, closingRun, begun, wordsRun, closed, isScored, sentenceTotal}
@@ -177,23 +174,12 @@ module _ (o : Option Store) where
 
 -- ---- how large totals get, over any lent arrays
 
--- no run's total gets further from 0
-abbrev pub runTotal : ℕ
-runTotal = runLimit * (orderLimit * largestBackoff)
-
 module _ (base check : List ℤ) where
-  pub run-total-small : (l : List ℤ) (r : Run) → natAbs (runOutcome (opened base check) l r .total) ≤ runTotal
-  run-total-small l r = go (isArray base check) refl
-    where
-      go : (b : Bool) → isArray base check ≡ b → natAbs (runOutcome (opened base check) l r .total) ≤ runTotal
-      go true e = rw (opened-some base check e) (total-size (storeIn base check) (rows-in-probability base check) (rows-in-backoff base check) (unfold storeIn in opened-order base check e .1) l r)
-      go false e = rw (opened-none base check e) (unfold runOutcome refusedRun in elim (eqb (length l) 9) as (λ b. natAbs (cond b (refusedRun arrayHead 0 l r) (refusedRun badState 0 l r) .total) ≤ runTotal) [ true ↦ omega arith | false ↦ omega arith ])
-
   pub run-answer-small : (l : List ℤ) (r : Run) (a : Answer (List ℤ)) → a ≡ runOutcome (opened base check) l r → natAbs (a .total) ≤ runTotal
-  run-answer-small l r a e = rw e (run-total-small l r)
+  run-answer-small l r a e = rw e (run-total-small base check l r)
 
   pub closing-small : (l : List ℤ) (r : Run) (y : ℤ) (c : ℕ) → Whole y c ≡ closingOf (runOutcome (opened base check) l r) → natAbs y ≤ runTotal
-  closing-small l r y c e = rw (closing-whole (runOutcome (opened base check) l r) y c e .1 .0) (run-total-small l r)
+  closing-small l r y c e = rw (closing-whole (runOutcome (opened base check) l r) y c e .1 .0) (run-total-small base check l r)
 
   pub sentence-total-small : (r : Run) → natAbs (sentenceTotal (opened base check) r) ≤ totalLimit
   unfolding sentenceTotal wordsRun closed
@@ -201,7 +187,7 @@ module _ (base check : List ℤ) where
       let o = opened base check in
       let x = wordsRun o r .total in
       let y = closed o r .total in
-      omega (arith, run-total-small (begun o .state) r, run-total-small (wordsRun o r .end) closingRun, add x y, abs x, abs y, abs (x +ℤ y))
+      omega (arith, run-total-small base check (begun o .state) r, run-total-small base check (wordsRun o r .end) closingRun, add x y, abs x, abs y, abs (x +ℤ y))
 
 pub total-back : (x : ℤ) → natAbs x ≤ runTotal → toZ w64 (ofZ w64 x) ≡ x
 total-back x h = let f : SFits w64 x = omega (zarith, abs x) in toZ-ofZ f

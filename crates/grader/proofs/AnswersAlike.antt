@@ -13,6 +13,7 @@ use Rattle.double_array.specs.Lookup.{lookupIn, lookupOutcome}
 use Rattle.double_array.proofs.DoubleArray.{sizes-shown}
 use Rattle.batch.specs.Sheet.{sheetOutcome}
 use Rattle.sentences.specs.Listing.{listingOutcome}
+use Rattle.largest_move.specs.Move.{moveOutcome}
 use Rattle.fragments.specs.Outcome.{fragmentOutcome, joinOutcome}
 use Rattle.build.specs.Build.{Built, buildOutcome}
 use Rattle.build.specs.FewestSlots.{fewest, cutBase, cutCheck, Lent}
@@ -32,6 +33,7 @@ builds-answer-alike table base check base′ check′ work work′ e e′ =
       runs = λ l r. ap (λ (o : Option Store). runOutcome o l r) same;
       sheets = λ ends r. ap (λ (o : Option Store). sheetOutcome o ends r) same;
       listings = λ k words totals. ap (λ (o : Option Store). listingOutcome o k words totals) same;
+      moves = λ k words totals. ap (λ (o : Option Store). moveOutcome o k words totals) same;
       fragments = λ ws. ap (λ (o : Option Store). fragmentOutcome o ws) same;
       joins = λ one two. ap (λ (o : Option Store). joinOutcome o one two) same;
       unloads = λ t w. build-unloads table base check work t w e ∙ sym (build-unloads table base′ check′ work′ t w e′);

@@ -3,6 +3,7 @@ pub mod RunsInARow
 pub mod OneWord
 pub mod OneWordExample
 pub mod Sentences
+pub mod LargestMove
 pub mod BatchSheet
 pub mod LeftExtension
 pub mod SentencesApart

@@ -9,6 +9,7 @@ use Rattle.double_array.specs.DoubleArray.{opened}
 use Rattle.double_array.specs.Lookup.{lookupOutcome}
 use Rattle.batch.specs.Sheet.{sheetOutcome}
 use Rattle.sentences.specs.Listing.{listingOutcome}
+use Rattle.largest_move.specs.Move.{moveOutcome}
 use Rattle.fragments.specs.declared.Fragment.{Fragment}
 use Rattle.fragments.specs.Outcome.{fragmentOutcome, joinOutcome}
 use Rattle.unload.specs.Unload.{unloadOutcome}
@@ -20,6 +21,7 @@ pub record AnswersAlike (base check base′ check′ : List ℤ) : Type 0 where
   pub runs : (l : List ℤ) (r : Run) → runOutcome (opened base check) l r ≡ runOutcome (opened base′ check′) l r
   pub sheets : (ends : List ℕ) (r : Run) → sheetOutcome (opened base check) ends r ≡ sheetOutcome (opened base′ check′) ends r
   pub listings : (k : ℕ) (words : List ℕ) (totals : List ℤ) → listingOutcome (opened base check) k words totals ≡ listingOutcome (opened base′ check′) k words totals
+  pub moves : (k : ℕ) (words : List ℕ) (totals : List ℤ) → moveOutcome (opened base check) k words totals ≡ moveOutcome (opened base′ check′) k words totals
   pub fragments : (ws : List ℕ) → fragmentOutcome (opened base check) ws ≡ fragmentOutcome (opened base′ check′) ws
   pub joins : (one two : Fragment) → joinOutcome (opened base check) one two ≡ joinOutcome (opened base′ check′) one two
   pub unloads : (table : List ℤ) (work : List ℕ) → unloadOutcome base check table work ≡ unloadOutcome base′ check′ table work

@@ -4,6 +4,7 @@ pub mod RunsInARow
 pub mod OneWord
 pub mod OneWordExample
 pub mod Sentences
+pub mod LargestMove
 pub mod SentencesApart
 pub mod BatchSheet
 pub mod MarkedCases

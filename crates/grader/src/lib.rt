@@ -5,6 +5,7 @@ use batch::Sheet;
 use double_array::Lookup;
 use fragments::Fragment;
 use fragments::Joined;
+use largest_move::Move;
 use score::State;
 use sentences::Listing;
 ghost use mathlib.Core.Path.{_≡_};
@@ -23,6 +24,8 @@ ghost use Rattle.batch.specs.Sheet.{sheetOutcome};
 ghost use Rattle.batch.specs.Meaning.{SheetMeans};
 ghost use Rattle.sentences.specs.Listing.{listingOutcome};
 ghost use Rattle.sentences.specs.Meaning.{ListingMeans};
+ghost use Rattle.largest_move.specs.Move.{moveOutcome};
+ghost use Rattle.largest_move.specs.Meaning.{MoveMeans};
 ghost use Rattle.fragments.specs.Outcome.{fragmentOutcome, joinOutcome};
 ghost use Rattle.fragments.specs.Meaning.{ScoringMeans, JoinMeans};
 ghost use Rattle.plain.specs.Plain.{runOf, plainOutcome, PlainMeans};
@@ -281,6 +284,21 @@ pub extern "C" fn backoff_sentences(
     ensures meaning { λ r. ⌜ ListingMeans (opened (now (base .entry)) (now (check .entry))) k (now (words .entry)) (now (totals .entry)) (record { listing = r; words = now (words .exit); totals = now (totals .exit) }) ⌝ }
 {
     sentences::list_sentences(base, check, k, words, totals)
+}
+
+// Lists the same, and finds the largest distance between the totals of two sentences that differ at one place: 11, 22, 15, 12.
+#[no_mangle]
+pub extern "C" fn backoff_largest_move(
+    base: &[i32],
+    check: &[i32],
+    k: u32,
+    words: &mut [u32],
+    totals: &mut [i64],
+) -> Move
+    ensures outcome { λ r. ⌜ record { move = r; words = now (words .exit); totals = now (totals .exit) } ≡ moveOutcome (opened (now (base .entry)) (now (check .entry))) k (now (words .entry)) (now (totals .entry)) ⌝ }
+    ensures meaning { λ r. ⌜ MoveMeans (opened (now (base .entry)) (now (check .entry))) k (record { move = r; words = now (words .exit); totals = now (totals .exit) }) ⌝ }
+{
+    largest_move::find_largest_move(base, check, k, words, totals)
 }
 
 // Scores words without left context, as a fragment: 11, 14, 12. Nothing is written.

@@ -12,3 +12,4 @@ pub mod Running
 pub mod Pieces
 pub mod Closing
 pub mod Outcomes
+pub mod Sizes

@@ -6,6 +6,7 @@ pub mod batch;
 pub mod build;
 pub mod filling;
 pub mod fragments;
+pub mod largest_move;
 pub mod list;
 pub mod rule;
 pub mod score;

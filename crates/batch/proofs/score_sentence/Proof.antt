@@ -9,8 +9,9 @@ use Rattle.backoff.specs.Run.{Run, Answer}
 use Rattle.backoff.specs.Store.{Store}
 use Rattle.double_array.specs.DoubleArray.{opened}
 use Rattle.score.specs.Answers.{numbersOf, startedOf, answerOf}
+use Rattle.score.proofs.Sizes.{runTotal}
 use Rattle.batch.specs.Sheet.{closingRun}
-use Rattle.batch.proofs.Calls.{no-start, no-words, no-closing, all-three, runTotal, run-answer-small, closing-small, two-fit, two-added}
+use Rattle.batch.proofs.Calls.{no-start, no-words, no-closing, all-three, run-answer-small, closing-small, two-fit, two-added}
 use Rattle.batch.proofs.score_sentence.Statement.{statement}
 use Rattle.batch.proofs.score_sentence.Tie as tie
 

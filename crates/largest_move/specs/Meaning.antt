@@ -1,0 +1,50 @@
+-- What the answer of the largest move means. Sentences are counted from 0 here. The sentences quoted are those of document 02, T-13. Assumes nothing.
+use mathlib.Core.Path.{_≡_}
+use mathlib.Core.Logic.{_⊎_}
+use mathlib.Core.Bool.{Bool, true}
+use mathlib.Core.List.{List, []}
+use mathlib.Core.Option.{Option}
+use Prim.Native.Nat.{ℕ, suc, _≤_, _<_}
+use lib.ListN.{length, getD}
+use lib.IntN.{ℤ, pos}
+use Rattle.backoff.specs.Store.{Store}
+use Rattle.sentences.specs.Listing.{sentenceTotal, usableOver, sentencesOver}
+use Rattle.largest_move.specs.declared.Move.{Move}
+use Rattle.largest_move.specs.Pairs.{noPair}
+use Rattle.largest_move.specs.Move.{sentencesApart, totalsApart, Outcome, moveOf, refusedMove}
+
+-- a pair of the n sentences, the first before the second, that differs at one place
+pub record IsPair (apart : ℕ → ℕ → Bool) (n i j : ℕ) : Type 0 where
+  pub ordered : i < j
+  pub inside : j < n
+  pub one-place : apart i j ≡ true
+
+-- the pair (i, j) is (a, b), or its first, then second, comes earlier
+abbrev pub NotAfter : ℕ → ℕ → ℕ → ℕ → Type 0
+NotAfter i j a b = (i < a) ⊎ ((i ≡ a) × (j ≤ b))
+
+-- of the pairs that P holds of, (i, j) is "the pair that reaches [the largest distance] whose first sentence, then second, is earliest"
+pub record IsLargest (P : ℕ → ℕ → Type 0) (distance : ℕ → ℕ → ℕ) (i j : ℕ) : Type 0 where
+  pub pair : P i j
+  pub largest : (a b : ℕ) → P a b → distance a b ≤ distance i j
+  pub earliest : (a b : ℕ) → P a b → distance a b ≡ distance i j → NotAfter i j a b
+
+-- the answer names two of the sentences ss, "by their numbers there from 1"
+pub record Names (ss : List (List ℕ)) (total : List ℕ → ℤ) (m : Move) : Type 0 where
+  pub i : ℕ
+  pub j : ℕ
+  pub first : m .first ≡ suc i
+  pub second : m .second ≡ suc j
+  pub distance : m .distance ≡ pos (totalsApart ss total i j)
+  pub largest : IsLargest (IsPair (sentencesApart ss) (length ss)) (totalsApart ss total) i j
+
+pub record MoveMeans (o : Option Store) (k : ℕ) (r : Outcome) : Type 0 where
+  pub named : r .move .number ≡ 0 → 2 ≤ length (usableOver o) → Names (sentencesOver o k) (sentenceTotal o) (r .move)
+  -- where all totals are equal, every pair reaches the largest distance, and the first two sentences are the earliest
+  pub level : r .move .number ≡ 0 → 2 ≤ length (usableOver o)
+      → ((i : ℕ) → i < length (sentencesOver o k) → sentenceTotal o (getD (sentencesOver o k) i []) ≡ sentenceTotal o (getD (sentencesOver o k) 0 []))
+      → r .move ≡ moveOf (record { distance = pos 0; first = 1; second = 2 })
+  -- "With fewer than two usable words the distance is 0 and no pair is named (0, 0)."
+  pub few : r .move .number ≡ 0 → length (usableOver o) < 2 → r .move ≡ moveOf noPair
+  -- "a refused call answers zeros"
+  pub refused : (r .move .number ≡ 0 → ⊥) → r .move ≡ refusedMove (r .move .number)
