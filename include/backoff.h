@@ -26,23 +26,25 @@
  * Arrays. Each row of a list has a node, which is reached from the root in slot 0 by the words of the row, newest first:
  * that is the walk. A node in slot s with base[s] = d has its marker in slot d, which holds p and b of the row, and its
  * child for word w in slot d + w or in slot d - w, where check is s. A build lays all children of a node on one side of d.
- * A walk looks at d + w first, then at d - w if that is at least 1. docs/double-array.svg is a picture of an array and a
- * walk.
+ * A walk looks at d + w first, then at d - w if that is at least 1. The longest rows, those of as many words as the order,
+ * have no b, and no row is longer. So the node of such a row has no marker and no child: base of its own slot is p - 1, and
+ * check is its parent, as everywhere. docs/double-array.svg is a picture of an array and a walk.
  *
- * Slots. base and check have the same length, the number of slots. A list needs at least 2 * rows + 2 slots, and at least
- * its largest word + 2; often it needs more. What a build writes does not depend on how many slots it is lent: the array
- * in the fewest slots is the beginning of the array in more slots, and all slots after it are free. So one build into
- * BACKOFF_SLOT_LIMIT slots is enough: cut it after the last slot that is not free (backoff_array_fewest_slots), and the
- * part before the cut answers and unloads as the whole does. Words that are numbered without gaps usually need the fewest
- * slots. An accepted list may need more than BACKOFF_SLOT_LIMIT slots; then 10 is final for these word numbers.
+ * Slots. base and check have the same length, the number of slots. A build takes two slots for the root and for each row,
+ * but one for a longest row: 2 * (rows + 1) less the longest rows. A list needs at least so many, and at least its largest
+ * word + 2; often it needs more, with free slots in between. What a build writes does not depend on how many slots it is
+ * lent: the array in the fewest slots is the beginning of the array in more slots, and all slots after it are free. So one
+ * build into BACKOFF_SLOT_LIMIT slots is enough: cut it after the last slot that is not free (backoff_array_fewest_slots),
+ * and the part before the cut answers and unloads as the whole does. Words that are numbered without gaps usually need the
+ * fewest slots. An accepted list may need more than BACKOFF_SLOT_LIMIT slots; then 10 is final for these word numbers.
  *
  * Saved arrays. Write the number of slots, base, check, and a checksum of them; each number as four bytes, lowest first,
  * so that every machine reads the file. After loading compare the checksum, then call backoff_unload. Its 0 proves that
  * the array holds an accepted list; only the checksum says that it is the list which you saved. check[0] says which
- * releases read the array: it is the order + 16 in all releases with this BACKOFF_VERSION_MAJOR. Every other number there
- * gives 11, also the order + 40 of version 2, the order + 8 of version 1 and the order itself, which arrays had before
- * there were versions: build such an array anew from its list. The program's `backoff build` writes such a file;
- * docs/command-line.md has its form, and examples/saved.c follows it.
+ * releases read the array: it is the order + 24 in all releases with this BACKOFF_VERSION_MAJOR. Every other number there
+ * gives 11, also the order + 16 of version 3, the order + 40 of version 2, the order + 8 of version 1 and the order itself,
+ * which arrays had before there were versions: build such an array anew from its list. The program's `backoff build` writes
+ * such a file; docs/command-line.md has its form, and examples/saved.c follows it.
  *
  * Threads. Calls may run at the same time if no slice that one of them writes is lent to another. So threads may share
  * one array for lookups, starts, runs, batches, listings, fragments and unloading, each with its own slices to be
@@ -61,8 +63,8 @@ extern "C" {
 /* The version. All releases with the same major number have the calls, structs and numbers that stand here, and read each
  * other's lists and arrays. A higher minor number means further calls or numbers. Where a call or a struct changes, a
  * point becomes another part of a logarithm, or arrays get another head (check[0]), the major number changes. */
-#define BACKOFF_VERSION_MAJOR 3
-#define BACKOFF_VERSION_MINOR 2
+#define BACKOFF_VERSION_MAJOR 4
+#define BACKOFF_VERSION_MINOR 0
 #define BACKOFF_VERSION_PATCH 0
 
 /* The numbers of refusals. The place is the row for 3 to 8, the word (from 1) for 12 in a run or a fragment, the
@@ -118,7 +120,7 @@ enum backoff_limit {
     BACKOFF_LEAST_BACKOFF = -99000000,
     BACKOFF_LARGEST_BACKOFF = 99000000,
     BACKOFF_POINTS_PER_LOG = 1000000, /* the points of a base-10 logarithm of 1 */
-    BACKOFF_ORDER_HEAD = 16,          /* check[0] of an array is its order and this */
+    BACKOFF_ORDER_HEAD = 24,          /* check[0] of an array is its order and this */
     BACKOFF_SENTENCE_LIMIT = 4,       /* the most words of a listed sentence */
     BACKOFF_USABLE_LIMIT = 16,        /* the most words of which listed sentences are made */
     BACKOFF_LISTING_LIMIT = 65536,    /* the most sentences of a listing */
@@ -162,8 +164,8 @@ struct backoff_status backoff_check(const int32_t *table, size_t table_len);
  * Refusals: 1; 2; then row by row 3, 4, 5, 6, 7, 8; then 9; 10.
  * Accepted: every slot of base and check is written; work[i - 1] is the slot of row i, and work is untouched past the
  * rows. The marker of row i is in slot base[work[i - 1]]: its check is p - 1, its base is 4 * b + 2 * e + f, where e is 1
- * if some row puts a further word in front of row i, and f is 1 if some row is row i followed by one more word. check[0]
- * is the order + 16, base[1] the number of rows.
+ * if some row puts a further word in front of row i, and f is 1 if some row is row i followed by one more word. A longest
+ * row has no marker: base[work[i - 1]] is p - 1 itself. check[0] is the order + 24, base[1] the number of rows.
  * After 1 to 9: base, check and work are untouched.
  * After 10: every slot is free (base 0, check INT32_MIN); work is 0 for each row and untouched past the rows. */
 struct backoff_status backoff_build(const int32_t *table, size_t table_len, int32_t *base, size_t base_len, int32_t *check,
@@ -171,7 +173,8 @@ struct backoff_status backoff_build(const int32_t *table, size_t table_len, int3
 
 /* Looks up 1 to 5 words, oldest first: found is 1 where they are a row. No word is replaced by 1. A word outside
  * 1..65,535, or more words than the order, are not found. left is 1 exactly if some row of the list is these words with
- * one more in front; over an array that backoff_build did not write, left is the e of the row's marker.
+ * one more in front; over an array that backoff_build did not write, left is the e of the row's marker, and 0 for a longest
+ * row.
  * Refusals: 11; 14; 12. */
 struct backoff_found backoff_lookup(const int32_t *base, size_t base_len, const int32_t *check, size_t check_len,
                                     const uint32_t *words, size_t words_len);
@@ -194,10 +197,10 @@ struct backoff_status backoff_start(const int32_t *base, size_t base_len, const 
  * So all sentences of a reading may go through one run, or through several, each sentence closed with a 3. points and
  * lengths have at least one item for each word. A length byte is the matched length, the number of words in the row
  * whose p was used, plus 8 if the word was scored as 1, plus 16 if some row puts a further word in front of that row;
- * over an array that backoff_build did not write, 16 is as the e of the row's marker says. So byte & 7 is the matched
- * length, byte & BACKOFF_UNKNOWN_LENGTH is not 0 for an unknown word, a word given as 1 too, and byte &
- * BACKOFF_EXTENDED_LENGTH is not 0 where the row can grow to the left. A run of no words is accepted; its total is 0 and
- * its state stays.
+ * over an array that backoff_build did not write, 16 is as the e of the row's marker says, and not added for a longest
+ * row. So byte & 7 is the matched length, byte & BACKOFF_UNKNOWN_LENGTH is not 0 for an unknown word, a word given as 1
+ * too, and byte & BACKOFF_EXTENDED_LENGTH is not 0 where the row can grow to the left. A run of no words is accepted; its
+ * total is 0 and its state stays.
  * Refusals: 16, where state_len is not 9; 11; 16 for the numbers of the state; 14; 15; 12, at the word that met it. Where
  * backoff_start gives 12, it is met at the first 3, also where that is the last word.
  * Accepted: points and lengths have the answer of each word, and are untouched past the words; state is the state after

@@ -26,7 +26,7 @@ from ctypes import c_bool, c_char_p, c_int64, c_size_t, c_uint32, c_uint64, c_vo
 from dataclasses import dataclass
 from typing import Iterable, Iterator, NamedTuple, Optional, Union
 
-__version__ = "3.2.0"
+__version__ = "4.0.0"
 __all__ = ["FullScoreReturn", "LanguageModel", "Model", "Refused", "Sheet", "State"]
 
 Text = Union[str, bytes]
@@ -43,14 +43,14 @@ SLOT_LIMIT = 1_048_576
 RECORD_BYTES = 64
 TEXT_LIMIT = 63
 POINTS_PER_LOG = 1_000_000
-ORDER_HEAD = 16
+ORDER_HEAD = 24
 UNKNOWN_WORD = 1
 END_WORD = 3
 UNKNOWN_LENGTH = 8
 
 MATCHED_LENGTH = 7  # the bits of a length byte that hold the matched length
 UNLISTED_WORD = 0  # a number that no list has; it is scored as the unknown word
-EARLIER_HEADS = {8: 1, 40: 2}  # what the arrays of earlier versions have as ORDER_HEAD, and the version
+EARLIER_HEADS = {8: 1, 40: 2, 16: 3}  # what the arrays of earlier versions have as ORDER_HEAD, and the version
 
 # The array file: this first line, the version and five sizes, base, check, the texts, and a CRC-32 of all before it.
 FIRST_LINE = b"backoff\n"

@@ -5,7 +5,7 @@ use backoff::{Found, Status};
 
 pub const FREE: i32 = i32::MIN;
 const MOST_SLOTS: usize = 1_048_576;
-const HEAD: i32 = 16;
+const HEAD: i32 = 24;
 const ACCEPTED: Status = Status { number: 0, place: 0 };
 
 /// Builds the double array of a list, the search for d from the first free slot on: 1, 2, row by row 3 to 8, 9, 10.
@@ -105,15 +105,17 @@ pub fn largest_word(children: &[Row]) -> usize {
     children.last().map_or(0, |child| child[1] as usize)
 }
 
-/// Places all nodes and writes everything but slot 0 and the f of the markers; nothing where a slot at or past the end is used.
+/// Places all nodes and writes everything but slot 0 and the f of the markers; nothing where a slot at or past the end is used. The longest rows come last, and
+/// have no marker.
 fn place<S: Search>(rows: &[Row], base: &mut [i32], check: &mut [i32], work: &mut [u32]) -> Option<S> {
     let mut search = S::default();
     let ones = rows.partition_point(|row| row[0] == 1);
     let d = settle(&rows[..ones], 0, &mut search, base, check, &mut work[..ones])?;
     S::take(base, check, d, rows.len() as i32, -1);
+    let longest = rows.partition_point(|row| row[0] < rows[rows.len() - 1][0]);
     // The children of the rows, in the order of the rows, are the rows of two and more words.
     let mut next = ones;
-    for (i, row) in rows.iter().enumerate() {
+    for (i, row) in rows[..longest].iter().enumerate() {
         let m = row[0] as usize;
         let is_child = |child: &Row| child[0] == row[0] + 1 && child[2..2 + m] == row[1..1 + m];
         let end = rows[next..].iter().position(|child| !is_child(child)).map_or(rows.len(), |count| next + count);
@@ -123,6 +125,9 @@ fn place<S: Search>(rows: &[Row], base: &mut [i32], check: &mut [i32], work: &mu
         let extended = (next < end) as i32;
         S::take(base, check, d, 4 * row[7] + 2 * extended, row[6] - 1);
         next = end;
+    }
+    for (row, &slot) in rows[longest..].iter().zip(&work[longest..]) {
+        base[slot as usize] = row[6] - 1;
     }
     Some(search)
 }
@@ -185,15 +190,24 @@ pub fn child(base: &[i32], check: &[i32], node: usize, word: u32) -> Option<usiz
     (d > word && owned(d - word)).then(|| d - word)
 }
 
-/// What a node's marker holds: p, and 4 × b + 2 × e + f; nothing where it is not sound.
-pub fn marker(base: &[i32], check: &[i32], node: usize) -> Option<(i32, i32)> {
+/// What the node of a longest row, or the marker of another one, holds: p, and 4 × b + 2 × e + f; nothing where it is not sound.
+pub fn marker(base: &[i32], check: &[i32], longest: bool, node: usize) -> Option<(i32, i32)> {
     let d = base[node];
+    if longest {
+        return own_p(d).map(|p| (p, 0));
+    }
     if d < 1 || d as usize >= base.len() {
         return None;
     }
     let (last, packed) = (check[d as usize], base[d as usize]);
     let sound = (LOWEST_P - 1..=-1).contains(&last) && (-4 * LARGEST_B..=4 * LARGEST_B + 3).contains(&packed);
     sound.then_some((last + 1, packed))
+}
+
+/// The p in the BASE of a longest row's node.
+#[inline(always)]
+pub fn own_p(base: i32) -> Option<i32> {
+    (LOWEST_P - 1..=-1).contains(&base).then_some(base + 1)
 }
 
 /// Whether b is not 0 or f is 1.
@@ -217,14 +231,15 @@ pub fn lookup(base: &[i32], check: &[i32], words: &[u32]) -> Found {
         return refused(14);
     }
     let not_found = refused(0);
-    if words.len() > order(check) as usize {
+    let order = order(check) as usize;
+    if words.len() > order {
         return not_found;
     }
     let mut node = 0;
     let mut found = not_found;
-    for &word in words.iter().rev() {
+    for (depth, &word) in (1..).zip(words.iter().rev()) {
         let Some(slot) = child(base, check, node, word) else { return not_found };
-        let Some((p, packed)) = marker(base, check, slot) else { return refused(12) };
+        let Some((p, packed)) = marker(base, check, depth == order, slot) else { return refused(12) };
         found = Found { number: 0, place: 0, found: 1, p, b: packed >> 2, left: packed as u32 >> 1 & 1 };
         node = slot;
     }

@@ -120,6 +120,11 @@ impl List {
         List::new(uniform(&mut Random::new(2), 2, LARGEST_WORD, MOST_ROWS))
     }
 
+    /// A list of which half the rows are the longest, with words as frequent as a text's.
+    pub fn order_3() -> List {
+        List::new(natural(&mut Random::new(2), 3, 12_000, MOST_ROWS))
+    }
+
     /// The longest lists with words up to the largest, in arrays of 262,144 slots.
     pub fn all_words() -> [(&'static str, List); 2] {
         let mut random = Random::new(5);
@@ -135,6 +140,12 @@ impl List {
 
     pub fn rows(&self) -> usize {
         self.rows.len()
+    }
+
+    /// How many rows have as many words as the order.
+    pub fn longest_rows(&self) -> usize {
+        let order = self.rows.last().map_or(0, |row| row.words.len());
+        self.rows.iter().filter(|row| row.words.len() == order).count()
     }
 
     /// The list pruned: of a hundred rows that no kept row goes on after, so many are gone. Its numbers are such that filling accepts it.

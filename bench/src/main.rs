@@ -1,5 +1,5 @@
 //! The calls against Rust written by the team for the same work. Without arguments it prints Markdown tables of ratios, times and memory,
-//! `reading` prints those of ARPA texts alone, `building` that of builders, `sentences` that of small sentences; `instructions KIND LENGTH` runs the scorers once, for
+//! `reading` prints those of ARPA texts alone, `building` that of builders, `sentences` that of small sentences, `memory` that of memory; `instructions KIND LENGTH` runs the scorers once, for
 //! `bench/instructions` to count.
 //! `pictured` prints the tables of docs/performance.svg, for which `bench/run` makes the libraries of `bench/peers`; `draw` draws it from a page that has them.
 
@@ -40,6 +40,7 @@ fn main() -> ExitCode {
         ["reading"] => reading::print_tables(),
         ["building"] => building::print_table(),
         ["sentences"] => sentences::print_table(),
+        ["memory"] => report::print_memory_table(),
         ["text", sentences] => building::print_text(sentences.parse().expect("a number of sentences")),
         ["instructions", kind, length] => instructions::run(kind, length),
         _ => return ExitCode::from(2),

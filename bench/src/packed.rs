@@ -1,7 +1,7 @@
 //! A carried state with which Rust scores as fast as the team got it: the words are packed in one number, and the back-offs held as sums
 //! that change in place.
 
-use crate::array::{extended_byte, is_live};
+use crate::array::{extended_byte, is_live, own_p};
 use crate::list::{LARGEST_B, LARGEST_WORD, LOWEST_P};
 use crate::score::{Items, State};
 use std::hint::select_unpredictable;
@@ -44,6 +44,9 @@ impl State for Packed {
             Some(slot) => (slot, word, 0),
             None => (root_child(1)?, 1, 8),
         };
+        if order == 1 {
+            return Some((own_p(base[node])?, 1 + kind));
+        }
         let whole = self.sums[self.count];
         let (mut older, mut owed) = (self.words, whole);
         let (mut matched, mut kept, mut sum) = (0, 0, 0);
@@ -75,6 +78,11 @@ impl State for Packed {
                 if check[slot] != node as i32 {
                     break (points, packed);
                 }
+            }
+            if matched + 1 == order {
+                // A longest row has no marker and ends every walk.
+                matched = order;
+                break (own_p(base[slot])? + owed, 0);
             }
             older >>= 16;
             node = slot;

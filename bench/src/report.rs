@@ -22,7 +22,7 @@ pub fn print() {
     print_ratios(&results);
     print_times(&results);
     print_filled(&results);
-    print_memory(&results);
+    print_memory(results.iter().flat_map(|result| result.lists.iter().map(|list| (result.kind, list))));
     print_largest(&results);
     batch::print_threads(&results[0].lists[1]);
     sentences::print_table();
@@ -69,19 +69,37 @@ fn print_filled(results: &[Result]) {
     }
 }
 
-/// A slot has four bytes in each of two arrays, a row four bytes of work; the root and each row take two slots.
-fn print_memory(results: &[Result]) {
-    println!("\n## Memory\n\nThe two arrays at the slots that the list needs, and the work slice. The list itself has 32 bytes a row.\n");
-    println!("| list | rows | slots | fill rate | arrays, bytes a row | with work, bytes a row |\n|---|--:|--:|--:|--:|--:|");
-    let wide = List::wide();
-    let measured = results.iter().flat_map(|result| result.lists.iter().map(|list| (result.kind, list)));
-    for (kind, list) in measured.chain([("wide", &wide)]) {
-        let (rows, slots) = (list.rows(), list.arrays.slots());
-        let fill_rate = 100.0 * (2 * rows + 2) as f64 / slots as f64;
-        let bytes = (8 * slots) as f64 / rows as f64;
-        let (rows, slots) = (thousands(rows), thousands(slots));
-        println!("| {kind} | {rows} | {slots} | {fill_rate:.1} % | {bytes:.1} | {:.1} |", bytes + 4.0);
+/// Prints the memory of the lists alone.
+pub fn print_memory_table() {
+    let lists: Vec<_> = KINDS.iter().flat_map(|kind| [(kind.name, kind.short()), (kind.name, kind.long())]).collect();
+    print_memory(lists.iter().map(|(kind, list)| (*kind, list)));
+}
+
+const MEMORY: &str = "
+## Memory
+
+The two arrays at the slots that the list needs, and the work slice. The list itself has 32 bytes a row. The root and each row take two slots, a longest row one. Were these to have markers
+too, they would lie in the lowest free slots, and the list would need the slots of the next column: no more, where a child of some other node lies last.
+
+| list | rows | longest rows | slots | were all rows to have markers | fill rate | arrays, bytes a row | with work, bytes a row |
+|---|--:|--:|--:|--:|--:|--:|--:|";
+
+fn print_memory<'a>(lists: impl Iterator<Item = (&'a str, &'a List)>) {
+    println!("{MEMORY}");
+    for (kind, list) in lists {
+        print_slots(kind, list);
     }
+    print_slots("wide", &List::wide());
+    print_slots("order 3", &List::order_3());
+}
+
+/// A slot has four bytes in each of two arrays, a row four bytes of work.
+fn print_slots(kind: &str, list: &List) {
+    let (rows, longest, slots) = (list.rows(), list.longest_rows(), list.arrays.slots());
+    let fill_rate = 100.0 * (2 * (rows + 1) - longest) as f64 / slots as f64;
+    let bytes = (8 * slots) as f64 / rows as f64;
+    let [rows, longest, slots, marked] = [rows, longest, slots, slots.max(2 * (rows + 1))].map(thousands);
+    println!("| {kind} | {rows} | {longest} | {slots} | {marked} | {fill_rate:.1} % | {bytes:.1} | {:.1} |", bytes + 4.0);
 }
 
 /// The seconds that a person waits for the longest lists.

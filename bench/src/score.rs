@@ -65,7 +65,7 @@ impl State for Items {
         let mut matched = 0;
         let (mut p, mut packed);
         loop {
-            (p, packed) = marker(base, check, node)?;
+            (p, packed) = marker(base, check, matched + 1 == order, node)?;
             if matched < 4 {
                 next.back_offs[matched] = packed >> 2;
             }

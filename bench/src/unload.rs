@@ -36,8 +36,8 @@ fn fill(base: &[i32], check: &[i32], rows: &mut [Row], work: &mut [u32]) -> Opti
     set_bits(rows)?;
     for (row, item) in rows.iter_mut().zip(work) {
         *item = row[6] as u32;
-        let (p, packed) = marker(base, check, row[6] as usize)?;
-        if packed & 3 != row[7] || (row[0] == order && packed != 0) {
+        let (p, packed) = marker(base, check, row[0] == order, row[6] as usize)?;
+        if packed & 3 != row[7] {
             return None;
         }
         (row[6], row[7]) = (p, packed >> 2);

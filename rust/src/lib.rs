@@ -359,9 +359,10 @@ pub fn build(table: &[i32], base: &mut [i32], check: &mut [i32], work: &mut [u32
 }
 
 /// Looks up 1 to 5 words, oldest first. No word is replaced by 1; more words than the order are not found. Over an array that [`build`] did not write,
-/// `left` is what the marker of the row says.
+/// `left` is what the marker of the row says, and 0 for a row of as many words as the order, which has no marker.
 ///
-/// Refusals: 11; 14; 12. An array that an older build wrote, with the order itself in `check[0]`, gives 11: build it anew.
+/// Refusals: 11; 14; 12. An array that an older build wrote, with another number than the order and [`limits::ORDER_HEAD`] in `check[0]`, gives 11: build it
+/// anew.
 pub fn lookup(base: &[i32], check: &[i32], words: &[u32]) -> Found {
     unsafe { raw::backoff_lookup(base.as_ptr(), base.len(), check.as_ptr(), check.len(), words.as_ptr(), words.len()) }
 }

@@ -27,7 +27,7 @@ pub const LARGEST_BACKOFF: i32 = 99_000_000;
 /// The points of a base-10 logarithm of 1.
 pub const POINTS_PER_LOG: i32 = 1_000_000;
 /// `check[0]` of an array is its order and this.
-pub const ORDER_HEAD: i32 = 16;
+pub const ORDER_HEAD: i32 = 24;
 /// The most words of a listed sentence.
 pub const SENTENCE_LIMIT: usize = 4;
 /// The most words of which listed sentences are made.

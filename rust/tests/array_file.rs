@@ -284,7 +284,8 @@ fn damaged_arrays() {
     assert!(refusals[11] > 10 && refusals[12] > 10, "{refusals:?}");
 }
 
-/// An array of version 1, whose head was the order and 8, is told to be one, and so is one of version 2, of the order and 40; any other head is not.
+/// An array of version 1, whose head was the order and 8, is told to be one, and so is one of version 2, of the order and 40, and one of version 3, of the order
+/// and 16; any other head is not.
 #[test]
 fn heads_of_earlier_versions() {
     let file = built(SAMPLE.as_bytes(), "");
@@ -294,12 +295,12 @@ fn heads_of_earlier_versions() {
         bytes[HEAD + 4 * slots..][..4].copy_from_slice(&head.to_le_bytes());
         refused(&closed(&bytes))
     };
-    for (heads, version) in [(9..=13, 1), (41..=45, 2)] {
+    for (heads, version) in [(9..=13, 1), (41..=45, 2), (17..=21, 3)] {
         for head in heads {
             assert_eq!(with(head), format!("{OTHER_HEAD} Version {version} wrote it."), "{head}");
         }
     }
-    for head in [3, 8, 14, 16, 22, 27, 40, 46, i32::MIN, i32::MAX] {
+    for head in [3, 8, 14, 16, 22, 24, 30, 35, 40, 46, i32::MIN, i32::MAX] {
         assert_eq!(with(head), OTHER_HEAD, "{head}");
     }
 }

@@ -45,8 +45,8 @@ rows                  9
 3-grams               1
 words                 5
 slots needed         20
-slots in use         20
-fill            100.0 %
+slots in use         19
+fill             95.0 %
 ";
     assert_eq!(folder.run("check sample").text(), expected);
     folder.run("build sample array").printed();
@@ -79,6 +79,8 @@ fn random_lists() {
             let built = backoff::build(&lists::table(&list.rows), &mut base, &mut check, &mut work);
             (built.number, base.iter().zip(&check).filter(|&slot| slot != (&0, &i32::MIN)).count())
         };
+        let longest = number(&format!("{order}-grams"));
+        assert_eq!(number("slots in use"), 2 * (list.rows.len() + 1) - longest);
         assert_eq!(built(number("slots needed")), (0, number("slots in use")));
         assert_eq!(built(number("slots needed") - 1).0, 10);
     }

@@ -40,9 +40,9 @@ static void expect_array_numbers(void) {
     expect("no room", is(build(SLOTS - 1, 9), BACKOFF_NO_ROOM, 0));
     expect("array head", is(backoff_start(base, SLOTS, check, SLOTS, state, BACKOFF_STATE_LENGTH), BACKOFF_ARRAY_HEAD, 0));
     expect("built", is(build(SLOTS, 9), BACKOFF_ACCEPTED, 0));
-    check[0] += 40 - BACKOFF_ORDER_HEAD;
+    check[0] += 16 - BACKOFF_ORDER_HEAD;
     expect("older head", is(backoff_start(base, SLOTS, check, SLOTS, state, BACKOFF_STATE_LENGTH), BACKOFF_ARRAY_HEAD, 0));
-    check[0] -= 40 - BACKOFF_ORDER_HEAD;
+    check[0] -= 16 - BACKOFF_ORDER_HEAD;
     expect("word count", backoff_lookup(base, SLOTS, check, SLOTS, words, 0).number == BACKOFF_WORD_COUNT);
     expect("short slice", run_is(BACKOFF_STATE_LENGTH, 1, BACKOFF_SHORT_SLICE, 0));
     expect("bad state by its length", run_is(BACKOFF_STATE_LENGTH - 1, 2, BACKOFF_BAD_STATE, 0));

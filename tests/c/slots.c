@@ -92,7 +92,7 @@ int main(void) {
     number_at_random(400);
     expect_slots("400 words at random", slots(list(400, 160), BACKOFF_ACCEPTED), 634128);
     number_without_gaps(255);
-    expect_slots("255 words without gaps", slots(list(255, 255), BACKOFF_ACCEPTED), 130562);
+    expect_slots("255 words without gaps", slots(list(255, 255), BACKOFF_ACCEPTED), 65537);
     number_in_steps();
     expect_slots("255 words in steps", slots(list(255, 255), BACKOFF_NO_ROOM), 0);
     return counted();

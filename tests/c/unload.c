@@ -19,5 +19,10 @@ int main(void) {
     expect("a wrong e gives 12", is(backoff_unload(base, 20, check, 20, table, 72, work, 9), 12, 0));
     base[7] = 0;
     expect("both right are accepted", is(backoff_unload(base, 20, check, 20, table, 72, work, 9), 0, 0));
+    base[19] = -99000001;
+    expect("another p of the longest row is accepted", is(backoff_unload(base, 20, check, 20, table, 72, work, 9), 0, 0));
+    expect("and comes back", table[70] == -99000000 && table[71] == 0);
+    base[19]--;
+    expect("one point less gives 12", is(backoff_unload(base, 20, check, 20, table, 72, work, 9), 12, 0));
     return counted();
 }

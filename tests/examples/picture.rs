@@ -14,7 +14,7 @@ fn main() {
 const LOOKED_UP: [i32; 3] = [2, 4, 5];
 
 const WIDTH: usize = 1080;
-const HEIGHT: usize = 640;
+const HEIGHT: usize = 680;
 
 fn picture() -> String {
     let array = Array::build(sample());
@@ -24,15 +24,18 @@ fn picture() -> String {
     draw_trie(&mut drawing, &array, &walk);
     draw_steps(&mut drawing, &array, &walk);
     draw_slots(&mut drawing, &array, &walk);
-    draw_jumps(&mut drawing, &array, &walk);
-    draw_legend(&mut drawing);
+    draw_jumps(&mut drawing, &walk);
+    draw_markers(&mut drawing, &array, &walk);
+    draw_legend(&mut drawing, &array);
     drawing.finish()
 }
 
 const OWN_STYLE: &str = "  .on-line { paint-order: stroke; stroke: #fcfcfa; stroke-width: 5px; text-anchor: middle }
   .walked { fill: #b91c1c; font-weight: bold }
   .node { fill: #dbeafe; stroke: #3b6ea5 }
+  .longest { fill: #d3f0dd; stroke: #2f855a }
   .marker { fill: #fdf0d0; stroke: #a87b24 }
+  .free { fill: #fcfcfa; stroke: #c5ccd3 }
   .edge { fill: none; stroke: #7b8794; stroke-width: 1.3 }
   .step { fill: none; stroke: #b91c1c; stroke-width: 2.2 }
   .tip { fill: #b91c1c }
@@ -49,11 +52,13 @@ struct Array {
     nodes: Vec<u32>,
 }
 
-/// What a slot holds, with the words of its row; the root has none.
+/// What a slot holds, with the words of its row; the root has none. The node of a longest row has no marker.
 #[derive(Clone, Copy, PartialEq)]
 enum Held<'a> {
     Node(&'a [i32]),
+    Longest(&'a [i32]),
     Marker(&'a [i32]),
+    Free,
 }
 
 impl Array {
@@ -74,33 +79,49 @@ impl Array {
         self.base.len()
     }
 
+    fn order(&self) -> usize {
+        self.rows.last().map_or(0, |row| row.words.len())
+    }
+
+    /// The slot of the marker of a node to which so many words lead, nothing where it has none.
+    fn marker(&self, length: usize, node: usize) -> Option<usize> {
+        (length < self.order()).then(|| self.base[node] as usize)
+    }
+
     fn held(&self, slot: usize) -> Held<'_> {
         let rows = self.rows.iter().map(|row| &row.words[..]).zip(self.nodes.iter().map(|&node| node as usize));
         for (words, node) in std::iter::once((&[][..], 0)).chain(rows) {
+            let marker = self.marker(words.len(), node);
             if slot == node {
-                return Held::Node(words);
+                return if marker.is_some() { Held::Node(words) } else { Held::Longest(words) };
             }
-            if slot == self.base[node] as usize {
+            if marker == Some(slot) {
                 return Held::Marker(words);
             }
         }
-        panic!("slot {slot} is free: the picture shows an array without free slots")
+        assert_eq!((self.base[slot], self.check[slot]), (0, i32::MIN), "slot {slot} is free");
+        Held::Free
     }
 
-    /// The slots of the nodes from the root on, newest word first, each ahead of its parent's BASE; `backoff::lookup` must answer what their markers
-    /// hold.
+    /// What a node to which so many words lead says, as its marker or its own BASE holds it: p, b and e.
+    fn says(&self, length: usize, node: usize) -> (i32, i32, i32) {
+        match self.marker(length, node) {
+            Some(marker) => (self.check[marker] + 1, self.base[marker] >> 2, self.base[marker] >> 1 & 1),
+            None => (self.base[node] + 1, 0, 0),
+        }
+    }
+
+    /// The slots of the nodes from the root on, newest word first, each ahead of its parent's BASE; `backoff::lookup` must answer what the nodes say.
     fn walk(&self, words: &[i32]) -> Vec<usize> {
         let mut walk = vec![0];
         for length in 1..=words.len() {
             let walked = &words[words.len() - length..];
             let node = walk[length - 1];
             let slot = (self.base[node] + walked[0]) as usize;
-            let marker = self.base[slot] as usize;
             let sequence: Vec<u32> = walked.iter().map(|&word| word as u32).collect();
             let found = backoff::lookup(&self.base, &self.check, &sequence);
             assert_eq!((found.number, found.found, self.check[slot]), (0, 1, node as i32), "the walk goes on");
-            assert_eq!((found.p, found.b), (self.check[marker] + 1, self.base[marker] >> 2), "the marker holds p and b");
-            assert_eq!(found.left as i32, self.base[marker] >> 1 & 1, "the marker holds e");
+            assert_eq!((found.p, found.b, found.left as i32), self.says(length, slot), "the node says p, b and e");
             walk.push(slot);
         }
         walk
@@ -130,12 +151,15 @@ fn draw_trie(drawing: &mut Drawing, array: &Array, walk: &[usize]) {
         drawing.text(class, (x + from_x) / 2, (y + from_y) / 2 + 3, &row.words[0].to_string());
     }
     for slot in 0..array.slots() {
-        if let Held::Node(_) = array.held(slot) {
-            let (x, y) = places[slot];
-            let walked = if walk.contains(&slot) { " style=\"stroke:#b91c1c;stroke-width:2.2\"" } else { "" };
-            drawing.add(&format!("<circle class=\"node\" cx=\"{x}\" cy=\"{y}\" r=\"15\"{walked}/>"));
-            drawing.text("number middle", x, y + 4, &slot.to_string());
-        }
+        let class = match array.held(slot) {
+            Held::Node(_) => "node",
+            Held::Longest(_) => "longest",
+            Held::Marker(_) | Held::Free => continue,
+        };
+        let (x, y) = places[slot];
+        let walked = if walk.contains(&slot) { " style=\"stroke:#b91c1c;stroke-width:2.2\"" } else { "" };
+        drawing.add(&format!("<circle class=\"{class}\" cx=\"{x}\" cy=\"{y}\" r=\"15\"{walked}/>"));
+        drawing.text("number middle", x, y + 4, &slot.to_string());
     }
 }
 
@@ -168,8 +192,9 @@ fn draw_steps(drawing: &mut Drawing, array: &Array, walk: &[usize]) {
     let (left, mut y) = (590, 92);
     drawing.text("word", left, y, &format!("Lookup of {}, newest word first", spaced(&LOOKED_UP)));
     drawing.text("small", left, y + 18, "A word is looked for ahead of BASE, then behind it; the sample has all its nodes ahead.");
-    for (step, &word) in walk.windows(2).zip(LOOKED_UP.iter().rev()) {
+    for ((step, &word), length) in walk.windows(2).zip(LOOKED_UP.iter().rev()).zip(1..) {
         let (node, slot) = (step[0], step[1]);
+        let marker = array.marker(length, slot).map_or(String::new(), |marker| format!(" Its marker is in slot {marker}."));
         y += 44;
         drawing.text(
             "",
@@ -177,16 +202,19 @@ fn draw_steps(drawing: &mut Drawing, array: &Array, walk: &[usize]) {
             y,
             &format!("Slot {node} has BASE {}; word {word} leads to {} + {word} = {slot}.", array.base[node], array.base[node]),
         );
-        drawing.text("small", left, y + 17, &format!("CHECK of slot {slot} is {node}: it is the child."));
+        drawing.text("small", left, y + 17, &format!("CHECK of slot {slot} is {node}: it is the child.{marker}"));
     }
-    let node = walk[walk.len() - 1];
-    let marker = array.base[node] as usize;
-    let (p, packed) = (array.check[marker] + 1, array.base[marker]);
-    let last = format!("CHECK is p − 1 = {}, BASE is 4 × b + 2 × e + f = {}:", signed(p - 1), signed(packed));
-    drawing.text("", left, y + 44, &format!("Slot {node} has BASE {marker}: its marker is in slot {marker}."));
-    drawing.text("small", left, y + 61, &last);
-    let (b, e, f) = (packed >> 2, packed >> 1 & 1, packed & 1);
-    drawing.text("word walked", left, y + 86, &format!("p = {}, b = {}, e = {e}, f = {f}", signed(p), signed(b)));
+    let (node, order) = (walk[LOOKED_UP.len()], array.order());
+    assert_eq!(LOOKED_UP.len(), order, "a longest row is looked up");
+    let (p, b, e) = array.says(order, node);
+    drawing.text("", left, y + 44, &format!("The row has n = {order} words, the most there are, and no marker:"));
+    drawing.text(
+        "small",
+        left,
+        y + 61,
+        &format!("BASE of slot {node} is p − 1 = {}. Such a row has no back-off, and no row is longer.", signed(p - 1)),
+    );
+    drawing.text("word walked", left, y + 86, &format!("p = {}, b = {}, e = {e}, f = 0", signed(p), signed(b)));
 }
 
 /// The left edge of slot 0, the width of a slot, and the upper edge of BASE.
@@ -207,14 +235,16 @@ fn draw_slots(drawing: &mut Drawing, array: &Array, walk: &[usize]) {
         drawing.text("small end", LEFT - 10, y, label);
     }
     for slot in 0..array.slots() {
-        let (kind, words) = match array.held(slot) {
-            Held::Node(words) => ("node", words),
-            Held::Marker(words) => ("marker", words),
+        let row = |words: &[i32]| if words.is_empty() { "root".to_string() } else { spaced(words) };
+        let (class, kind, of) = match array.held(slot) {
+            Held::Node(words) => ("node", "node", row(words)),
+            Held::Longest(words) => ("longest", "node", row(words)),
+            Held::Marker(words) => ("marker", "marker", row(words)),
+            Held::Free => ("free", "free", String::new()),
         };
-        let of = if words.is_empty() { "root".to_string() } else { spaced(words) };
         let (left, walked) = (LEFT + SLOT * slot, if walk.contains(&slot) { " walked" } else { "" });
-        drawing.rectangle(kind, left, TOP, SLOT, CELL);
-        drawing.rectangle(kind, left, TOP + CELL, SLOT, CELL);
+        drawing.rectangle(class, left, TOP, SLOT, CELL);
+        drawing.rectangle(class, left, TOP + CELL, SLOT, CELL);
         drawing.text(&format!("number middle{walked}"), middle(slot), TOP - 9, &slot.to_string());
         drawing.text("number middle", middle(slot), TOP + 18, &signed(array.base[slot]));
         drawing.text("number middle", middle(slot), TOP + CELL + 18, &signed(array.check[slot]));
@@ -223,8 +253,8 @@ fn draw_slots(drawing: &mut Drawing, array: &Array, walk: &[usize]) {
     }
 }
 
-/// The walk over the slots: from node to child above them, from the last node to its marker below.
-fn draw_jumps(drawing: &mut Drawing, array: &Array, walk: &[usize]) {
+/// The walk over the slots, from node to child.
+fn draw_jumps(drawing: &mut Drawing, walk: &[usize]) {
     let edge = TOP - 24;
     for (step, word) in walk.windows(2).zip(LOOKED_UP.iter().rev()) {
         let (from, to) = (middle(step[0]), middle(step[1]));
@@ -232,20 +262,36 @@ fn draw_jumps(drawing: &mut Drawing, array: &Array, walk: &[usize]) {
         arrow(drawing, &format!("M{from} {edge} C{from} {top} {to} {top} {to} {edge}"));
         drawing.text("walked middle", (from + to) / 2, edge - 3 * (edge - top) / 4 - 6, &format!("word {word}"));
     }
-    let node = walk[walk.len() - 1];
-    let (from, to) = (middle(node), middle(array.base[node] as usize));
-    let (edge, low) = (TOP + 2 * CELL + 41, TOP + 2 * CELL + 78);
-    arrow(drawing, &format!("M{from} {edge} C{from} {low} {to} {low} {to} {edge}"));
-    drawing.text("walked middle", (from + to) / 2, low + 6, "marker");
 }
 
-fn draw_legend(drawing: &mut Drawing) {
-    let y = HEIGHT - 24;
+/// What the walk reads of each node, below the slots: its marker, or its own BASE where it has none.
+fn draw_markers(drawing: &mut Drawing, array: &Array, walk: &[usize]) {
+    let (edge, low) = (TOP + 2 * CELL + 41, TOP + 2 * CELL + 78);
+    for (length, &node) in walk.iter().enumerate().skip(1) {
+        let from = middle(node);
+        let Some(marker) = array.marker(length, node) else {
+            drawing.text("walked middle", from, low - 8, "no marker");
+            continue;
+        };
+        let to = middle(marker);
+        arrow(drawing, &format!("M{from} {edge} C{from} {low} {to} {low} {to} {edge}"));
+        drawing.text("walked middle", (from + to) / 2, low + 6, "marker");
+    }
+}
+
+fn draw_legend(drawing: &mut Drawing, array: &Array) {
+    let head = format!(
+        "node: BASE is d, its marker's slot; CHECK is its parent, at the root the order + {}",
+        array.check[0] - array.order() as i32
+    );
     let entries = [
-        ("node", 28, "node: BASE is d, its marker's slot; CHECK is its parent, at the root the order + 16"),
-        ("marker", 525, "marker: BASE is 4 × b + 2 × e + f, CHECK is p − 1; the root's: the rows, −1"),
+        ("node", 28, 46, &head[..]),
+        ("marker", 525, 46, "marker: BASE is 4 × b + 2 × e + f, CHECK is p − 1; the root's: the rows, −1"),
+        ("longest", 28, 24, "node of a longest row: BASE is p − 1, CHECK is its parent; it has no marker"),
+        ("free", 525, 24, "free: BASE is 0, CHECK is −2,147,483,648 (−2³¹)"),
     ];
-    for (class, x, text) in entries {
+    for (class, x, above_the_end, text) in entries {
+        let y = HEIGHT - above_the_end;
         drawing.rectangle(class, x, y - 11, 18, 13);
         drawing.text("small", x + 26, y, text);
     }
@@ -255,9 +301,12 @@ fn spaced(words: &[i32]) -> String {
     words.iter().map(i32::to_string).collect::<Vec<_>>().join(" ")
 }
 
-/// A number with the sign that print uses.
+/// A number with the sign that print uses; the lowest, which is too wide for its place, as a power.
 fn signed(number: i32) -> String {
-    number.to_string().replace('-', "−")
+    match number {
+        i32::MIN => "−2³¹".to_string(),
+        _ => number.to_string().replace('-', "−"),
+    }
 }
 
 #[cfg(test)]
@@ -268,11 +317,12 @@ mod tests {
         assert!(super::picture() == include_str!("../../docs/double-array.svg"), "make docs/double-array.svg again");
     }
 
-    /// The facts of K7 and K8.
+    /// The facts of K7 and K8, and where the longest row is.
     #[test]
     fn marked_cases() {
         let array = super::Array::build(super::sample());
         assert_eq!(array.slots(), 20);
         assert!(array.held(12) == super::Held::Node(&[2, 4]) && array.held(16) == super::Held::Marker(&[2, 4]));
+        assert!(array.held(18) == super::Held::Free && array.held(19) == super::Held::Longest(&[2, 4, 5]));
     }
 }

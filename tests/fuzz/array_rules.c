@@ -1,4 +1,5 @@
-/* What documents 01 and 02 say of the double array: how nodes are placed, what a walk finds, what unloading gives. */
+/* What documents 01 and 02 say of the double array: how nodes are placed, what a walk finds, what it scores, what unloading
+ * gives. */
 #include "fuzz.h"
 #include <stdlib.h>
 
@@ -6,7 +7,7 @@ static const int32_t ROOT_ROW[BACKOFF_ROW_ITEMS] = {0};
 
 /* ---- placing */
 
-/* A node as it is placed; the root has number 0, row i has number i. */
+/* A node as it is placed; the root has number 0, row i has number i. A row of n words has no d, and 0 in its place. */
 struct node {
     size_t slot;
     size_t parent;
@@ -38,14 +39,15 @@ static struct slice empty_room(struct slice table) {
     return taken;
 }
 
-/* "Nodes are placed in the order root, row 1, row 2 and so on." Gives one more than the highest slot. */
+/* "Nodes are placed in the order root, row 1, row 2 and so on." Rows of n words, which come last, "give up their marker", so
+ * that nothing is left to place. Gives one more than the highest slot. */
 static size_t place_nodes(struct slice table, placing_rule *rule, struct node *nodes) {
     struct slice taken = empty_room(table);
     size_t rows = rows_in(table), used = 0;
     int32_t *words = ints(block(rows, 4));
     size_t *children = block(rows, sizeof *children).items, *slots = block(rows, sizeof *slots).items;
     memset(nodes, 0, (rows + 1) * sizeof *nodes);
-    for (size_t i = 0; i <= rows; i++) {
+    for (size_t i = 0; i <= rows - longest_in(table); i++) {
         size_t count = children_of(table, i, words, children);
         nodes[i].d = rule(taken, words, count, slots);
         bytes_of(taken)[nodes[i].d] = 1;
@@ -76,11 +78,13 @@ struct arrays place_by(struct slice table, placing_rule *rule) {
         const int32_t *row = row_of(table, i);
         struct node node = nodes[i + 1];
         struct found found = find_row(table, (const uint32_t *)row + 1, (size_t)row[0]);
-        ints(a.base)[node.slot] = (int32_t)node.d;
         ints(a.check)[node.slot] = (int32_t)node.parent;
+        words_of(a.work)[i] = (uint32_t)node.slot;
+        ints(a.base)[node.slot] = node.d == 0 ? row[6] - 1 : (int32_t)node.d;
+        if (node.d == 0)
+            continue;
         ints(a.base)[node.d] = 4 * row[7] + (found.extended ? 2 : 0) + (found.continued ? 1 : 0);
         ints(a.check)[node.d] = row[6] - 1;
-        words_of(a.work)[i] = (uint32_t)node.slot;
     }
     ints(a.check)[0] = HEAD + row_of(table, rows - 1)[0];
     return a;
@@ -116,7 +120,7 @@ static bool is_owned(struct slice check, size_t slot, size_t node) {
 }
 
 /* "A walk looks at d + w, then at d − w if that is at least 1": the slot of a node's child, 0 where there is none. */
-static size_t child_of(struct slice base, struct slice check, size_t node, uint32_t word) {
+size_t child_of(struct slice base, struct slice check, size_t node, uint32_t word) {
     int32_t d = ints(base)[node];
     if (d < 1 || word < 1 || word > BACKOFF_WORD_LIMIT)
         return 0;
@@ -125,12 +129,15 @@ static size_t child_of(struct slice base, struct slice check, size_t node, uint3
     return word < (uint32_t)d && is_owned(check, (size_t)d - word, node) ? (size_t)d - word : 0;
 }
 
-/* "A marker is sound if 1 ≤ d < N and the p and b read from it are in range." */
-static bool is_sound(struct slice base, struct slice check, size_t node, struct found *found) {
+/* "A marker is sound if 1 ≤ d < N and the p and b read from it are in range"; at depth n "the node's own BASE holds p − 1",
+ * and there is no b, no e and no f. */
+static bool is_sound(struct slice base, struct slice check, int32_t depth, size_t node, struct found *found) {
+    bool longest = depth == order_in(check);
     int32_t d = ints(base)[node];
-    if (d < 1 || (size_t)d >= base.count)
+    if (!longest && (d < 1 || (size_t)d >= base.count))
         return false;
-    int64_t p = (int64_t)ints(check)[d] + 1, packed = ints(base)[d], bits = ((packed % 4) + 4) % 4, b = (packed - bits) / 4;
+    int64_t p = (int64_t)(longest ? d : ints(check)[d]) + 1, packed = longest ? 0 : ints(base)[d];
+    int64_t bits = ((packed % 4) + 4) % 4, b = (packed - bits) / 4;
     *found = (struct found){true, (int32_t)p, (int32_t)b, bits / 2 == 1, bits % 2 == 1};
     return BACKOFF_LEAST_PROBABILITY <= p && p <= 0 && BACKOFF_LEAST_BACKOFF <= b && b <= BACKOFF_LARGEST_BACKOFF;
 }
@@ -142,14 +149,82 @@ struct answer lookup_by_rules(struct slice base, struct slice check, struct slic
     size_t node = 0;
     if (words.count > (size_t)order_in(check))
         return nothing;
-    for (size_t i = words.count; i > 0; i--) {
-        node = child_of(base, check, node, words_of(words)[i - 1]);
+    for (size_t depth = 1; depth <= words.count; depth++) {
+        node = child_of(base, check, node, words_of(words)[words.count - depth]);
         if (node == 0)
             return nothing;
-        if (!is_sound(base, check, node, &found))
+        if (!is_sound(base, check, (int32_t)depth, node, &found))
             return broken;
     }
     return (struct answer){.found = 1, .p = found.p, .b = found.b, .left = found.extended ? 1 : 0};
+}
+
+/* ---- scoring */
+
+/* The root's child for a word or, where there is none, for word 1, which takes its place. */
+static size_t first_node(struct slice base, struct slice check, uint32_t *word) {
+    size_t node = child_of(base, check, 0, *word);
+    *word = node == 0 ? BACKOFF_UNKNOWN_WORD : *word;
+    return node == 0 ? child_of(base, check, 0, BACKOFF_UNKNOWN_WORD) : node;
+}
+
+/* "A word w is walked from the root, then through the state's words": its points and length byte, and the next state in the
+ * place of the state. False where 12 refuses. */
+static bool step(struct slice base, struct slice check, uint32_t word, int32_t *state, struct ruled *ruled) {
+    struct found found = {0};
+    int32_t next[BACKOFF_STATE_LENGTH] = {0}, backoffs[BACKOFF_ORDER_LIMIT], matched = 0;
+    size_t node = first_node(base, check, &word);
+    if (node == 0)
+        return false;
+    while (node != 0) {
+        if (!is_sound(base, check, matched + 1, node, &found))
+            return false;
+        backoffs[matched++] = found.b;
+        if (matched < order_in(check) && (found.b != 0 || found.continued))
+            next[0] = matched;
+        node = matched > state[0] ? 0 : child_of(base, check, node, (uint32_t)state[matched]);
+    }
+    ruled->points = found.p;
+    for (int32_t length = matched; length <= state[0]; length++)
+        ruled->points += state[4 + length];
+    ruled->byte = (uint8_t)(matched + (word == BACKOFF_UNKNOWN_WORD ? BACKOFF_UNKNOWN_LENGTH : 0) +
+                            (found.extended ? BACKOFF_EXTENDED_LENGTH : 0));
+    for (int32_t i = 0; i < next[0]; i++) {
+        next[1 + i] = i == 0 ? (int32_t)word : state[i];
+        next[5 + i] = backoffs[i];
+    }
+    memcpy(state, next, sizeof next);
+    return true;
+}
+
+/* The state after <s> over an array that 11 lets pass; nine zeros where 12 refuses. */
+uint32_t start_by_rules(struct slice base, struct slice check, int32_t *state) {
+    struct ruled ignored;
+    memset(state, 0, BACKOFF_STATE_LENGTH * sizeof *state);
+    return step(base, check, BACKOFF_START_WORD, state, &ignored) ? BACKOFF_ACCEPTED : BACKOFF_BROKEN_NODE;
+}
+
+/* A run that 11, 16, 14 and 15 let pass: fills state, points and lengths as the call must leave them. "After a word given as
+ * 3 is scored .. the state is then what start gives, its 12 at that word included." */
+struct answer run_by_rules(struct slice base, struct slice check, struct slice state, struct slice words,
+                           struct slice points, struct slice lengths) {
+    struct slice carried = copy_of(state);
+    struct answer answer = {.number = BACKOFF_ACCEPTED};
+    for (size_t i = 0; i < words.count; i++) {
+        struct ruled ruled = {0, 0};
+        uint32_t word = words_of(words)[i];
+        if (!step(base, check, word, ints(carried), &ruled) ||
+            (word == BACKOFF_END_WORD && start_by_rules(base, check, ints(carried)) != BACKOFF_ACCEPTED)) {
+            memset(points.items, 0, words.count * points.width);
+            memset(lengths.items, 0, words.count);
+            return (struct answer){.number = BACKOFF_BROKEN_NODE, .place = i + 1};
+        }
+        ints(points)[i] = ruled.points;
+        bytes_of(lengths)[i] = ruled.byte;
+        answer.total += ruled.points;
+    }
+    memcpy(state.items, carried.items, BACKOFF_STATE_LENGTH * state.width);
+    return answer;
 }
 
 /* ---- unloading */
@@ -174,7 +249,7 @@ static bool add_children(struct slice base, struct slice check, size_t node, con
         uint32_t word = distance((int32_t)slot, ints(base)[node]);
         if (ints(check)[slot] != (int32_t)node || child_of(base, check, node, word) != slot)
             continue;
-        if (*count == most || !is_sound(base, check, slot, &rows[*count].found))
+        if (*count == most || !is_sound(base, check, row[0] + 1, slot, &rows[*count].found))
             return false;
         struct unloaded *child = &rows[(*count)++];
         memset(child->row, 0, sizeof child->row);

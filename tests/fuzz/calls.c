@@ -4,7 +4,7 @@
 #include <stdio.h>
 
 /* In one call of LOCKED the slices that are not to be written lie in pages that cannot be written. */
-enum { NUMBERS = 23, SMALL_LIST = 8 * 300, SMALL_ARRAY = 4000, SMALL_TEXT = 1 << 16, SMALL_LISTING = 1500, LOCKED = 10 };
+enum { NUMBERS = 23, SMALL_LIST = 8 * 300, SMALL_ARRAY = 4000, SMALL_TEXT = 1 << 16, SMALL_RUN = 100, SMALL_LISTING = 1500, LOCKED = 10 };
 
 #define LIST_NUMBERS (1u << 1 | 0x3Fu << 3 | 1u << 9)
 
@@ -219,7 +219,23 @@ static bool sizes_fit(struct slice base, struct slice check) {
     return base.count == check.count && base.count >= 2 && base.count <= BACKOFF_SLOT_LIMIT;
 }
 
-/* The head, two slots for each row and for the root, and the slot of each row. */
+/* p, b, e and f of a row whose node is in a slot: in its marker, or p alone in its own BASE where it has n words. */
+static void see_node(struct slice table, const int32_t *row, const struct slice *after, size_t slot) {
+    const int32_t *base = ints(after[1]);
+    const int32_t *check = ints(after[2]);
+    require(slot < after[1].count && check[slot] >= 0, "the slot of a row");
+    if (row[0] == order_in(after[2])) {
+        require(base[slot] == row[6] - 1, "p in the slot of a longest row");
+        return;
+    }
+    size_t marker = (size_t)base[slot];
+    require(marker < after[1].count && check[marker] == row[6] - 1, "p in the marker of a row");
+    struct found found = find_row(table, (const uint32_t *)row + 1, (size_t)row[0]);
+    require(base[marker] == 4 * row[7] + (found.extended ? 2 : 0) + (found.continued ? 1 : 0),
+            "b, e and f in the marker of a row");
+}
+
+/* The head, two slots for the root and for each row but one for those of n words, and the slot of each row. */
 static void see_array(struct slice table, const struct slice *after) {
     const int32_t *base = ints(after[1]);
     const int32_t *check = ints(after[2]);
@@ -230,17 +246,9 @@ static void see_array(struct slice table, const struct slice *after) {
         taken += check[i] != INT32_MIN;
         require(check[i] != INT32_MIN || base[i] == 0, "a free slot");
     }
-    require(taken == 2 * rows + 2, "the number of slots taken");
-    for (size_t i = 0; i < rows; i++) {
-        const int32_t *row = row_of(table, i);
-        size_t slot = words_of(after[3])[i];
-        require(slot < after[1].count && check[slot] >= 0, "the slot of a row");
-        size_t marker = (size_t)base[slot];
-        require(marker < after[1].count && check[marker] == row[6] - 1, "p in the marker of a row");
-        struct found found = find_row(table, (const uint32_t *)row + 1, (size_t)row[0]);
-        require(base[marker] == 4 * row[7] + (found.extended ? 2 : 0) + (found.continued ? 1 : 0),
-                "b, e and f in the marker of a row");
-    }
+    require(taken == 2 * (rows + 1) - longest_in(table), "the number of slots taken");
+    for (size_t i = 0; i < rows; i++)
+        see_node(table, row_of(table, i), after, words_of(after[3])[i]);
 }
 
 /* The placing rule: 10 exactly where it uses a slot past the end, else every number as it has it. */
@@ -309,6 +317,11 @@ static void see_start(const struct slice *before, const struct slice *after, str
         require(is_all(after[2], BACKOFF_STATE_LENGTH, 0), "nine zeros after 11 and 12");
     else
         require(is_state(after[2], order_in(before[1])) && ints(after[2])[0] <= 1, "the state after <s>");
+    if (!nine || !head)
+        return;
+    int32_t state[BACKOFF_STATE_LENGTH];
+    require(answer.number == start_by_rules(before[0], before[1], state), "start refused as its walk says");
+    require(memcmp(after[2].items, state, sizeof state) == 0, "the state as the walk of <s> says");
 }
 
 /* What stands for scored words: a total that is the sum, points that five numbers in range can give, a matched length of 1
@@ -360,6 +373,14 @@ static void see_run(const struct slice *before, const struct slice *after, struc
     else
         require(is_state(after[2], order), "the next state");
     see_outputs(before + 4, after + 4, words, order, answer);
+    if (!head || !state || !fits || words > SMALL_RUN)
+        return;
+    struct slice carried = copy_of(before[2]), points = copy_of(before[4]), lengths = copy_of(before[5]);
+    struct answer ruled = run_by_rules(before[0], before[1], carried, before[3], points, lengths);
+    require(answer.number == ruled.number && answer.place == ruled.place, "a run refused as the walks say");
+    require(answer.total == ruled.total && same(after[4], points), "points and total as the walks say");
+    require(same(after[5], lengths), "length bytes as the walks say");
+    require(same(after[2], carried), "the state as the walks say");
 }
 
 /* Points and length bytes are the rule's; of a long text some words are tried. */

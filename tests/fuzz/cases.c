@@ -78,9 +78,9 @@ static void list_case(void) {
 
 /* ---- a built array */
 
-/* Two slots for the root and for each row, and the slot of the largest word below the root. */
+/* Two slots for the root and for each row, but one for those of n words, and the slot of the largest word below the root. */
 static size_t least_slots(struct slice table) {
-    size_t slots = 2 * rows_in(table) + 2;
+    size_t slots = 2 * (rows_in(table) + 1) - longest_in(table);
     for (size_t i = 0; i < rows_in(table); i++) {
         size_t word = (size_t)row_of(table, i)[1];
         slots = slots < word + 2 ? word + 2 : slots;
@@ -133,13 +133,42 @@ static void see_unloaded(struct slice table, struct arrays built) {
     require(answer.number == 0 && same(rows, table) && same(slots, built.work), "unloading returns the list");
 }
 
-/* A wrong e or f in any marker gives 12. */
+/* A wrong e or f in any marker gives 12; rows of n words have none. */
 static void see_wrong_bit(struct slice table, struct arrays built) {
     struct arrays wrong = {copy_of(built.base), built.check, built.work};
     struct slice rows, slots;
-    int32_t node = ints(built.base)[words_of(built.work)[below(rows_in(table))]];
-    ints(wrong.base)[node] ^= 1 + (int32_t)below(3);
+    size_t shorter = rows_in(table) - longest_in(table);
+    if (shorter == 0)
+        return;
+    int32_t marker = ints(built.base)[words_of(built.work)[below(shorter)]];
+    ints(wrong.base)[marker] ^= 1 + (int32_t)below(3);
     require(unload(wrong, table.count, rows_in(table), &rows, &slots).number == 12, "a wrong e or f gives 12");
+}
+
+/* A number in the BASE of a row's node: p − 1 where the row has n words and p is in range, else 12 meets every walk to the
+ * row. 1 has the root's marker, which only a shorter row may have too. */
+static void see_base_of(struct slice table, struct arrays built, size_t i) {
+    static const int32_t numbers[] = {INT32_MIN, -99000002, -99000001, -2, -1, 0, 1};
+    struct arrays changed = {copy_of(built.base), built.check, built.work};
+    struct slice rows, slots, state = rubbish(BACKOFF_STATE_LENGTH, 4), words = part_of(table, 8 * i + 1, 8 * i + 6);
+    size_t count = (size_t)row_of(table, i)[0];
+    bool longest = row_of(table, i)[0] == order_in(built.check);
+    int32_t number = numbers[below(longest ? 7 : 6)];
+    bool sound = longest && number >= BACKOFF_LEAST_PROBABILITY - 1 && number <= -1;
+    ints(changed.base)[words_of(built.work)[i]] = number;
+    struct answer found = look_up(changed, words.items, count);
+    require(found.number == (sound ? 0 : 12) && found.p == (sound ? number + 1 : 0), "p in the slot of a longest row alone");
+    require(unload(changed, table.count, rows_in(table), &rows, &slots).number == (sound ? 0 : 12),
+            "unloading another p of a longest row");
+    start(changed, &state);
+    run(changed, empty_state(), part_of(words, 0, count), count, count);
+}
+
+/* One of the longest rows, one of all, and that of word 2, at which start looks. */
+static void see_bases(struct slice table, struct arrays built) {
+    see_base_of(table, built, rows_in(table) - 1 - below(longest_in(table)));
+    see_base_of(table, built, below(rows_in(table)));
+    see_base_of(table, built, 1);
 }
 
 /* The words in runs from carried states, refused and empty runs among them, against plain scoring of them all. */
@@ -176,16 +205,20 @@ static void built_case(void) {
     see_lookups(table, built);
     see_unloaded(table, built);
     see_wrong_bit(table, built);
+    see_bases(table, built);
     see_runs(table, built, true);
     see_runs(table, built, false);
 }
 
 /* ---- arrays that no build wrote */
 
-/* The list's nodes as another rule lays them: children of a node on both sides, and slots behind at which no walk looks. */
+/* The list's nodes as another rule lays them: children of a node on both sides, and slots behind it, or below a row of n
+ * words, at which no walk looks. */
 static struct arrays spread_arrays(struct slice table) {
     struct arrays a = place_by(table, drawn_fit);
     plant_decoys(a.base, a.check);
+    if (chance(50))
+        plant_below(a.base, a.check, words_of(a.work)[rows_in(table) - 1]);
     return a;
 }
 
@@ -293,10 +326,10 @@ struct arrays other_arrays(struct slice table) {
         slots = 2 * slots;
     if (chance(90))
         damage_arrays(a.base, a.check);
-    /* The head of T-08, of T-01, or that before it. */
-    static const int32_t older_heads[] = {40, 8, 0};
+    /* The head of T-09, of T-08, of T-01, or that before it. */
+    static const int32_t older_heads[] = {16, 40, 8, 0};
     if (chance(5) && is_head(a.base, a.check))
-        ints(a.check)[0] += older_heads[below(3)] - HEAD;
+        ints(a.check)[0] += older_heads[below(4)] - HEAD;
     return a;
 }
 
@@ -306,6 +339,7 @@ static void spread_case(void) {
     see_lookups(table, spread);
     see_unloaded(table, spread);
     see_wrong_bit(table, spread);
+    see_bases(table, spread);
     see_slot_0(table, spread);
     see_runs(table, spread, chance(50));
 }

@@ -69,8 +69,9 @@ int32_t extreme(void) {
         4,          5,
         6,          9,
         13,         16,
-        17,         21,
-        22,         40,
+        19,         24,
+        25,         29,
+        30,         40,
         43,         65534,
         65535,      65536,
         65537,      990001,
@@ -258,13 +259,13 @@ void damage_arrays(struct slice base, struct slice check) {
     }
 }
 
-/* Small arrays that no build wrote, with a right head and so that walks often go on. */
+/* Small arrays that no build wrote, with a right head and so that walks often go on, or end in a node that holds p − 1. */
 void draw_arrays(struct slice *base, struct slice *check) {
     size_t slots = 2 + below(40);
     *base = block(slots, 4);
     *check = block(slots, 4);
     for (size_t i = 0; i < slots; i++) {
-        ints(*base)[i] = chance(85) ? between(1, (int32_t)slots) : extreme();
+        ints(*base)[i] = chance(25) ? between(-5, -1) : chance(80) ? between(1, (int32_t)slots) : extreme();
         ints(*check)[i] = chance(40) ? between(-5, -1) : chance(80) ? (int32_t)below(chance(50) ? 3 : slots) : extreme();
     }
     ints(*base)[0] = 1;
@@ -299,6 +300,16 @@ void plant_decoys(struct slice base, struct slice check) {
             continue;
         ints(check)[2 * d - slot] = node;
         ints(base)[2 * d - slot] = chance(50) ? ints(base)[slot] : slot_number(base.count);
+    }
+}
+
+/* Gives some free slots a node of n words as their parent: it has no children, so that no walk looks at them. */
+void plant_below(struct slice base, struct slice check, size_t node) {
+    for (size_t slot = 2; slot < check.count; slot++) {
+        if (ints(check)[slot] != INT32_MIN || chance(50))
+            continue;
+        ints(check)[slot] = (int32_t)node;
+        ints(base)[slot] = chance(50) ? between(-5, -1) : slot_number(base.count);
     }
 }
 

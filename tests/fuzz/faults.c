@@ -17,11 +17,23 @@ struct backoff_status __real_backoff_unload(const int32_t *, size_t, const int32
 
 static volatile int32_t sink;
 
-/* The head of T-08, n + 40, and the range of p and b before it. */
-enum { OLDER_HEAD = 40, HEAD_STEP = BACKOFF_ORDER_HEAD - OLDER_HEAD, OLDER_RANGE = 990000 };
+/* The head of T-09, n + 16, and the range of p and b before T-08. */
+enum { OLDER_HEAD = 16, HEAD_STEP = BACKOFF_ORDER_HEAD - OLDER_HEAD, OLDER_RANGE = 990000 };
 
-/* How a wrong library sees an array: it takes the older head too, or looks for children elsewhere than the walk. */
-enum sight { AS_IT_IS, OLDER_HEAD_TOO, BEHIND_FIRST, NEVER_BEHIND, SLOT_0_TOO };
+/* How a wrong library sees an array: it takes the older head too, looks for children elsewhere than the walk, or reads the
+ * BASE of a node otherwise: that of a row of n words as p itself, 0 there as a p, a marker there as in older arrays; or
+ * p − 1 in a shorter row as if it had n words. */
+enum sight {
+    AS_IT_IS,
+    OLDER_HEAD_TOO,
+    BEHIND_FIRST,
+    NEVER_BEHIND,
+    SLOT_0_TOO,
+    P_ITSELF,
+    ZERO_TOO,
+    MARKED_TOO,
+    UNMARKED_TOO,
+};
 
 /* An array in which the walk finds what a wrong library finds; `owned` is the memory of a copy. */
 struct view {
@@ -55,6 +67,50 @@ static void show_slot_0(int32_t *base, int32_t *check, size_t slots) {
     }
 }
 
+/* A free slot, 0 where there is none. */
+static size_t free_slot(const int32_t *check, size_t slots) {
+    for (size_t slot = 1; slot < slots; slot++)
+        if (check[slot] == INT32_MIN)
+            return slot;
+    return 0;
+}
+
+/* The BASE of a node of n words, read otherwise, becomes what the library reads as that. */
+static void reread_longest(enum sight sight, int32_t *base, const int32_t *check, size_t slots, size_t node) {
+    int32_t d = base[node];
+    if (sight == P_ITSELF && d != INT32_MIN)
+        base[node] = d - 1;
+    if (sight == ZERO_TOO && d == 0)
+        base[node] = -1;
+    if (sight == MARKED_TOO && d >= 1 && (size_t)d < slots)
+        base[node] = check[d];
+}
+
+/* A shorter row with p − 1 in its BASE gets a marker that holds it. */
+static void reread_shorter(int32_t *base, int32_t *check, size_t slots, size_t node) {
+    size_t marker = free_slot(check, slots);
+    if (base[node] >= 0 || marker == 0)
+        return;
+    check[marker] = base[node];
+    base[marker] = 0;
+    base[node] = (int32_t)marker;
+}
+
+/* Each node that is `depth` words from the root, and those below it, in an array with a right head. */
+static void reread_below(enum sight sight, struct slice base, struct slice check, size_t node, int32_t depth) {
+    if (depth == order_in(check)) {
+        reread_longest(sight, ints(base), ints(check), check.count, node);
+        return;
+    }
+    for (size_t slot = 1; slot < check.count; slot++) {
+        int64_t word = (int64_t)slot - ints(base)[node];
+        if (ints(check)[slot] == (int32_t)node && child_of(base, check, node, (uint32_t)(word < 0 ? -word : word)) == slot)
+            reread_below(sight, base, check, slot, depth + 1);
+    }
+    if (sight == UNMARKED_TOO)
+        reread_shorter(ints(base), ints(check), check.count, node);
+}
+
 static struct view view_of(enum sight sight, const int32_t *base, size_t base_len, const int32_t *check, size_t check_len) {
     struct view view = {base, check, NULL};
     if (sight == AS_IT_IS || base_len != check_len || check_len < 2)
@@ -69,6 +125,9 @@ static struct view view_of(enum sight sight, const int32_t *base, size_t base_le
         hide_children(sight == NEVER_BEHIND, own_base, own_check, check_len);
     if (sight == SLOT_0_TOO)
         show_slot_0(own_base, own_check, check_len);
+    struct slice bases = {own_base, base_len, sizeof *base}, checks = {own_check, check_len, sizeof *check};
+    if (sight >= P_ITSELF && check_len < 10000 && is_head(bases, checks))
+        reread_below(sight, bases, checks, 0, 0);
     return (struct view){own_base, own_check, view.owned};
 }
 
@@ -165,6 +224,44 @@ static void place_again(placing_rule *rule, const int32_t *table, size_t table_l
     status->number = BACKOFF_ACCEPTED;
 }
 
+/* ---- markers of longest rows */
+
+/* Each row of n words gets a marker in the lowest free slot, as it had one in older arrays; false where there is no room. */
+static bool keep_markers(const int32_t *table, size_t rows, int32_t *base, int32_t *check, size_t slots,
+                         const uint32_t *work) {
+    for (size_t i = 0; i < rows; i++) {
+        const int32_t *row = table + 8 * i;
+        size_t marker = free_slot(check, slots);
+        if (row[0] != table[8 * (rows - 1)])
+            continue;
+        if (marker == 0)
+            return false;
+        check[marker] = row[6] - 1;
+        base[work[i]] = (int32_t)marker;
+    }
+    return true;
+}
+
+/* Whether so many slots are free. */
+static bool has_free(const int32_t *check, size_t slots, size_t count) {
+    for (size_t i = 0; i < slots && count > 0; i++)
+        count -= check[i] == INT32_MIN;
+    return count == 0;
+}
+
+/* The faults of a build in what longest rows hold, and in the slots that they take. */
+static void spoil_longest(const int32_t *table, size_t rows, int32_t *base, int32_t *check, size_t slots, uint32_t *work,
+                          struct backoff_status *status) {
+    struct slice list = {(void *)(uintptr_t)table, 8 * rows, sizeof *table};
+    size_t longest = longest_in(list);
+    for (size_t i = rows - longest; has("build-writes-p-itself-into-longest-rows") && i < rows; i++)
+        base[work[i]]++;
+    if (has("build-keeps-the-markers-of-longest-rows") && !keep_markers(table, rows, base, check, slots, work))
+        refuse_by_10(base, check, slots, work, rows, status);
+    if (has("build-asks-for-the-markers-of-longest-rows") && !has_free(check, slots, longest))
+        refuse_by_10(base, check, slots, work, rows, status);
+}
+
 static bool is_older(int32_t points) { return points >= -OLDER_RANGE && points <= OLDER_RANGE; }
 
 /* The verdict of a list check with the older range in one column of the rows: the first number that leaves it is refused,
@@ -217,7 +314,9 @@ struct backoff_status __wrap_backoff_build(const int32_t *table, size_t table_le
         refuse_by_10(base, check, check_len, work, rows, &status);
     if (wrong_rule() != NULL && (status.number == 0 || status.number == 10) && rows < 1000)
         place_again(wrong_rule(), table, table_len, base, check, base_len, work, &status);
-    for (size_t i = 0; status.number == 0 && i < rows; i++) {
+    if (status.number == 0)
+        spoil_longest(table, rows, base, check, base_len, work, &status);
+    for (size_t i = 0; status.number == 0 && i < rows && table[8 * i] < table[8 * (rows - 1)]; i++) {
         int32_t *marker = &base[base[work[i]]];
         if (has("build-takes-e-from-f"))
             *marker = (*marker & ~2) + 2 * (*marker & 1);
@@ -233,14 +332,22 @@ struct backoff_status __wrap_backoff_build(const int32_t *table, size_t table_le
 
 struct backoff_found __wrap_backoff_lookup(const int32_t *base, size_t base_len, const int32_t *check, size_t check_len,
                                            const uint32_t *words, size_t words_len) {
-    enum sight sight = has("lookup-accepts-the-older-head")     ? OLDER_HEAD_TOO
-                       : has("lookup-looks-behind-first")       ? BEHIND_FIRST
-                       : has("lookup-never-looks-behind")       ? NEVER_BEHIND
-                       : has("lookup-takes-slot-0-for-a-child") ? SLOT_0_TOO
-                                                                : AS_IT_IS;
+    enum sight sight = has("lookup-accepts-the-older-head")                   ? OLDER_HEAD_TOO
+                       : has("lookup-looks-behind-first")                     ? BEHIND_FIRST
+                       : has("lookup-never-looks-behind")                     ? NEVER_BEHIND
+                       : has("lookup-takes-slot-0-for-a-child")               ? SLOT_0_TOO
+                       : has("lookup-reads-p-itself-from-a-longest-row")      ? P_ITSELF
+                       : has("lookup-takes-0-in-a-longest-row-for-a-p")       ? ZERO_TOO
+                       : has("lookup-reads-the-marker-of-a-longest-row")      ? MARKED_TOO
+                       : has("lookup-reads-p-from-the-slot-of-a-shorter-row") ? UNMARKED_TOO
+                                                                              : AS_IT_IS;
     struct view view = view_of(sight, base, base_len, check, check_len);
     struct backoff_found found = __real_backoff_lookup(view.base, base_len, view.check, check_len, words, words_len);
     free(view.owned);
+    if (has("lookup-walks-more-words-than-the-longest-row") && found.number == 0 && words_len > (size_t)check[0] - HEAD) {
+        size_t order = (size_t)check[0] - HEAD;
+        found.number = __real_backoff_lookup(base, base_len, check, check_len, words + words_len - order, order).number;
+    }
     if (has("lookup-never-finds"))
         found.found = 0, found.p = 0, found.b = 0;
     if (has("lookup-gives-another-b") && found.found == 1 && words_len == 3 && found.b < 0)
@@ -276,7 +383,11 @@ static void live_by_base(const int32_t *base, size_t base_len, const int32_t *ch
 struct backoff_status __wrap_backoff_start(const int32_t *base, size_t base_len, const int32_t *check, size_t check_len,
                                            int32_t *state, size_t state_len) {
     int32_t given = state_len == 9 ? state[8] : 0;
-    enum sight sight = has("start-accepts-the-older-head") ? OLDER_HEAD_TOO : AS_IT_IS;
+    enum sight sight = has("start-accepts-the-older-head")                   ? OLDER_HEAD_TOO
+                       : has("start-takes-0-in-a-longest-row-for-a-p")       ? ZERO_TOO
+                       : has("start-reads-the-marker-of-a-longest-row")      ? MARKED_TOO
+                       : has("start-reads-p-from-the-slot-of-a-shorter-row") ? UNMARKED_TOO
+                                                                             : AS_IT_IS;
     struct view view = view_of(sight, base, base_len, check, check_len);
     struct backoff_status status = __real_backoff_start(view.base, base_len, view.check, check_len, state, state_len);
     free(view.owned);
@@ -404,11 +515,15 @@ static struct backoff_total run_without_starts_12(const int32_t *base, const int
 struct backoff_total __wrap_backoff_run(const int32_t *base, size_t base_len, const int32_t *check, size_t check_len,
                                         int32_t *state, size_t state_len, const uint32_t *words, size_t words_len,
                                         int32_t *points, size_t points_len, uint8_t *lengths, size_t lengths_len) {
-    enum sight sight = has("run-accepts-the-older-head")     ? OLDER_HEAD_TOO
-                       : has("run-looks-behind-first")       ? BEHIND_FIRST
-                       : has("run-never-looks-behind")       ? NEVER_BEHIND
-                       : has("run-takes-slot-0-for-a-child") ? SLOT_0_TOO
-                                                             : AS_IT_IS;
+    enum sight sight = has("run-accepts-the-older-head")                   ? OLDER_HEAD_TOO
+                       : has("run-looks-behind-first")                     ? BEHIND_FIRST
+                       : has("run-never-looks-behind")                     ? NEVER_BEHIND
+                       : has("run-takes-slot-0-for-a-child")               ? SLOT_0_TOO
+                       : has("run-reads-p-itself-from-a-longest-row")      ? P_ITSELF
+                       : has("run-takes-0-in-a-longest-row-for-a-p")       ? ZERO_TOO
+                       : has("run-reads-the-marker-of-a-longest-row")      ? MARKED_TOO
+                       : has("run-reads-p-from-the-slot-of-a-shorter-row") ? UNMARKED_TOO
+                                                                           : AS_IT_IS;
     int32_t given[9] = {0};
     if (state_len == 9)
         memcpy(given, state, sizeof given);
@@ -487,11 +602,20 @@ static struct backoff_status unload_without_e(const int32_t *base, size_t base_l
     return status;
 }
 
+/* Whether some slot has a row of n words as its parent, where rows and slots were unloaded. */
+static bool goes_on(const int32_t *check, size_t slots, const int32_t *table, const uint32_t *work, size_t rows) {
+    for (size_t i = 0; i < rows; i++)
+        for (size_t slot = 1; table[8 * i] == table[8 * (rows - 1)] && slot < slots; slot++)
+            if (check[slot] == (int32_t)work[i])
+                return true;
+    return false;
+}
+
 /* Whether some node that was unloaded has two children behind its d, or two slots for one word. */
 static bool has_siblings(const int32_t *base, const int32_t *check, size_t slots, const uint32_t *work,
                          struct backoff_status status, bool of_one_word) {
     for (size_t i = 0; status.number == 0 && i < (size_t)base[1]; i++) {
-        size_t node = work[i], d = (size_t)base[node], behind = 0;
+        size_t node = work[i], d = base[node] < 0 ? 0 : (size_t)base[node], behind = 0;
         for (size_t slot = 1; slot < d && slot < slots; slot++) {
             bool ahead = 2 * d - slot < slots && check[2 * d - slot] == (int32_t)node;
             behind += check[slot] == (int32_t)node && ahead == of_one_word;
@@ -504,17 +628,23 @@ static bool has_siblings(const int32_t *base, const int32_t *check, size_t slots
 
 struct backoff_status __wrap_backoff_unload(const int32_t *base, size_t base_len, const int32_t *check, size_t check_len,
                                             int32_t *table, size_t table_len, uint32_t *work, size_t work_len) {
-    enum sight sight = has("unload-accepts-the-older-head")     ? OLDER_HEAD_TOO
-                       : has("unload-looks-behind-first")       ? BEHIND_FIRST
-                       : has("unload-never-looks-behind")       ? NEVER_BEHIND
-                       : has("unload-takes-slot-0-for-a-child") ? SLOT_0_TOO
-                                                                : AS_IT_IS;
+    enum sight sight = has("unload-accepts-the-older-head")                   ? OLDER_HEAD_TOO
+                       : has("unload-looks-behind-first")                     ? BEHIND_FIRST
+                       : has("unload-never-looks-behind")                     ? NEVER_BEHIND
+                       : has("unload-takes-slot-0-for-a-child")               ? SLOT_0_TOO
+                       : has("unload-reads-p-itself-from-a-longest-row")      ? P_ITSELF
+                       : has("unload-takes-0-in-a-longest-row-for-a-p")       ? ZERO_TOO
+                       : has("unload-reads-the-marker-of-a-longest-row")      ? MARKED_TOO
+                       : has("unload-reads-p-from-the-slot-of-a-shorter-row") ? UNMARKED_TOO
+                                                                              : AS_IT_IS;
     struct view view = view_of(sight, base, base_len, check, check_len);
     struct backoff_status status =
         __real_backoff_unload(view.base, base_len, view.check, check_len, table, table_len, work, work_len);
     free(view.owned);
     bool unsorted = has("unload-sorts-siblings-by-slot") && has_siblings(base, check, base_len, work, status, false);
     bool doubled = has("unload-lists-a-word-on-both-sides") && has_siblings(base, check, base_len, work, status, true);
+    bool deeper = has("unload-goes-on-below-longest-rows") && status.number == 0 &&
+                  goes_on(check, base_len, table, work, (size_t)base[1]);
     if (has("unload-ignores-e") && status.number == 12)
         status = unload_without_e(base, base_len, check, check_len, table, table_len, work, work_len);
     if (has("unload-leaves-work-after-12") && status.number == 12)
@@ -528,7 +658,7 @@ struct backoff_status __wrap_backoff_unload(const int32_t *base, size_t base_len
     }
     if (has("unload-loses-b") && status.number == 0)
         table[7] = 0;
-    if ((has("unload-refuses-all") || unsorted || doubled) && status.number == 0) {
+    if ((has("unload-refuses-all") || unsorted || doubled || deeper) && status.number == 0) {
         memset(table, 0, 8 * (size_t)base[1] * sizeof *table);
         memset(work, 0, (size_t)base[1] * sizeof *work);
         status.number = 12;

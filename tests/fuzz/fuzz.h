@@ -78,9 +78,10 @@ void damage_arrays(struct slice base, struct slice check);
 void draw_arrays(struct slice *base, struct slice *check);
 struct slice own_state(int32_t order);
 void plant_decoys(struct slice base, struct slice check);
+void plant_below(struct slice base, struct slice check, size_t node);
 
 /* What documents 01 and 02 say of a list, an array's head and a state, in their own words (rules.c). */
-enum { HEAD = 16 };
+enum { HEAD = 24 };
 
 struct found {
     bool listed;
@@ -98,6 +99,7 @@ struct ruled {
 
 size_t rows_in(struct slice table);
 const int32_t *row_of(struct slice table, size_t row);
+size_t longest_in(struct slice table);
 struct found find_row(struct slice table, const uint32_t *words, size_t count);
 struct ruled score_by_rule(struct slice table, bool after_start, struct slice words, size_t word);
 struct slice state_after(struct slice table, bool after_start, struct slice words);
@@ -123,7 +125,11 @@ typedef size_t placing_rule(struct slice taken, const int32_t *words, size_t cou
 placing_rule first_fit, drawn_fit;
 struct arrays place_by(struct slice table, placing_rule *rule);
 bool side_fits(struct slice taken, size_t d, bool behind, const int32_t *words, size_t count, size_t *slots);
+size_t child_of(struct slice base, struct slice check, size_t node, uint32_t word);
 struct answer lookup_by_rules(struct slice base, struct slice check, struct slice words);
+uint32_t start_by_rules(struct slice base, struct slice check, int32_t *state);
+struct answer run_by_rules(struct slice base, struct slice check, struct slice state, struct slice words,
+                           struct slice points, struct slice lengths);
 uint32_t unload_by_rules(struct slice base, struct slice check, struct slice table, struct slice work);
 
 /* What document 02 says of all small sentences (sentence_rules.c): the words of which they are made, whether 22 lets k and

@@ -8,6 +8,14 @@ size_t rows_in(struct slice table) { return table.count / BACKOFF_ROW_ITEMS; }
 /* Rows are numbered from 0 here. */
 const int32_t *row_of(struct slice table, size_t row) { return ints(table) + BACKOFF_ROW_ITEMS * row; }
 
+/* How many rows have n words. */
+size_t longest_in(struct slice table) {
+    size_t rows = rows_in(table), longest = 0;
+    while (longest < rows && row_of(table, rows - 1 - longest)[0] == row_of(table, rows - 1)[0])
+        longest++;
+    return longest;
+}
+
 /* "Rows ascend strictly by m, then by last word, then the word before it, and so on." */
 int compare_rows(const void *a, const void *b) {
     const int32_t *first = (const int32_t *)a;
@@ -175,7 +183,7 @@ struct answer verdict_on(struct slice table, bool to_be_filled) {
     return verdict;
 }
 
-/* "CHECK[0] becomes n + 16." */
+/* "CHECK[0] becomes n + 24." */
 int32_t order_in(struct slice check) { return ints(check)[0] - HEAD; }
 
 /* What 11 lets pass. */

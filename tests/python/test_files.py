@@ -129,7 +129,7 @@ class ArrayFiles(unittest.TestCase):
         texts = b"".join(bytes([len(text)]) + text for text in (b"<unk>", b"<s>", b"</s>", b"four", b"five"))
         slots = (len(self.data) - 8 - 24 - len(texts) - 4) // 8
         self.assertEqual(self.data[:32], b"backoff\n" + struct.pack("<6I", 1, 3, 9, 5, slots, len(texts)))
-        self.assertEqual(struct.unpack_from("<i", self.data, 32 + 4 * slots), (3 + 16,))
+        self.assertEqual(struct.unpack_from("<i", self.data, 32 + 4 * slots), (3 + 24,))
         self.assertEqual(struct.unpack_from("<i", self.data, 32 + 4), (9,))
         self.assertEqual(self.data[32 + 8 * slots :], texts + struct.pack("<I", zlib.crc32(self.data[:-4])))
 
@@ -195,11 +195,11 @@ class ArrayFiles(unittest.TestCase):
 
     def test_heads_of_earlier_versions(self) -> None:
         head = 32 + 4 * struct.unpack_from("<I", self.data, 24)[0]
-        for version, offset in ((1, 8), (2, 40)):
+        for version, offset in ((1, 8), (2, 40), (3, 16)):
             for value in range(offset + 1, offset + 6):
                 told = f"version {version} wrote it, so it has to be built again"
                 self.assert_refused(self.changed(head, value), told, 11)
-        for value in (3, 8, 14, 16, 22, 40, 46, -(2**31), 2**31 - 1):
+        for value in (3, 8, 14, 16, 22, 24, 30, 35, 40, 46, -(2**31), 2**31 - 1):
             self.assertNotIn("wrote it", str(refusal(self.changed(head, value))))
 
     def test_damaged_arrays(self) -> None:

@@ -1,7 +1,7 @@
 //! Arrays to lend: those of the placing rule, those of another rule, changed ones, and ones that no build wrote.
 
 use crate::random::Random;
-use crate::reference::array::{Array, Side, HEAD};
+use crate::reference::array::{Array, Side, HEAD, ROOT};
 use crate::reference::build::{place, place_by, slots_used, write, Node, FREE};
 use crate::reference::list::{Row, LARGEST_B, LOWEST_P};
 use crate::reference::sentences::usable_words;
@@ -31,6 +31,24 @@ impl Arrays {
     pub fn listing(&self, k: u32) -> (usize, usize) {
         let count = self.usable().pow(k);
         (k as usize * count, count)
+    }
+
+    /// The slot of the node of a row's words.
+    pub fn node(&self, words: &[i32]) -> usize {
+        let array = Array::new(&self.base, &self.check).expect("a head that 11 lets pass");
+        words.iter().rev().fold(ROOT, |node, &word| array.child(node, word as u32).expect("a row's words"))
+    }
+
+    /// The words of a walk, oldest first: so many, or as many as have children.
+    pub fn walked(&self, random: &mut Random, most: usize) -> Vec<u32> {
+        let children = Array::new(&self.base, &self.check).expect("a head that 11 lets pass").children();
+        let (mut node, mut words) = (ROOT, vec![]);
+        while let Some(children) = children.get(&node).filter(|_| words.len() < most) {
+            let (word, slot) = random.pick(children);
+            words.insert(0, word);
+            node = slot;
+        }
+        words
     }
 
     /// Item i of BASE, then of CHECK.
@@ -97,7 +115,7 @@ pub fn each_change(arrays: &Arrays, mut see: impl FnMut(&Arrays)) {
         let slot_limits = [0, 1, 2, slots / 2, slots - 1, slots];
         let p_limits = [-1, LOWEST_P - 1, LOWEST_P - 2];
         let packed_limits = [-4 * LARGEST_B - 1, -4 * LARGEST_B, 4 * LARGEST_B + 3, 4 * LARGEST_B + 4];
-        let other = [3, 5, 11, 43, HEAD, HEAD + 1, HEAD + 5, HEAD + 6, 65_535, 65_536, i32::MAX, i32::MIN];
+        let other = [3, 5, 11, 19, 43, HEAD, HEAD + 1, HEAD + 5, HEAD + 6, 65_535, 65_536, i32::MAX, i32::MIN];
         for value in near.into_iter().chain(slot_limits).chain(p_limits).chain(packed_limits).chain(other) {
             *changed.item(i) = value;
             see(&changed);
@@ -106,14 +124,15 @@ pub fn each_change(arrays: &Arrays, mut see: impl FnMut(&Arrays)) {
     }
 }
 
-/// A small array of an accepted head whose other numbers are drawn so that walks often go on.
+/// A small array of an accepted head whose other numbers are drawn so that walks often go on, and often end in a node whose BASE holds p − 1.
 pub fn drawn(random: &mut Random) -> Arrays {
     let slots = 2 + random.below(40);
     let last = slots as i32 - 1;
     let mut arrays = Arrays { base: vec![1; slots], check: vec![-1; slots] };
     for slot in 2..slots {
         arrays.base[slot] = match random.below(8) {
-            0 => random.pick(&[0, -1, last + 1, 4 * LARGEST_B + 4, i32::MIN, i32::MAX]),
+            0 => random.pick(&[0, -1, last + 1, LOWEST_P - 1, LOWEST_P - 2, 4 * LARGEST_B + 4, i32::MIN, i32::MAX]),
+            1..=2 => -random.between(1, 5),
             _ => random.between(1, last),
         };
         arrays.check[slot] = match random.below(8) {

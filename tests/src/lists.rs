@@ -34,6 +34,12 @@ pub fn first_words(last: i32) -> Vec<Row> {
     (1..=last).map(|word| Row { words: vec![word], p: -word, b: 0 }).collect()
 }
 
+/// The list that has the words 1 to 3 and a row of 2s for each length up to the order, all with this p.
+pub fn twos(order: usize, p: i32) -> Vec<Row> {
+    let words = MARKS.into_iter().map(|mark| vec![mark]).chain((2..=order).map(|length| vec![2; length]));
+    words.map(|words| Row { words, p, b: 0 }).collect()
+}
+
 /// The longest list of order 1: every word has its row.
 pub fn all_words(random: &mut Random) -> Vec<Row> {
     let row = |w| Row { words: vec![w], p: log_probability(random), b: 0 };

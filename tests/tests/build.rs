@@ -59,14 +59,15 @@ fn needed(rows: &[Row]) -> usize {
     slots_used(&place(rows))
 }
 
-/// The sample's array as worked by hand, K7 (N = 20 builds) and K8 (row 2 4: node in slot 12, marker in 16: CHECK −4001, BASE −1999).
+/// The sample's array as worked by hand, K7 (N = 20 builds) and K8 (row 2 4: node in slot 12, marker in 16: CHECK −4001, BASE −1999). Row 2 4 5, the longest,
+/// has its node in slot 19 and no marker: BASE there is −1001, and slot 18 is free.
 #[test]
 fn sample_array() {
     let cells = table(&lists::sample());
     let (refusal, base, check, work) = agreed(&mut Random::new(1), &cells, Lengths::of(20, 9));
     assert_eq!(refusal, ACCEPTED);
-    assert_eq!(base, [1, 9, 7, 8, 9, 10, 11, 0, -11999, 2, -7997, -3997, 16, 0, 13, 17, -1999, 2, 0, 18]);
-    let expected = [19, -1, 0, 0, 0, 0, 0, -20001, -990001, -10001, -6001, -9001, 5, -1501, 4, 6, -4001, -3001, -1001, 15];
+    assert_eq!(base, [1, 9, 7, 8, 9, 10, 11, 0, -11999, 2, -7997, -3997, 16, 0, 13, 17, -1999, 2, 0, -1001]);
+    let expected = [27, -1, 0, 0, 0, 0, 0, -20001, -990001, -10001, -6001, -9001, 5, -1501, 4, 6, -4001, -3001, FREE, 15];
     assert_eq!(check, expected);
     assert_eq!(work, [2, 3, 4, 5, 6, 14, 12, 15, 19]);
 }
@@ -82,7 +83,7 @@ fn k7_one_slot_less() {
     assert!(work[..9].iter().all(|&item| item == 0) && work[9..].iter().all(|&item| item != 0));
 }
 
-/// The answer over so many slots to the list of these rows' words, the slots of the rows' nodes, and the d of each.
+/// The answer over so many slots to the list of these rows' words, the slots of the rows' nodes, and the BASE of each: its d, or −2 where it has n words.
 fn placed(words: &[&[i32]], slots: usize) -> (Refusal, Vec<u32>, Vec<i32>) {
     let rows: Vec<Row> = words.iter().map(|words| Row { words: words.to_vec(), p: -1, b: 0 }).collect();
     let (refusal, base, _, work) = agreed(&mut Random::new(9), &table(&rows), Lengths::of(slots, rows.len()));
@@ -96,8 +97,8 @@ fn placed(words: &[&[i32]], slots: usize) -> (Refusal, Vec<u32>, Vec<i32>) {
 #[test]
 fn children_behind() {
     let words: [&[i32]; 7] = [&[1], &[2], &[3], &[6], &[6, 1], &[1, 2], &[3, 2]];
-    assert_eq!(placed(&words, 16), (ACCEPTED, vec![2, 3, 4, 7, 11, 8, 6], vec![5, 9, 10, 12, 13, 14, 15]));
-    assert_eq!(placed(&words, 15).0, (10, 0));
+    assert_eq!(placed(&words, 13), (ACCEPTED, vec![2, 3, 4, 7, 11, 8, 6], vec![5, 9, 10, 12, -2, -2, -2]));
+    assert_eq!(placed(&words, 12).0, (10, 0));
 }
 
 /// "Slots ≥ N counting as free here": row 2 has its children, 1 and 6, ahead of 8 in 9 and 14, the smallest d that fits. In 14 slots this leaves the
@@ -105,7 +106,7 @@ fn children_behind() {
 #[test]
 fn slots_past_the_end_count_as_free() {
     let words: [&[i32]; 6] = [&[1], &[2], &[3], &[6], &[1, 2], &[6, 2]];
-    assert_eq!(placed(&words, 15), (ACCEPTED, vec![2, 3, 4, 7, 9, 14], vec![5, 8, 6, 10, 11, 12]));
+    assert_eq!(placed(&words, 15), (ACCEPTED, vec![2, 3, 4, 7, 9, 14], vec![5, 8, 6, 10, -2, -2]));
     assert_eq!(placed(&words, 14).0, (10, 0));
 }
 
@@ -113,17 +114,53 @@ fn slots_past_the_end_count_as_free() {
 #[test]
 fn children_on_one_side() {
     let words: [&[i32]; 6] = [&[1], &[2], &[3], &[2, 1], &[1, 2], &[2, 2]];
-    assert_eq!(placed(&words, 14), (ACCEPTED, vec![2, 3, 4, 7, 9, 10], vec![5, 8, 6, 11, 12, 13]));
+    assert_eq!(placed(&words, 11), (ACCEPTED, vec![2, 3, 4, 7, 9, 10], vec![5, 8, 6, -2, -2, -2]));
 }
 
 /// "All ≥ 1": at d = 5 the child for word 5 would lie in slot 0 behind; it lies ahead.
 #[test]
 fn no_child_in_slot_0() {
     let words: [&[i32]; 5] = [&[1], &[2], &[3], &[5], &[5, 1]];
-    assert_eq!(placed(&words, 12), (ACCEPTED, vec![2, 3, 4, 6, 10], vec![5, 7, 8, 9, 11]));
+    assert_eq!(placed(&words, 11), (ACCEPTED, vec![2, 3, 4, 6, 10], vec![5, 7, 8, 9, -2]));
 }
 
-/// Random lists with N exactly enough, one less, and more than enough; many lay children behind.
+/// n = 1: no row has a marker. The root keeps its own, in slot 1, so that word w is in slot w + 1 and no other slot is taken.
+#[test]
+fn one_word_rows_alone() {
+    assert_eq!(placed(&[&[1], &[2], &[3]], 5), (ACCEPTED, vec![2, 3, 4], vec![-2; 3]));
+    assert_eq!(placed(&[&[1], &[2], &[3]], 4).0, (10, 0));
+    let mut random = Random::new(10);
+    let cells = table(&lists::first_words(5));
+    let (refusal, base, check, work) = agreed(&mut random, &cells, Lengths::of(9, 5));
+    assert_eq!((refusal, &work[..]), (ACCEPTED, &[2, 3, 4, 5, 6][..]));
+    assert_eq!((base, check), (vec![1, 5, -2, -3, -4, -5, -6, 0, 0], vec![25, -1, 0, 0, 0, 0, 0, FREE, FREE]));
+    let all = table(&lists::all_words(&mut random));
+    assert_eq!(agreed(&mut random, &all, Lengths::of(MOST_ROWS + 2, MOST_ROWS)).0, ACCEPTED);
+    assert_eq!(agreed(&mut random, &all, Lengths::of(MOST_ROWS + 1, MOST_ROWS)).0, (10, 0));
+}
+
+/// p of a longest row at the ends of its range, for each order: BASE of its node is p − 1, so −1 and −99,000,001, and CHECK its parent's slot.
+#[test]
+fn longest_rows_hold_p() {
+    for order in 1..=5 {
+        for p in [0, -1, -98_999_999, -99_000_000] {
+            let rows = lists::twos(order, p);
+            let (refusal, base, check, work) = agreed(&mut Random::new(11), &table(&rows), Lengths::of(40, rows.len()));
+            // From the root by word 2 as often as there are words.
+            let path = [&[0, work[1]], &work[3..]].concat();
+            let node = path[order] as usize;
+            assert_eq!((refusal, base[node], check[node]), (ACCEPTED, p - 1, path[order - 1] as i32), "{order} {p}");
+        }
+    }
+}
+
+/// How many slots are not free: two for the root and for each row, but one for a row of n words.
+fn slots_in_use(rows: &[Row]) -> usize {
+    let order = rows[rows.len() - 1].words.len();
+    2 * (rows.len() + 1) - rows.iter().filter(|row| row.words.len() == order).count()
+}
+
+/// Random lists with N exactly enough, one less, and more than enough; many lay children behind. As many slots are in use as rows and markers ask for.
 #[test]
 fn random_lists() {
     let mut random = Random::new(2);
@@ -134,6 +171,7 @@ fn random_lists() {
         let work = rows.len() + random.below(3);
         let (refusal, base, check, _) = agreed(&mut random, &cells, Lengths::of(slots, work));
         assert_eq!(refusal, ACCEPTED);
+        assert_eq!(check.iter().filter(|&&cell| cell != FREE).count(), slots_in_use(&rows));
         behind += (1..slots).any(|slot| check[slot] >= 0 && (slot as i32) < base[check[slot] as usize]) as usize;
         assert_eq!(agreed(&mut random, &cells, Lengths::of(slots - 1, work)).0, (10, 0));
         let more = slots + random.below(100);
@@ -142,7 +180,8 @@ fn random_lists() {
     assert!(behind > 300, "{behind}");
 }
 
-/// A marker's BASE for each pair of e and f: no row on either side, one in front, one behind, both; and b at its limits.
+/// A marker's BASE for each pair of e and f: no row on either side, one in front, one behind, both; and b at its limits. The rows of two words, the longest,
+/// have none: BASE of their nodes is p − 1.
 #[test]
 fn left_extension_in_markers() {
     let row = |words: &[i32], b| Row { words: words.to_vec(), p: -1, b };
@@ -151,9 +190,11 @@ fn left_extension_in_markers() {
     let rows =
         [row(&[1], largest), row(&[2], largest), row(&[3], largest), row(&[4], least), row(&[5], least), row(&[2, 3], 0), row(&[4, 4], 0)];
     let (refusal, base, check, work) = agreed(&mut Random::new(8), &table(&rows), Lengths::of(40, 7));
-    assert_eq!((refusal, check[0], base[1]), (ACCEPTED, 2 + 16, 7));
-    let markers: Vec<i32> = work.iter().map(|&slot| base[base[slot as usize] as usize]).collect();
-    assert_eq!(markers, [396_000_000, 396_000_001, 396_000_002, -395_999_997, -396_000_000, 0, 0]);
+    assert_eq!((refusal, check[0], base[1]), (ACCEPTED, 2 + 24, 7));
+    let bases: Vec<i32> = work.iter().map(|&slot| base[slot as usize]).collect();
+    let markers: Vec<i32> = bases[..5].iter().map(|&d| base[d as usize]).collect();
+    assert_eq!(markers, [396_000_000, 396_000_001, 396_000_002, -395_999_997, -396_000_000]);
+    assert_eq!(bases[5..], [-2, -2]);
 }
 
 /// Every N from 0 to 40 on the sample, and the largest ones: 2 out of range, 10 below 20, accepted from there.

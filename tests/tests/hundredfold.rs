@@ -95,11 +95,15 @@ fn compare_sheets_and_fragments(older: &Built, finer: &Built, words: &[u32], cut
     assert_eq!(joined(finer), expected);
 }
 
-/// Every node has the slot that it had, and every row is found with p and b 100 times.
+/// Every node has the slot and the parent that it had, and its BASE too, but for rows of n words, which hold p − 1 there; every row is found with p and b
+/// 100 times.
 fn compare_arrays(older: &Built, finer: &Built, rows: &[Row]) {
     assert_eq!(finer.work, older.work);
+    let order = rows[rows.len() - 1].words.len();
     for (row, &slot) in rows.iter().zip(&older.work) {
-        assert_eq!((finer.base[slot as usize], finer.check[slot as usize]), (older.base[slot as usize], older.check[slot as usize]));
+        let slot = slot as usize;
+        let base = if row.words.len() == order { 100 * (older.base[slot] + 1) - 1 } else { older.base[slot] };
+        assert_eq!((finer.base[slot], finer.check[slot]), (base, older.check[slot]));
         let words: Vec<u32> = row.words.iter().map(|&word| word as u32).collect();
         let found = backoff::lookup(&older.base, &older.check, &words);
         let expected = backoff::Found { p: 100 * found.p, b: 100 * found.b, ..found };

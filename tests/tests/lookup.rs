@@ -6,7 +6,7 @@ use tests::arrays::{built, drawn, each_change, spread, Arrays};
 use tests::guard::Guarded;
 use tests::lists;
 use tests::random::Random;
-use tests::reference::array::{lookup, Array, Found, HEAD, MOST_SLOTS, ROOT};
+use tests::reference::array::{lookup, Found, HEAD, MOST_SLOTS};
 use tests::reference::list::{extended, Row, ACCEPTED, LARGEST_B, MOST_ROWS};
 
 const NOT_FOUND: Found = (ACCEPTED, false, 0, 0, false);
@@ -62,10 +62,10 @@ fn left_extension_of_the_sample() {
     assert_eq!(rows, [vec![3], vec![4], vec![5], vec![4, 5]]);
 }
 
-/// Over an array that no build wrote `left` is the marker's e, whatever rows there are; rows of n words are no exception.
+/// Over an array that no build wrote `left` is the marker's e, whatever rows there are.
 #[test]
 fn left_as_the_marker_says() {
-    for row in lists::sample() {
+    for row in lists::sample().into_iter().filter(|row| row.words.len() < 3) {
         let mut arrays = built(&lists::sample(), 0);
         let (words, marker) = (unsigned(&row.words), marker_of(&arrays, &row.words));
         let (refusal, found, p, b, left) = agreed(&arrays, &words);
@@ -74,11 +74,65 @@ fn left_as_the_marker_says() {
     }
 }
 
-/// The slot of the marker of a row's words.
+/// The slot of the marker of a row's words, which are fewer than n.
 fn marker_of(arrays: &Arrays, words: &[i32]) -> usize {
-    let array = Array::new(&arrays.base, &arrays.check).expect("a head that 11 lets pass");
-    let node = words.iter().rev().fold(ROOT, |node, &word| array.child(node, word as u32).expect("a row's words"));
-    arrays.base[node] as usize
+    arrays.base[arrays.node(words)] as usize
+}
+
+/// BASE of a row of n words for each order: from −99,000,001 to −1 it is p − 1, and b and `left` are 0; anything else there, 0 and a slot of the array too,
+/// gives 12.
+#[test]
+fn p_in_the_longest_rows_own_slot() {
+    let ends: [RangeInclusive<i32>; 4] = [i32::MIN..=i32::MIN + 3, -99_000_005..=-98_999_997, -5..=40, i32::MAX - 3..=i32::MAX];
+    for order in 1..=5 {
+        let mut arrays = built(&lists::twos(order, -7), 10);
+        let words = vec![2; order];
+        let node = arrays.node(&words);
+        for base in ends.iter().cloned().flatten() {
+            arrays.base[node] = base;
+            let sound = (-99_000_001..=-1).contains(&base);
+            let expected = if sound { (ACCEPTED, true, base + 1, 0, false) } else { ((12, 0), false, 0, 0, false) };
+            assert_eq!(agreed(&arrays, &unsigned(&words)), expected, "order {order}, BASE {base}");
+        }
+    }
+}
+
+/// A row of n words has no marker: a BASE that names a sound one gives 12, as arrays with an older head have it. A row of fewer words has nothing in its own
+/// BASE: p − 1 there gives 12, also where the walk would go on.
+#[test]
+fn each_row_in_its_own_place() {
+    let mut arrays = built(&lists::sample(), 0);
+    (arrays.base[19], arrays.base[18], arrays.check[18]) = (18, 0, -1_001);
+    assert_eq!(agreed(&arrays, &[2, 4, 5]).0, (12, 0));
+    assert_eq!(agreed(&arrays, &[4, 5]), (ACCEPTED, true, -3_000, 0, true));
+    for base in [-1, -3_001, -99_000_001, -99_000_002, i32::MIN] {
+        let mut arrays = built(&lists::sample(), 0);
+        arrays.base[15] = base;
+        for words in [&[4, 5][..], &[2, 4, 5], &[9, 4, 5]] {
+            assert_eq!(agreed(&arrays, words).0, (12, 0), "{base} {words:?}");
+        }
+        assert_eq!(agreed(&arrays, &[5]), (ACCEPTED, true, -9_000, -1_000, true));
+    }
+}
+
+/// Another n in the head moves the depth at which a node holds p itself. With n of 1 or 2 the sample's rows of n words are broken, as they have markers, and
+/// longer ones are not found; with n above 3 row 2 4 5 is broken, as it has none.
+#[test]
+fn the_order_tells_which_rows_are_the_longest() {
+    for order in 1..=5 {
+        let mut arrays = built(&lists::sample(), 0);
+        arrays.check[0] = HEAD + order as i32;
+        for row in lists::sample() {
+            let (refusal, found, ..) = agreed(&arrays, &unsigned(&row.words));
+            let expected = match row.words.len() {
+                3 if order > 3 => ((12, 0), false),
+                length if length > order => (ACCEPTED, false),
+                length if length == order && order < 3 => ((12, 0), false),
+                _ => (ACCEPTED, true),
+            };
+            assert_eq!((refusal, found), expected, "{:?} of order {order}", row.words);
+        }
+    }
 }
 
 /// 4 × b + 2 × e + f at the ends of b's range and of 32 bits: b in range is given back with e, all else gives 12.
@@ -148,13 +202,14 @@ fn no_child_above_the_largest_word() {
     assert_eq!(agreed(&arrays, &[65_536, 4]), NOT_FOUND);
 }
 
-/// The array of words 1 to 5 in which row 4 alone has words in front of it, 1 and 3, in slots of the caller's choice; row 4 is in slot 5, its d is 30.
-fn with_words_before_4(slot_of_1: usize, slot_of_3: usize) -> Arrays {
+/// The array of words 1 to 5 in which row 4 alone has words in front of it, 1 and 3, in slots of the caller's choice; row 4 is in slot 5, its d is 30. With order
+/// 2 they hold their p themselves, with order 3 in the markers in slots 40 and 41.
+fn with_words_before_4(order: i32, slot_of_1: usize, slot_of_3: usize) -> Arrays {
     let mut arrays = built(&lists::first_words(5), 40);
-    (arrays.base[5], arrays.check[0]) = (30, HEAD + 2);
+    (arrays.base[5], arrays.check[0]) = (30, HEAD + order);
     (arrays.base[30], arrays.check[30]) = (2, -31);
     for (slot, marker, p) in [(slot_of_1, 40, -1), (slot_of_3, 41, -3)] {
-        (arrays.base[slot], arrays.check[slot]) = (marker as i32, 5);
+        (arrays.base[slot], arrays.check[slot]) = (if order == 2 { p - 1 } else { marker as i32 }, 5);
         (arrays.base[marker], arrays.check[marker]) = (0, p - 1);
     }
     arrays
@@ -165,47 +220,50 @@ fn with_words_before_4(slot_of_1: usize, slot_of_3: usize) -> Arrays {
 fn children_on_either_side() {
     let (p_of_1, p_of_3) = ((ACCEPTED, true, -1, 0, false), (ACCEPTED, true, -3, 0, false));
     for (slot_of_1, slot_of_3) in [(31, 33), (29, 27), (29, 33), (31, 27)] {
-        let arrays = with_words_before_4(slot_of_1, slot_of_3);
-        assert_eq!(agreed(&arrays, &[1, 4]), p_of_1, "{slot_of_1}");
-        assert_eq!(agreed(&arrays, &[3, 4]), p_of_3, "{slot_of_3}");
-        for word in [0, 2, 4, 5, 29, 30, 31, 60, 65_535] {
-            assert_eq!(agreed(&arrays, &[word, 4]), NOT_FOUND, "{word}");
+        for order in [2, 3] {
+            let arrays = with_words_before_4(order, slot_of_1, slot_of_3);
+            assert_eq!(agreed(&arrays, &[1, 4]), p_of_1, "{slot_of_1}");
+            assert_eq!(agreed(&arrays, &[3, 4]), p_of_3, "{slot_of_3}");
+            for word in [0, 2, 4, 5, 29, 30, 31, 60, 65_535] {
+                assert_eq!(agreed(&arrays, &[word, 4]), NOT_FOUND, "{word}");
+            }
         }
     }
 }
 
-/// "A walk looks at d + w, then at d − w": where both slots have the node as CHECK, the one ahead is the child, also where its marker is broken; the
-/// one behind is, where the slot ahead is past the end.
+/// "A walk looks at d + w, then at d − w": where both slots have the node as CHECK, the one ahead is the child, also where it is broken; the one behind is, where
+/// the slot ahead is past the end.
 #[test]
 fn the_slot_ahead_decides() {
-    let mut arrays = with_words_before_4(31, 29);
-    assert_eq!(agreed(&arrays, &[1, 4]), (ACCEPTED, true, -1, 0, false));
-    arrays.check[31] = 4;
-    assert_eq!(agreed(&arrays, &[1, 4]), (ACCEPTED, true, -3, 0, false));
-    arrays.check[31] = 5;
-    arrays.check[40] = 0;
-    assert_eq!(agreed(&arrays, &[1, 4]).0, (12, 0));
-    // In 31 slots, with the marker of row 5 for the one behind.
-    arrays.base[29] = 11;
-    arrays.base.truncate(31);
-    arrays.check.truncate(31);
-    assert_eq!(agreed(&arrays, &[1, 4]), (ACCEPTED, true, -5, 0, false));
+    for order in [2, 3] {
+        let mut arrays = with_words_before_4(order, 31, 29);
+        assert_eq!(agreed(&arrays, &[1, 4]), (ACCEPTED, true, -1, 0, false));
+        arrays.check[31] = 4;
+        assert_eq!(agreed(&arrays, &[1, 4]), (ACCEPTED, true, -3, 0, false));
+        (arrays.check[31], arrays.base[31]) = (5, 0);
+        assert_eq!(agreed(&arrays, &[1, 4]).0, (12, 0));
+        // In 31 slots, with the d of row 4 for the marker of the one behind.
+        arrays.base[29] = if order == 2 { -31 } else { 30 };
+        arrays.base.truncate(31);
+        arrays.check.truncate(31);
+        assert_eq!(agreed(&arrays, &[1, 4]), (ACCEPTED, true, -30, 0, order == 3));
+    }
 }
 
 /// "At least 1": slot 0 is no child, though its CHECK, the head, is the node's slot; slot 1 is one.
 #[test]
 fn no_child_in_slot_0() {
-    let mut arrays = built(&lists::first_words(18), 80);
-    // Row 18 is in slot 19, and CHECK[0] of order 3 is 19.
-    (arrays.base[19], arrays.check[0]) = (60, HEAD + 3);
+    let mut arrays = built(&lists::first_words(26), 80);
+    // Row 26 is in slot 27, and CHECK[0] of order 3 is 27.
+    (arrays.base[27], arrays.check[0]) = (60, HEAD + 3);
     (arrays.base[60], arrays.check[60]) = (2, -61);
-    assert_eq!(agreed(&arrays, &[18]), (ACCEPTED, true, -60, 0, true));
-    assert_eq!(agreed(&arrays, &[60, 18]), NOT_FOUND);
+    assert_eq!(agreed(&arrays, &[26]), (ACCEPTED, true, -60, 0, true));
+    assert_eq!(agreed(&arrays, &[60, 26]), NOT_FOUND);
     // Slot 1 must have CHECK −1, so it is no child of any node either.
-    assert_eq!(agreed(&arrays, &[59, 18]), NOT_FOUND);
-    (arrays.base[2], arrays.check[2]) = (61, 19);
+    assert_eq!(agreed(&arrays, &[59, 26]), NOT_FOUND);
+    (arrays.base[2], arrays.check[2]) = (61, 27);
     (arrays.base[61], arrays.check[61]) = (0, -62);
-    assert_eq!(agreed(&arrays, &[58, 18]), (ACCEPTED, true, -61, 0, false));
+    assert_eq!(agreed(&arrays, &[58, 26]), (ACCEPTED, true, -61, 0, false));
 }
 
 /// Every row is found with its own p and b, every other sequence is not found, in arrays of either placing; `left` is yes exactly if some
@@ -316,19 +374,27 @@ fn changed_random_arrays() {
     met.assert_all();
 }
 
-/// Arrays that no build wrote.
+/// Arrays that no build wrote; many sequences of n words are found in them.
 #[test]
 fn drawn_arrays() {
     let mut random = Random::new(5);
     let mut met = Met::default();
+    let mut longest = [0; 6];
     for _ in 0..30_000 {
         let arrays = drawn(&mut random);
         for _ in 0..20 {
-            let words: Vec<u32> = (0..random.below(6)).map(|_| random.below(20) as u32).collect();
-            met.add(agreed(&arrays, &words));
+            let length = random.below(6);
+            let words = match random.below(2) {
+                0 => (0..length).map(|_| random.below(20) as u32).collect(),
+                _ => arrays.walked(&mut random, length),
+            };
+            let answer = agreed(&arrays, &words);
+            met.add(answer);
+            longest[words.len()] += (answer.1 && words.len() == arrays.order() as usize) as usize;
         }
     }
     assert!(met.found > 1_000 && met.not_found > 1_000 && met.refused[12] > 1_000, "{met:?}");
+    assert!(longest[1] > 1_000 && longest[2] > 100 && longest[3] > 10, "{longest:?}");
 }
 
 /// Arrays of random bits, with lengths that fit or not.
@@ -354,7 +420,9 @@ fn lengths_and_head() {
         agreed(&arrays, &[1]).0 .0
     };
     for rows in [3, 9, 65_535] {
-        assert!((1..=5).all(|order| head(1, rows, order + HEAD, -1) == 0), "{rows} rows");
+        assert!((2..=5).all(|order| head(1, rows, order + HEAD, -1) == 0), "{rows} rows");
+        // The sample's rows of one word have markers, which those of order 1 have not.
+        assert_eq!(head(1, rows, 1 + HEAD, -1), 12, "{rows} rows");
     }
     for (base0, base1, check0, check1) in [
         (0, 9, HEAD + 3, -1),
@@ -390,14 +458,19 @@ fn lengths_and_head() {
     }
 }
 
-/// CHECK[0] is n + 16 with n 1..5, so 17 to 21; "arrays headed otherwise give 11": n, n + 8 and n + 40, as older arrays have them, too.
+/// CHECK[0] is n + 24 with n 1..5, so 25 to 29; "11 meets any other head": n, n + 8, n + 40 and n + 16, as older arrays have them, too. With n = 1 the sample's
+/// rows of one word are the longest, and their BASE holds no p.
 #[test]
 fn other_heads() {
     let mut arrays = built(&lists::sample(), 0);
-    let extremes = [i32::MIN, i32::MIN + 19, -19, 19 + 65_536, i32::MAX - 16, i32::MAX];
+    let extremes = [i32::MIN, i32::MIN + 27, -27, 27 + 65_536, i32::MAX - 24, i32::MAX];
     for head in (-20..=60).chain(extremes) {
         arrays.check[0] = head;
-        let expected = if (17..=21).contains(&head) { (ACCEPTED, true, -6_000, -2_000, true) } else { ((11, 0), false, 0, 0, false) };
+        let expected = match head {
+            25 => ((12, 0), false, 0, 0, false),
+            26..=29 => (ACCEPTED, true, -6_000, -2_000, true),
+            _ => ((11, 0), false, 0, 0, false),
+        };
         assert_eq!(agreed(&arrays, &[4]), expected, "{head}");
     }
 }

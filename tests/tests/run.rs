@@ -129,11 +129,11 @@ fn k1_to_k5() {
 /// The texts of K1 to K4, without context and with other ends, so that each row of the sample is some word's matched row.
 const TEXTS: [&[u32]; 5] = [&[4, 5, 3], &[5, 4, 3], &[9, 3], &[2, 4, 5], &[2, 2, 4, 5, 3]];
 
-/// The slots of the markers of the sample's rows 1, 2, 3, 4, 5, 5 3, 2 4, 4 5 and 2 4 5.
-const MARKERS: [usize; 9] = [7, 8, 9, 10, 11, 13, 16, 17, 18];
+/// The slots of the markers of the sample's rows 1, 2, 3, 4, 5, 5 3, 2 4 and 4 5; row 2 4 5 has none.
+const MARKERS: [usize; 8] = [7, 8, 9, 10, 11, 13, 16, 17];
 
-/// Over an array that no build wrote, 16 is as the e of the marker says whose p was used, also where that row has n words or is word 1's;
-/// points and states stay.
+/// Over an array that no build wrote, 16 is as the e of the marker says whose p was used, also where that row is word 1's; points and states stay. A row of n
+/// words has no e, and no number in its BASE adds 16.
 #[test]
 fn extended_as_the_marker_says() {
     let mut random = Random::new(16);
@@ -153,8 +153,72 @@ fn extended_as_the_marker_says() {
         assert!(flipped > 0, "the marker in {marker} was used");
     }
     let mut changed = sample.clone();
-    (changed.base[18], changed.base[7]) = (2, 2);
-    assert_eq!(agreed_exact(&mut random, &changed, &EMPTY, &[2, 4, 5, 9]).lengths, [1, 2, 3 + 16, 1 + 8 + 16]);
+    changed.base[7] = 2;
+    for base in [-1, -2, -3, -1_001, -98_999_999] {
+        changed.base[19] = base;
+        let outcome = agreed_exact(&mut random, &changed, &EMPTY, &[2, 4, 5, 9]);
+        assert_eq!((outcome.points[2], outcome.lengths), (base + 1, vec![1, 2, 3, 1 + 8 + 16]));
+    }
+}
+
+/// BASE of a row of n words for each order: p − 1 from −99,000,001 to −1, and anything else, 0 and slots of the array too, gives 12 at its word. The state behind it
+/// is that of the words after its first one, whatever stands there.
+#[test]
+fn p_in_the_longest_rows_own_slot() {
+    let mut random = Random::new(24);
+    for order in 1..=5 {
+        let mut arrays = build(&lists::twos(order, -7));
+        let (node, words) = (arrays.node(&vec![2; order]), vec![2; order]);
+        let mut kept = EMPTY;
+        kept[..order].fill(2);
+        kept[0] = order as i32 - 1;
+        for base in [i32::MIN, -99_000_002, -99_000_001, -99_000_000, -5, -1, 0, 1, 5, 7, i32::MAX] {
+            arrays.base[node] = base;
+            let outcome = agreed_exact(&mut random, &arrays, &EMPTY, &words);
+            if (-99_000_001..=-1).contains(&base) {
+                assert_eq!((outcome.refusal, outcome.points[order - 1], outcome.lengths[order - 1]), (ACCEPTED, base + 1, order as u8));
+                assert_eq!(outcome.state, kept, "order {order}, BASE {base}");
+            } else {
+                assert_eq!(outcome.refusal, (12, order as u32), "order {order}, BASE {base}");
+            }
+        }
+    }
+}
+
+/// A negative BASE at a depth below n gives 12 at every walk that comes there, a row of one word, start's 2 and a row within a walk; so does a marker that a row
+/// of n words had, and kept.
+#[test]
+fn each_row_in_its_own_place() {
+    let mut random = Random::new(25);
+    let sample = build(&lists::sample());
+    for base in [-1, -6_001, -99_000_001, -99_000_002, i32::MIN] {
+        for (slot, place, start) in [(5, 2, ACCEPTED), (3, 1, (12, 0)), (12, 2, ACCEPTED), (15, 3, ACCEPTED)] {
+            let mut changed = sample.clone();
+            changed.base[slot] = base;
+            assert_eq!(agreed_exact(&mut random, &changed, &EMPTY, &[2, 4, 5]).refusal, (12, place), "{slot} {base}");
+            assert_eq!(agreed_start(&changed, &[1; 9]).0, start, "{slot} {base}");
+        }
+    }
+    let mut marked = sample.clone();
+    (marked.base[19], marked.base[18], marked.check[18]) = (18, 0, -1_001);
+    assert_eq!(agreed_exact(&mut random, &marked, &EMPTY, &[4, 5]).refusal, ACCEPTED);
+    assert_eq!(agreed_exact(&mut random, &marked, &EMPTY, &[2, 4, 5]).refusal, (12, 3));
+}
+
+/// n = 1: every row holds its p in its own slot; all states are empty, and word 1 answers for the others.
+#[test]
+fn one_word_rows_alone() {
+    let mut random = Random::new(26);
+    let mut arrays = build(&lists::first_words(5));
+    assert_eq!(agreed_start(&arrays, &[9; 9]), (ACCEPTED, EMPTY.to_vec()));
+    let outcome = agreed_exact(&mut random, &arrays, &EMPTY, &[5, 2, 9, 3, 4]);
+    assert_eq!((&outcome.points[..], &outcome.lengths[..]), (&[-5, -2, -1, -3, -4][..], &[1, 1, 9, 1, 1][..]));
+    assert_eq!(outcome.state, EMPTY);
+    arrays.base[2] = 0;
+    assert_eq!(agreed_exact(&mut random, &arrays, &EMPTY, &[5, 2, 9]).refusal, (12, 3));
+    // Start's 2.
+    arrays.base[3] = -99_000_002;
+    assert_eq!(agreed_start(&arrays, &[9; 9]), ((12, 0), EMPTY.to_vec()));
 }
 
 /// A row is live if its b is not 0 or its f is 1; e plays no part. BASE 2 is b = 0, e = 1, f = 0.
@@ -314,16 +378,22 @@ fn packed_limits() {
     }
 }
 
-/// CHECK[0] is n + 16 with n 1..5; any other head gives 11 to start and run, the n, n + 8 and n + 40 of older arrays too.
+/// CHECK[0] is n + 24 with n 1..5; any other head gives 11 to start and run, the n, n + 8, n + 40 and n + 16 of older arrays too. With another n than the sample's
+/// 3 rows of n words have no p in their BASE: with 1 those of words 2 and 4, with 2 that of 4 5.
 #[test]
 fn other_heads() {
     let mut random = Random::new(19);
     let mut arrays = built(&lists::sample(), 0);
     for head in (-20..=60).chain([i32::MIN, i32::MAX]) {
         arrays.check[0] = head;
-        let expected = if (17..=21).contains(&head) { ACCEPTED } else { (11, 0) };
-        assert_eq!(agreed_start(&arrays, &[3; 9]).0, expected, "{head}");
-        assert_eq!(agreed_exact(&mut random, &arrays, &EMPTY, &[4, 5]).refusal, expected, "{head}");
+        let (start, run) = match head {
+            25 => ((12, 0), (12, 1)),
+            26 => (ACCEPTED, (12, 2)),
+            27..=29 => (ACCEPTED, ACCEPTED),
+            _ => ((11, 0), (11, 0)),
+        };
+        assert_eq!(agreed_start(&arrays, &[3; 9]).0, start, "{head}");
+        assert_eq!(agreed_exact(&mut random, &arrays, &EMPTY, &[4, 5]).refusal, run, "{head}");
     }
 }
 
@@ -692,13 +762,30 @@ fn changed_arrays() {
     assert!(starts[0] > 0 && starts[11] > 0 && starts[12] > 0, "{starts:?}");
 }
 
-/// Arrays that no build wrote.
+/// The state of these words, oldest first, with back-offs of a caller's own.
+fn state_of(random: &mut Random, words: &[u32]) -> [i32; 9] {
+    let mut state = EMPTY;
+    state[0] = words.len() as i32;
+    for (i, &word) in words.iter().rev().enumerate() {
+        (state[1 + i], state[5 + i]) = (word as i32, random.between(-LARGEST_B, LARGEST_B));
+    }
+    state
+}
+
+/// Arrays that no build wrote; many words end the walk of n words in them.
 #[test]
 fn drawn_arrays() {
     let mut random = Random::new(15);
     let mut met = Met::default();
+    let mut longest = [0; 6];
     for _ in 0..50_000 {
         let arrays = drawn(&mut random);
+        let order = arrays.order() as usize;
+        if let Some((&newest, older)) = arrays.walked(&mut random, order).split_last() {
+            let state = state_of(&mut random, older);
+            let outcome = agreed_exact(&mut random, &arrays, &state, &[newest]);
+            longest[order] += (outcome.lengths[0] as usize & 7 == order) as usize;
+        }
         let words: Vec<u32> = (0..4).map(|_| if random.chance(20) { 3 } else { random.below(30) as u32 }).collect();
         let (_, state) = agreed_start(&arrays, &[8; 9]);
         let own = own_state(&mut random, arrays.order(), &words);
@@ -706,4 +793,5 @@ fn drawn_arrays() {
         met.add(agreed_exact(&mut random, &arrays, &own, &words).refusal, &words);
     }
     met.assert_all(&[0, 12]);
+    assert!(longest[1] > 1_000 && longest[2] > 50, "{longest:?}");
 }

@@ -217,12 +217,12 @@ fn order_of_refusals() {
     }
 }
 
-/// Ways to break a node: a d that is none, and a marker whose p is out of range.
+/// Ways to break a node: a d that is none, and a p out of range, in its marker or in the slot of a longest row.
 const BREAKS: [fn(&mut Arrays, usize); 2] = [
     |arrays, slot| arrays.base[slot] = 0,
-    |arrays, slot| {
-        let marker = arrays.base[slot] as usize;
-        arrays.check[marker] = LOWEST_P - 2;
+    |arrays, slot| match usize::try_from(arrays.base[slot]) {
+        Ok(marker) => arrays.check[marker] = LOWEST_P - 2,
+        Err(_) => arrays.base[slot] = LOWEST_P - 2,
     },
 ];
 

@@ -1,7 +1,7 @@
 -- A sentence that nothing refuses early is refused by 12 alone, over any lent arrays: 16 meets no state that start or a run returned. Assumes nothing.
 use mathlib.Core.Path.{_≡_, refl, sym, ap, _∙_}
 use mathlib.Core.Logic.{_⊎_, inl, inr}
-use mathlib.Core.Bool.{true, false, cond, _&&_, true≢false, false≢true}
+use mathlib.Core.Bool.{true, false, cond, true≢false}
 use mathlib.Core.List.{List, [], _∷_}
 use Prim.Native.Nat.{ℕ, _≤_, min}
 use native.Mathlib.Omega.{arith}
@@ -9,28 +9,23 @@ use lib.ListN.{length, take}
 use lib.IntN.{ℤ}
 use lib.Dec.{eqb}
 use borrow.Author.Tests.{eq-eqb, le-ltb}
-use Rattle.integer.proofs.Ranges.{and-both}
 use Rattle.backoff.specs.Limits.{runLimit, orderLimit, startWord, endWord}
 use Rattle.backoff.specs.Refusal.{brokenNode}
-use Rattle.backoff.specs.Words.{isWord, areWords}
-use Rattle.backoff.specs.Model.{Model, isSome, listed, live, reach}
+use Rattle.backoff.specs.Words.{areWords}
+use Rattle.backoff.specs.Model.{Model, live, reach}
 use Rattle.backoff.specs.Rule.{replaced}
 use Rattle.backoff.specs.State.{largest, State, empty, newest, liveLength, matchedFrom, nextFrom, stepNext, start}
 use Rattle.backoff.specs.Run.{Run, refusal, accepted, acceptedRun, runEnd}
 use Rattle.backoff.specs.NineNumbers.{nine, nineZeros, stateIn, stateOk}
-use Rattle.backoff.specs.Store.{Store, Step, scored, stuck, entryOf, modelIn, step, runOver, refusedAt, brokenRun, ranAnswer, runOutcome, startStep, startOutcome}
+use Rattle.backoff.specs.Store.{Store, Step, scored, stuck, modelIn, step, runOver, refusedAt, brokenRun, ranAnswer, runOutcome, startStep, startOutcome}
 use Rattle.backoff.proofs.Climb.{largest-passes}
 use Rattle.backoff.proofs.Model.{live-listed}
 use Rattle.backoff.proofs.NineNumbers.{Bounded, length-nine, stateIn-nine, nine-ok, nextFrom-bounded}
 use Rattle.backoff.proofs.Store.{modelRan, runOver-cases}
-use Rattle.double_array.specs.DoubleArray.{markerAt, childAt, past, downTo, lookFrom, isArray, storeIn, opened}
-use Rattle.double_array.specs.declared.Marker.{Marker}
-use Rattle.double_array.specs.declared.Marker.the-variants.{Sound, Broken}
-use Rattle.double_array.specs.declared.Child.{Child}
-use Rattle.double_array.specs.declared.Child.the-variants.{At, Nothing}
-use Rattle.double_array.proofs.DoubleArray.{child-told, opened-some, opened-order}
+use Rattle.double_array.specs.DoubleArray.{isArray, storeIn, opened}
+use Rattle.double_array.proofs.DoubleArray.{opened-some, opened-order}
 use Rattle.score.specs.Meaning.{rowsIn}
-use Rattle.score.proofs.Rows.{rows-in-backoff}
+use Rattle.score.proofs.Rows.{rows-in-backoff, rows-in-words}
 use Rattle.score.proofs.Outcomes.{start-means, run-means}
 use Rattle.batch.specs.Sheet.{closingRun, begun, wordsRun, closed, isScored}
 use Rattle.batch.specs.Meaning.{ByTwelve}
@@ -48,23 +43,6 @@ module _ (base check : List ℤ) where
   abbrev S : Store
   S = storeIn base check
 
-  -- ---- the rows of an array are of words, and so are a state's
-
-  look-words : (ws : List ℕ) (s : ℕ) → isSome (entryOf (lookFrom base check s ws)) ≡ true → areWords ws ≡ true
-  unfolding lookFrom areWords
-  look-words [] s e = refl
-  look-words (w ∷ ws) s e = go (look-words ws) (markerAt base check s) (childAt base check s w) refl e
-    where
-      go : ((t : ℕ) → isSome (entryOf (lookFrom base check t ws)) ≡ true → areWords ws ≡ true) → (m : Marker) (x : Child) → childAt base check s w ≡ x → isSome (entryOf (past m (downTo x (λ (t : ℕ). lookFrom base check t ws)))) ≡ true → (isWord w && areWords ws) ≡ true
-      go ih Broken x q z = absurd (false≢true z)
-      go ih (Sound p b l f) Nothing q z = absurd (false≢true z)
-      go ih (Sound p b l f) (At t) q z = and-both (isWord w) (areWords ws) (child-told base check s w t q .word) (ih t z)
-
-  listed-words : (l : List ℕ) → listed M l ≡ true → areWords l ≡ true
-  unfolding listed modelIn storeIn
-  listed-words [] e = unfold areWords in refl
-  listed-words (w ∷ ws) e = look-words (w ∷ ws) 0 e
-
   -- a state of few words with back-offs in range
   record Good (s : State) : Type 0 where
     bounded : Bounded (reach M) s
@@ -79,7 +57,7 @@ module _ (base check : List ℤ) where
 
       go : (k ≡ 0) ⊎ (live M (take k (v ∷ s .words)) ≡ true) → areWords (take k (v ∷ s .words)) ≡ true
       go (inl z) = rw z (unfold areWords in refl)
-      go (inr e) = listed-words (take k (v ∷ s .words)) (live-listed M (take k (v ∷ s .words)) e)
+      go (inr e) = rows-in-words base check (take k (v ∷ s .words)) (live-listed M (take k (v ∷ s .words)) e)
 
   next-good : (s : State) (v : ℕ) → Good (nextFrom M s v)
   next-good s v = record { bounded = nextFrom-bounded M (rows-in-backoff base check) s v; words = next-words s v }

@@ -4,9 +4,10 @@ pub mod Built
 pub mod Found
 pub mod Sample
 pub mod OldestWords
-pub mod OneWord
+pub mod RowLengths
 pub mod Parts
 pub mod Turn
 pub mod NodeByNode
 pub mod Outcome
 pub mod FewestSlots
+pub mod TakenSlots

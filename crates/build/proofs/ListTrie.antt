@@ -3,30 +3,31 @@
 use mathlib.Core.Path.{_≡_, refl, sym, ap, _∙_}
 use mathlib.Core.Logic.{_⊎_, inl, inr, ⊎-elim, _≢_}
 use mathlib.Core.Bool.{Bool, true, false, cond}
-use mathlib.Core.List.{List, [], _∷_, List·Memᴰ, nil≢cons}
+use mathlib.Core.List.{List, [], _∷_, _++_, List·Memᴰ, nil≢cons, reverse, reverse-reverse}
 use mathlib.Core.Option.{Option, none, some}
 use Prim.Native.Nat.{ℕ, zero, suc, _+_, _*_, _-_, _≤_, _<_, max}
 use native.Mathlib.Omega.{arith}
 use lib.IntN.{ℤ, pos, negsuc, negℤ}
-use lib.ListN.{length, getD, take, drop}
+use lib.ListN.{length, getD, take, drop, length-append, length-reverse}
 use lib.Seq.{getD-take, getD-drop}
 use Rattle.integer.specs.Integer.{between, half, odd}
 use Rattle.integer.proofs.Arithmetic.{zarith, abs, sub, shr}
 use Rattle.integer.proofs.Ranges.{lt-or-ge, between-low, between-high, between-yes, and-both}
 use Rattle.backoff.specs.Limits.{leastProbability, largestBackoff}
 use Rattle.backoff.specs.Words.{sameWords, areWords}
-use Rattle.backoff.specs.Model.{inProbability, inBackoff}
+use Rattle.backoff.specs.Model.{inProbability, inBackoff, backoffOf, extendedOf, continuedOf, backoff, extended, continued, AcceptedModel}
 use Rattle.backoff.specs.declared.Verdict.the-variants.{Accepted}
 use Rattle.backoff.proofs.Words.{same-refl, same-ne}
 use Rattle.list.specs.Table.{rowsOf, field, probabilityAt, backoffAt, lengthOf, orderOf, wordOf, wordsOf, words, withoutFirst}
 use Rattle.list.specs.Search.{findIn, Stretch}
 use Rattle.list.specs.Check.{verdict}
 use Rattle.list.specs.Good.{Good}
-use Rattle.list.specs.ListModel.{extendedIn, continuedIn}
+use Rattle.list.specs.ListModel.{extendedIn, continuedIn, entryAt, modelOf}
 use Rattle.list.specs.declared.Found.{Found}
 use Rattle.list.specs.declared.Found.the-variants.{At, Nothing}
 use Rattle.list.proofs.Table.{row-in, words-length, words-cons}
 use Rattle.list.proofs.Good.{are-words}
+use Rattle.list.proofs.ListModel.{length-order, accepted-model}
 use Rattle.list.proofs.Search.{found-words, finds, find-unique}
 use Rattle.list.proofs.Check.{backoff-in, accepted-row, accepted-good, accepted-size, first-listed}
 use Rattle.double_array.specs.DoubleArray.{markerCheck}
@@ -36,7 +37,7 @@ use Rattle.placing.specs.Trie.{Node, childOf, children, findNode, nodeAt, HasPa
 use Rattle.placing.proofs.Members.{getD-in, in-getD}
 use Rattle.placing.proofs.Trie.{found-in, in-found}
 use Rattle.placing.proofs.Walk.{nodeMarker}
-use Rattle.build.specs.ListTrie.{nodeOf, rootOf, nodesFrom, nodesOf, oldestFrom, OneWordRows}
+use Rattle.build.specs.ListTrie.{nodeOf, rootOf, nodesFrom, nodesOf, oldestFrom, RowsBelow}
 
 -- ---- the nodes by their places
 
@@ -81,8 +82,8 @@ module _ (t : List ℤ) where
       go (suc i) l e = let k : i < rowsOf t = omega (arith, length-nodesOf) in inr (i, k, sym e ∙ nodeAt-row i k)
 
 -- a node that is ready to be placed is found by its words
-findNode-at : {nodes : List Node} → Ready nodes → (i : ℕ) → i < length nodes → findNode nodes (nodeAt nodes i .words) ≡ some (nodeAt nodes i)
-findNode-at {nodes} R i h =
+findNode-at : {order : ℕ} {nodes : List Node} → Ready order nodes → (i : ℕ) → i < length nodes → findNode nodes (nodeAt nodes i .words) ≡ some (nodeAt nodes i)
+findNode-at {order} {nodes} R i h =
     let f = in-found nodes (nodeAt nodes i) (getD-in nodes i _ h) in
     let w = found-in nodes (nodeAt nodes i .words) (f .0) (f .1) in
     let g = in-getD nodes _ (f .0) (w .0) in
@@ -164,14 +165,59 @@ module _ (t : List ℤ) (a : verdict t ≡ Accepted) where
       let l = between-low leastProbability (pos 0) p (accepted-row t a i k .fields .probability) in
       rw (nodeAt-row t i k) (omega (zarith, abs p, between-high leastProbability (pos 0) p (accepted-row t a i k .fields .probability)))
 
-  pub nodes-ready : Ready (nodesOf t)
+  -- ---- rows of n words
+
+  node-short : (i : ℕ) → i < length (nodesOf t) → length (nodeAt (nodesOf t) i .words) ≤ orderOf t
+  node-short zero h = rw (root-words t) (omega arith)
+  node-short (suc i) h =
+      let k : i < rowsOf t = omega (arith, length-nodesOf t) in
+      rw (row-words t i k, words-length t i (row-in t i k)) (length-order t good (accepted-size t a .0) i k)
+
+  -- the row is the longest, so that it has no b, and none is longer, so that it has no e and f
+  longest-bare : (i : ℕ) → i < rowsOf t → lengthOf t i ≡ orderOf t → (backoffAt t i ≡ pos 0) × (extendedIn t (words t i) ≡ false) × (continuedIn t (words t i) ≡ false)
+  unfolding modelOf backoff extended continued
+  longest-bare i h e = (
+    sym (ap backoffOf found) ∙ M .longest l long,
+    sym (ap extendedOf found) ∙ never (extended (modelOf t) l) (λ q. let y = M .extended-by l q in omega (arith, M .short (l ++ (y .0 ∷ [])) (y .1), length-append l (y .0 ∷ []), long)),
+    sym (ap continuedOf found) ∙ never (continued (modelOf t) l) (λ q. let x = M .continued-by l q in omega (arith, M .short (x .0 ∷ l) (x .1), long)),
+  )
+    where
+      M : AcceptedModel (modelOf t)
+      M = accepted-model t a
+
+      l : List ℕ
+      l = reverse (words t i)
+
+      long : length l ≡ orderOf t
+      long = length-reverse (words t i) ∙ words-length t i (row-in t i h) ∙ e
+
+      found : modelOf t .find l ≡ entryAt t (words t i) (At i)
+      found = rw (reverse-reverse (words t i)) (ap (entryAt t (words t i)) (finds t good i h))
+
+      never : (b : Bool) → (b ≡ true → ⊥) → b ≡ false
+      never true n = absurd (n refl)
+      never false n = refl
+
+  node-bare : (i : ℕ) → i < length (nodesOf t) → length (nodeAt (nodesOf t) i .words) ≡ orderOf t → nodeAt (nodesOf t) i .load ≡ pos 0
+  unfolding nodeOf modelOf
+  node-bare zero h e = absurd (omega (arith, accepted-model t a .order-low, ap length (root-words t)))
+  node-bare (suc i) h e =
+      let k : i < rowsOf t = omega (arith, length-nodesOf t) in
+      let b = longest-bare i k (sym (words-length t i (row-in t i k)) ∙ sym (ap length (row-words t i k)) ∙ e) in
+      rw (nodeAt-row t i k, b .0, b .1, b .2)
+
+  pub nodes-ready : Ready (orderOf t) (nodesOf t)
+  unfolding modelOf
   nodes-ready = record {
+    some-words = accepted-model t a .order-low;
     nonempty = omega (arith, length-nodesOf t);
     root = root-words t;
     parents = node-parent;
     distinct = nodes-distinct;
     in-words = node-words;
     costs = node-cost;
+    short = node-short;
+    bare = node-bare;
   }
 
   -- ---- what the markers say
@@ -278,12 +324,12 @@ module _ (t : List ℤ) (a : verdict t ≡ Accepted) where
   pub children-stretch : (i from to : ℕ) → Stretch t i from to → children (nodesOf t) (words t i) ≡ oldestFrom t from (to - from)
   children-stretch i from to s = children-nodes (words t i) from to (s .within) (s .inside) (s .only)
 
-  pub children-root : (k : ℕ) → OneWordRows t k → children (nodesOf t) [] ≡ oldestFrom t 0 k
+  pub children-root : (k : ℕ) → RowsBelow t 2 k → children (nodesOf t) [] ≡ oldestFrom t 0 k
   children-root k o =
       let e : k - 0 ≡ k = omega arith in
       rw e at
       (children-nodes [] 0 k (o .within)
-      (λ j p q. one-word t j (omega (arith, o .one j q)))
+      (λ j p q. one-word t j (omega (arith, o .fewer j q)))
       (λ j p q. (omega arith, ⊎-elim (λ l. l) (λ (l : k ≤ j). absurd (more-words j p (o .more j l p) q)) (lt-or-ge j k))))
 
 -- ---- the oldest words of a part of the table

@@ -13,12 +13,12 @@ use Rattle.backoff.specs.declared.Verdict.the-variants.{Accepted, Refused}
 use Rattle.list.specs.Table.{rowsOf, field, lengthOf, orderOf, wordsOf, words, withoutFirst, withoutLast}
 use Rattle.list.specs.Order.{lastLess, precedes}
 use Rattle.list.specs.Search.{findBelow, findIn}
-use Rattle.list.specs.Check.{tableFits, placeFits, placesFit, backoffFits, fieldFault, isAfter, withoutFirsts, shorterListed, orderFault, rowFault, reservedListed, scan, verdictFor, verdict}
+use Rattle.list.specs.Check.{tableFits, placeFits, placesFit, backoffFits, fieldFault, isAfter, withoutFirsts, shorterListed, orderFault, rowFault, reservedListed, scan, verdictFor}
 use Rattle.list.specs.ListModel.{anyBelow, extendedIn, continuedIn}
 use Rattle.list.specs.Sample.{sample}
 use Rattle.double_array.specs.DoubleArray.{freeCheck, sizesOk}
 use Rattle.placing.specs.Trie.{children}
-use Rattle.placing.specs.Placing.{isFree, update, isOpen, allOpen, fits, search, firstFit, own, reach, give, settle, placeAt, place, placeAll, unplaced, placing, slots}
+use Rattle.placing.specs.Placing.{isFree, update, isOpen, allOpen, fits, search, firstFit, own, reach, give, settle, placeAt, withMarker, withoutMarker, place, placeAll, unplaced, placing, slots}
 use Rattle.build.specs.ListTrie.{nodeOf, rootOf, nodesFrom, nodesOf, placedList, slotsFrom, rowSlots}
 use Rattle.build.specs.Build.{Built, untouched, emptied, filled, buildOutcome}
 
@@ -27,15 +27,15 @@ abbrev sampleBuilt : ℕ → Built
 sampleBuilt N = buildOutcome sample (replicate N (pos 7)) (replicate N (pos 7)) (replicate 10 7)
 
 abbrev builtBase : List ℤ
-builtBase = pos 1 ∷ pos 9 ∷ pos 7 ∷ pos 8 ∷ pos 9 ∷ pos 10 ∷ pos 11 ∷ pos 0 ∷ negℤ (pos 11999) ∷ pos 2 ∷ negℤ (pos 7997) ∷ negℤ (pos 3997) ∷ pos 16 ∷ pos 0 ∷ pos 13 ∷ pos 17 ∷ negℤ (pos 1999) ∷ pos 2 ∷ pos 0 ∷ pos 18 ∷ []
+builtBase = pos 1 ∷ pos 9 ∷ pos 7 ∷ pos 8 ∷ pos 9 ∷ pos 10 ∷ pos 11 ∷ pos 0 ∷ negℤ (pos 11999) ∷ pos 2 ∷ negℤ (pos 7997) ∷ negℤ (pos 3997) ∷ pos 16 ∷ pos 0 ∷ pos 13 ∷ pos 17 ∷ negℤ (pos 1999) ∷ pos 2 ∷ pos 0 ∷ negℤ (pos 1001) ∷ []
 
 abbrev builtCheck : List ℤ
-builtCheck = pos 19 ∷ negℤ (pos 1) ∷ pos 0 ∷ pos 0 ∷ pos 0 ∷ pos 0 ∷ pos 0 ∷ negℤ (pos 20001) ∷ negℤ (pos 990001) ∷ negℤ (pos 10001) ∷ negℤ (pos 6001) ∷ negℤ (pos 9001) ∷ pos 5 ∷ negℤ (pos 1501) ∷ pos 4 ∷ pos 6 ∷ negℤ (pos 4001) ∷ negℤ (pos 3001) ∷ negℤ (pos 1001) ∷ pos 15 ∷ []
+builtCheck = pos 27 ∷ negℤ (pos 1) ∷ pos 0 ∷ pos 0 ∷ pos 0 ∷ pos 0 ∷ pos 0 ∷ negℤ (pos 20001) ∷ negℤ (pos 990001) ∷ negℤ (pos 10001) ∷ negℤ (pos 6001) ∷ negℤ (pos 9001) ∷ pos 5 ∷ negℤ (pos 1501) ∷ pos 4 ∷ pos 6 ∷ negℤ (pos 4001) ∷ negℤ (pos 3001) ∷ freeCheck ∷ pos 15 ∷ []
 
 pub record SampleCases : Type 0 where
   pub enough : sampleBuilt 20 ≡ record { answer = Accepted; base = builtBase; check = builtCheck; work = 2 ∷ 3 ∷ 4 ∷ 5 ∷ 6 ∷ 14 ∷ 12 ∷ 15 ∷ 19 ∷ 7 ∷ [] }
   pub too-few : sampleBuilt 19 ≡ record { answer = Refused noRoom 0; base = replicate 19 (pos 0); check = replicate 19 freeCheck; work = 0 ∷ 0 ∷ 0 ∷ 0 ∷ 0 ∷ 0 ∷ 0 ∷ 0 ∷ 0 ∷ 7 ∷ [] }
 
 pub sample-cases : SampleCases
-unfolding between upTo sameWords inProbability inBackoff written rowsOf field lengthOf orderOf wordsOf words withoutFirst withoutLast lastLess precedes findBelow findIn tableFits placeFits placesFit backoffFits fieldFault isAfter withoutFirsts shorterListed orderFault rowFault reservedListed scan verdictFor anyBelow extendedIn continuedIn sizesOk children isFree update isOpen allOpen fits search firstFit own reach give settle placeAt place placeAll unplaced placing slots nodeOf rootOf nodesFrom nodesOf placedList slotsFrom rowSlots untouched emptied filled buildOutcome
+unfolding between upTo sameWords inProbability inBackoff written rowsOf field lengthOf orderOf wordsOf words withoutFirst withoutLast lastLess precedes findBelow findIn tableFits placeFits placesFit backoffFits fieldFault isAfter withoutFirsts shorterListed orderFault rowFault reservedListed scan verdictFor anyBelow extendedIn continuedIn sizesOk children isFree update isOpen allOpen fits search firstFit own reach give settle placeAt withMarker withoutMarker place placeAll unplaced placing slots nodeOf rootOf nodesFrom nodesOf placedList slotsFrom rowSlots untouched emptied filled buildOutcome
 sample-cases = record { enough = refl; too-few = refl }

@@ -17,24 +17,25 @@ use Rattle.backoff.specs.Limits.{leastProbability}
 use Rattle.backoff.specs.Words.{radix, key}
 use Rattle.backoff.specs.Model.{inProbability}
 use Rattle.double_array.specs.DoubleArray.{markerCheck, markerBase, childSlot}
-use Rattle.list.specs.Table.{rowsOf, field, probabilityAt, backoffAt, orderOf, wordOf, words, withoutFirst}
+use Rattle.list.specs.Table.{rowsOf, field, probabilityAt, backoffAt, lengthOf, orderOf, wordOf, words, withoutFirst}
 use Rattle.list.specs.Keys.{rowKey}
 use Rattle.list.specs.Search.{Stretch}
 use Rattle.list.specs.Check.{verdict}
 use Rattle.list.specs.ListModel.{extendedIn, continuedIn}
 use Rattle.list.proofs.ListModel.{stretch-extended}
-use Rattle.list.proofs.Table.{row-in, words-cons}
+use Rattle.list.proofs.Table.{row-in, words-length, words-cons}
 use Rattle.list.proofs.Good.{ascend-key}
 use Rattle.list.proofs.Check.{accepted-good, accepted-row}
 use Rattle.placing.specs.Trie.{Node, children, nodeAt}
-use Rattle.placing.specs.Placing.{Placed, allOpen, firstFit, update, own, reach, settle, placeAt, place, placeAll, unplaced}
+use Rattle.placing.specs.Placing.{Placed, isFree, allOpen, firstFit, update, own, reach, settle, placeAt, withMarker, withoutMarker, placeAll, unplaced}
+use Rattle.placing.proofs.Trie.{child-positive}
 use Rattle.placing.proofs.FirstFit.{isFree-no, sideAt, fit-any-top}
 use Rattle.placing.proofs.Placing.{Inv, Next, slot-given, slot-kept, slot-below-top, not-negative}
-use Rattle.free_slots.specs.Chain.{isLink, Linked}
+use Rattle.free_slots.specs.Chain.{isLink, Linked, Held}
 use Rattle.free_slots.proofs.Chain.{linked-base-length, linked-check-length}
 use Rattle.free_slots.proofs.Following.{links-run-through-the-free-slots}
-use Rattle.placing.proofs.NodeByNode.{placedFirst-suc, next-at, inv-first}
-use Rattle.build.specs.ListTrie.{nodeOf, rootOf, nodesOf, OneWordRows}
+use Rattle.placing.proofs.NodeByNode.{place-longest, place-fewer, placedFirst-suc, next-at, inv-first}
+use Rattle.build.specs.ListTrie.{nodeOf, rootOf, nodesOf, RowsBelow}
 use Rattle.build.specs.Steps.{oldestOf, Rising, fitOf, sideOf, Settles, Given, NodePlaced, itemOf, placedNodes, Filled, Tried}
 use Rattle.build.proofs.ListTrie.{length-nodesOf, nodeAt-root, nodeAt-row, root-words, row-words, one-word, more-words, nodes-ready, row-check, children-stretch, children-root, middle-field}
 use Rattle.build.proofs.OldestWords.{oldest-in}
@@ -53,10 +54,10 @@ row-children t i from to s = record {
   only = λ j l e. let z = s .only j l e in omega (arith, s .order);
 }
 
-root-children : (t : List ℤ) → verdict t ≡ Accepted → (k : ℕ) → OneWordRows t k → Children t [] 0 k
+root-children : (t : List ℤ) → verdict t ≡ Accepted → (k : ℕ) → RowsBelow t 2 k → Children t [] 0 k
 root-children t a k o = record {
   within = omega (arith, o .within);
-  inside = λ j l m. one-word t j (omega (arith, o .one j (omega arith)));
+  inside = λ j l m. one-word t j (omega (arith, o .fewer j (omega arith)));
   only = λ j l e. (omega arith, ⊎-elim (λ m. omega arith) (λ m. absurd (more-words t a j l (o .more j m l) e)) (lt-or-ge j k));
 }
 
@@ -105,27 +106,29 @@ module _ (t : List ℤ) (a : verdict t ≡ Accepted) {N n : ℕ} (h : n < length
   abbrev ws : List ℕ
   ws = children (nodesOf t) (m .words)
 
-  abbrev d : ℕ
-  d = firstFit (P .check) ws (P .top)
-
-  abbrev side : Bool
-  side = sideAt (P .check) ws d
-
-  abbrev P′ : Placed
-  P′ = settle m ws side d P
-
   I : Inv (orderOf t) (nodesOf t) (take n (nodesOf t)) P
   I = list-inv t a n (omega arith)
 
-  next : Next (nodesOf t) (take n (nodesOf t)) P m side d
-  next = next-at (orderOf t) (nodesOf t) (nodes-ready t a) n h I
+  next : Next (nodesOf t) (take n (nodesOf t)) m
+  next = next-at (orderOf t) (nodesOf t) (nodes-ready t a) n h
+
+  -- the node's slot: it is one of the slots, and taken
+  module _ {s : ℕ} (e : s ≡ P .slot (m .words)) where
+    slot-inside : s < N
+    slot-inside = omega (arith, slot-below-top I (m .words) (next .slotted), F .room)
+
+    slot-taken : isFree (P .check s) ≡ false
+    slot-taken = isFree-no (P .check s) (λ z. not-negative I (m .words) (next .slotted) s 2147483647 z (sym e))
+
+    slot-held : Held B s
+    slot-held = record { few = omega (arith, filled-base F, F .size); inside = omega (arith, filled-base F, slot-inside) }
 
   -- the children's words: none is 0, and they rise as the rows' keys do
   module _ {rows : List ℤ} (words-are : oldestOf rows ≡ ws) (from : ℕ) (S : Children t (m .words) from (rowsOf rows)) (fields : (j : ℕ) → j < rowsOf rows → field rows j 1 ≡ field t (from + j) 1) where
     rows-rise : Rising rows
     unfolding rowKey key
     rows-rise = record {
-      positive = λ k l. next .positive (wordOf (field rows k 1)) (subst (List·Memᴰ (wordOf (field rows k 1))) words-are (oldest-in rows k l));
+      positive = λ k l. child-positive (nodes-ready t a) (m .words) (wordOf (field rows k 1)) (subst (List·Memᴰ (wordOf (field rows k 1))) words-are (oldest-in rows k l));
       rising = λ j k l h. omega (arith, ascend-key t (rowsOf t) (from + j) (from + k) (accepted-good t a) (omega arith) (omega (arith, S .within)), child-key j (omega arith), child-key k h);
     }
       where
@@ -138,18 +141,32 @@ module _ (t : List ℤ) (a : verdict t ≡ Accepted) {N n : ℕ} (h : n < length
     settles : {s : ℕ} {mark : ℤ} → s ≡ P .slot (m .words) → isLink mark ≡ false → Settles N (P .base) (P .check) B C rows s mark
     settles {s} e q = record {
       linked = F .linked;
-      inside = omega (arith, slot-below-top I (m .words) (next .slotted), F .room);
-      taken = isFree-no (P .check s) (λ z. not-negative I (m .words) (next .slotted) s 2147483647 z (sym e));
+      inside = slot-inside e;
+      taken = slot-taken e;
       apart = q;
       children = rows-rise;
     }
 
-  next-is : placedNodes t (suc n) ≡ P′
-  unfolding place placeAt
-  next-is = placedFirst-suc (orderOf t) (nodesOf t) n h
+  next-longest : length (m .words) ≡ orderOf t → placedNodes t (suc n) ≡ withoutMarker m P
+  next-longest e = placedFirst-suc (orderOf t) (nodesOf t) n h ∙ place-longest (orderOf t) m ws P e
+
+  next-fewer : length (m .words) ≢ orderOf t → placedNodes t (suc n) ≡ settle m ws (sideAt (P .check) ws (firstFit (P .check) ws (P .top))) (firstFit (P .check) ws (P .top)) P
+  unfolding withMarker placeAt
+  next-fewer e = placedFirst-suc (orderOf t) (nodesOf t) n h ∙ place-fewer (orderOf t) m ws P e
+
+  -- ---- a node of fewer words than the order takes its d
+
+  abbrev d : ℕ
+  d = firstFit (P .check) ws (P .top)
+
+  abbrev side : Bool
+  side = sideAt (P .check) ws d
+
+  abbrev P′ : Placed
+  P′ = settle m ws side d P
 
   module _ {rows : List ℤ} {s : ℕ} {mark load : ℤ} {top r : ℕ} {B′ C′ : List ℤ} {I₀ I′ : List ℕ}
-      (words-are : oldestOf rows ≡ ws) (top-is : top ≡ P .top) (slot-is : s ≡ P .slot (m .words)) (mark-is : mark ≡ negsuc (m .cost)) (load-is : load ≡ m .load)
+      (fewer : length (m .words) ≢ orderOf t) (words-are : oldestOf rows ≡ ws) (top-is : top ≡ P .top) (slot-is : s ≡ P .slot (m .words)) (mark-is : mark ≡ negsuc (m .cost)) (load-is : load ≡ m .load)
       (D : NodePlaced N (P .base) (P .check) rows s mark load top I₀ r B′ C′ I′) where
     -- the d found is the rule's
     d-is : fitOf N (P .check) rows ≡ d
@@ -223,7 +240,20 @@ module _ (t : List ℤ) (a : verdict t ≡ Accepted) {N n : ℕ} (h : n < length
         }
 
       tried : Tried t N (placedNodes t (suc n)) r B′ C′ (back from k W I′)
-      tried = rw next-is (record { answer = answer; filled = filled })
+      tried = rw (next-fewer fewer) (record { answer = answer; filled = filled })
+
+  -- ---- one of as many holds p − 1 in its own slot
+
+  bare-filled : length (m .words) ≡ orderOf t → {s : ℕ} {mark : ℤ} {B′ : List ℤ} → s ≡ P .slot (m .words) → mark ≡ negsuc (m .cost)
+      → Linked N (update (P .base) s mark) (P .check) B′ C → Filled t N (placedNodes t (suc n)) B′ C W
+  unfolding withoutMarker
+  bare-filled longest {B′ = B′} slot-is mark-is L =
+      let bare : Linked N (update (P .base) (P .slot (m .words)) (negsuc (m .cost))) (P .check) B′ C = transport (λ i. Linked N (update (P .base) (slot-is i) (mark-is i)) (P .check) B′ C) L in
+      rw (next-longest longest) (record { size = F .size; room = F .room; linked = bare; links = links-run-through-the-free-slots bare; each = F .each; item = F .item })
+
+  bare-top : length (m .words) ≡ orderOf t → placedNodes t (suc n) .top ≡ P .top
+  unfolding withoutMarker
+  bare-top longest = rw (next-longest longest)
 
 -- ---- the root's turn
 
@@ -238,7 +268,10 @@ module _ (t : List ℤ) (a : verdict t ≡ Accepted) {N : ℕ} {B C : List ℤ} 
   root-slot : 0 ≡ placedNodes t 0 .slot (nodeAt (nodesOf t) 0 .words)
   root-slot = sym (ap (placedNodes t 0 .slot) (root-words t) ∙ I t a root-node F .root)
 
-  module _ (k : ℕ) (o : OneWordRows t k) where
+  root-fewer : length (nodeAt (nodesOf t) 0 .words) ≢ orderOf t
+  root-fewer e = absurd (omega (arith, nodes-ready t a .some-words, ap length (root-words t)))
+
+  module _ (k : ℕ) (o : RowsBelow t 2 k) where
     pub root-fits : 8 * (0 + k) ≤ length t
     unfolding rowsOf
     root-fits = omega (arith, o .within)
@@ -260,7 +293,7 @@ module _ (t : List ℤ) (a : verdict t ≡ Accepted) {N : ℕ} {B C : List ℤ} 
         → Tried t N (placedNodes t 1) r B′ C′ (back 0 k W I′)
     unfolding rootOf
     root-tried e D =
-        tried t a root-node F root-oldest (sym (first-top t))
+        tried t a root-node F root-fewer root-oldest (sym (first-top t))
         root-slot (ap (λ (n : Node). negsuc (n .cost)) (sym (nodeAt-root t))) (e ∙ ap (λ (n : Node). n .load) (sym (nodeAt-root t))) D
         0 k root-stretch refl (λ j l. middle-field t 0 k j 1 l (lit< tt))
 
@@ -276,6 +309,9 @@ module _ (t : List ℤ) (a : verdict t ≡ Accepted) (i : ℕ) (l : i < rowsOf t
   words-is : nodeAt (nodesOf t) (i + 1) .words ≡ words t i
   words-is = rw (add-one i) (row-words t i l)
 
+  row-long : length (nodeAt (nodesOf t) (i + 1) .words) ≡ lengthOf t i
+  row-long = ap length words-is ∙ words-length t i (row-in t i l)
+
   row-slot : (s : ℕ) → s ≡ getD W i 0 / 2 → s ≡ placedNodes t (i + 1) .slot (nodeAt (nodesOf t) (i + 1) .words)
   row-slot s e =
       let slot = placedNodes t (i + 1) .slot (words t i) in
@@ -287,6 +323,19 @@ module _ (t : List ℤ) (a : verdict t ≡ Accepted) (i : ℕ) (l : i < rowsOf t
   row-load : (e : Bool) → extendedIn t (words t i) ≡ e → markerBase (backoffAt t i) e (eqb (getD W i 0 % 2) 1) ≡ nodeAt (nodesOf t) (i + 1) .load
   unfolding nodeOf
   row-load e q = rw (node-is, q, F .item i l, item-flag (placedNodes t (i + 1) .slot (words t i)) (continuedIn t (words t i)))
+
+  pub row-held : (s : ℕ) → s ≡ getD W i 0 / 2 → Held B s
+  row-held s e = slot-held t a row-in-nodes F (row-slot s e)
+
+  pub row-taken : (s : ℕ) → s ≡ getD W i 0 / 2 → isFree (placedNodes t (i + 1) .check s) ≡ false
+  row-taken s e = slot-taken t a row-in-nodes F (row-slot s e)
+
+  pub row-bare : lengthOf t i ≡ orderOf t → {s : ℕ} {mark : ℤ} {B′ : List ℤ} → s ≡ getD W i 0 / 2 → mark ≡ markerCheck (probabilityAt t i)
+      → Linked N (update (placedNodes t (i + 1) .base) s mark) (placedNodes t (i + 1) .check) B′ C → Filled t N (placedNodes t (suc (i + 1))) B′ C W
+  row-bare longest {s} e f b = bare-filled t a row-in-nodes F (row-long ∙ longest) (row-slot s e) (f ∙ row-mark) b
+
+  pub row-top : lengthOf t i ≡ orderOf t → placedNodes t (suc (i + 1)) .top ≡ placedNodes t (i + 1) .top
+  row-top longest = bare-top t a row-in-nodes F (row-long ∙ longest)
 
   module _ (from to : ℕ) (S : Stretch t i from to) where
     pub row-fits : 8 * (from + (to - from)) ≤ length t
@@ -307,12 +356,12 @@ module _ (t : List ℤ) (a : verdict t ≡ Accepted) (i : ℕ) (l : i < rowsOf t
         (λ j l. middle-field t from (to - from) j 1 (omega arith) (lit< tt)) (row-slot s e) (ap isLink f ∙ mark-apart t a i l)
 
     pub row-tried : {s : ℕ} {mark load : ℤ} {top r : ℕ} {B′ C′ : List ℤ} {I′ : List ℕ}
-        → top ≡ placedNodes t (i + 1) .top → s ≡ getD W i 0 / 2 → mark ≡ markerCheck (probabilityAt t i) → load ≡ markerBase (backoffAt t i) (ltb from to) (eqb (getD W i 0 % 2) 1)
+        → lengthOf t i < orderOf t → top ≡ placedNodes t (i + 1) .top → s ≡ getD W i 0 / 2 → mark ≡ markerCheck (probabilityAt t i) → load ≡ markerBase (backoffAt t i) (ltb from to) (eqb (getD W i 0 % 2) 1)
         → NodePlaced N (placedNodes t (i + 1) .base) (placedNodes t (i + 1) .check) (partRows t from (to - from)) s mark load top (take (to - from) (drop from W)) r B′ C′ I′
         → Tried t N (placedNodes t (i + 2)) r B′ C′ (back from (to - from) W I′)
-    row-tried {s} o e f g D =
+    row-tried {s} fewer o e f g D =
         let two : i + 2 ≡ suc (i + 1) = omega arith in
         rw two
-        (tried t a row-in-nodes F row-oldest o
+        (tried t a row-in-nodes F (λ q. absurd (omega (arith, row-long))) row-oldest o
         (row-slot s e) (f ∙ row-mark) (g ∙ row-load (ltb from to) (stretch-extended t i from to S)) D
         from (to - from) row-stretch refl (λ j h. middle-field t from (to - from) j 1 h (lit< tt)))

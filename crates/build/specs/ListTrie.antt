@@ -1,5 +1,4 @@
 -- The trie of a list: "Nodes are the root (slot 0) and one per row". Rows are counted from 0 here. Assumes nothing.
-use mathlib.Core.Path.{_≡_}
 use mathlib.Core.List.{List, [], _∷_}
 use Prim.Native.Nat.{ℕ, zero, suc, _≤_, _<_}
 use lib.IntN.{ℤ, pos, natAbs}
@@ -9,7 +8,7 @@ use Rattle.double_array.specs.DoubleArray.{markerBase}
 use Rattle.placing.specs.Trie.{Node}
 use Rattle.placing.specs.Placing.{Placed, placing}
 
--- row i's node: "A row's marker has CHECK = p − 1", its BASE is "4 × b + 2 × e + f", and p is not positive
+-- row i's node: "A row's marker has CHECK = p − 1", its BASE is "4 × b + 2 × e + f", and p is not positive. A row of n words, which has no marker, has b = e = f = 0.
 unfoldable pub nodeOf : List ℤ → ℕ → Node
 nodeOf t i = record { words = words t i; cost = natAbs (probabilityAt t i); load = markerBase (backoffAt t i) (extendedIn t (words t i)) (continuedIn t (words t i)) }
 
@@ -30,11 +29,11 @@ unfoldable pub oldestFrom : List ℤ → ℕ → ℕ → List ℕ
 oldestFrom t i zero = []
 oldestFrom t i (suc k) = wordOf (field t i 1) ∷ oldestFrom t (suc i) k
 
--- rows 0 to k − 1 have one word each, the others have more
-pub record OneWordRows (t : List ℤ) (k : ℕ) : Type 0 where
+-- rows 0 to k − 1 have fewer than m words, the others have m or more
+pub record RowsBelow (t : List ℤ) (m k : ℕ) : Type 0 where
   pub within : k ≤ rowsOf t
-  pub one : (i : ℕ) → i < k → lengthOf t i ≡ 1
-  pub more : (i : ℕ) → k ≤ i → i < rowsOf t → 2 ≤ lengthOf t i
+  pub fewer : (i : ℕ) → i < k → lengthOf t i < m
+  pub more : (i : ℕ) → k ≤ i → i < rowsOf t → m ≤ lengthOf t i
 
 -- the list placed by the placing rule, in room without an upper end
 unfoldable pub placedList : List ℤ → Placed

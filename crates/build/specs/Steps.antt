@@ -110,7 +110,7 @@ pub record Flagged (marks : List Bool) (n : ℕ) (items : List ℕ) : Type 0 whe
 
 -- the list's first k nodes placed
 abbrev pub placedNodes : List ℤ → ℕ → Placed
-placedNodes t k = placeAll (nodesOf t) (take k (nodesOf t)) (unplaced (orderOf t))
+placedNodes t k = placeAll (orderOf t) (nodesOf t) (take k (nodesOf t)) (unplaced (orderOf t))
 
 -- what the slices of N slots hold while P is placed: BASE and CHECK with links. "At each placement the links are proved to run through exactly the free slots, upwards."
 pub record Filled (t : List ℤ) (N : ℕ) (P : Placed) (base check : List ℤ) (items : List ℕ) : Type 0 where

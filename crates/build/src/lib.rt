@@ -6,14 +6,14 @@ ghost use Prim.Native.Nat.{ℕ, _+_, _/_, _%_, _≤_, _<_, max};
 ghost use lib.Dec.{eqb};
 ghost use lib.IntN.{ℤ, pos};
 ghost use lib.ListN.{length};
-ghost use Rattle.backoff.specs.Limits.{wordLimit, slotLimit};
+ghost use Rattle.backoff.specs.Limits.{wordLimit, orderLimit, slotLimit};
 ghost use Rattle.backoff.specs.declared.Verdict.the-variants.{Accepted};
 ghost use Rattle.double_array.specs.DoubleArray.{freeCheck, headCheck, markerCheck, markerBase, childSlot, sizesOk};
-ghost use Rattle.list.specs.Table.{rowsOf, field, probabilityAt, backoffAt, orderOf, wordOf};
+ghost use Rattle.list.specs.Table.{rowsOf, field, probabilityAt, backoffAt, lengthOf, orderOf, wordOf};
 ghost use Rattle.list.specs.Check.{tableFits, verdict};
 ghost use Rattle.placing.specs.Placing.{Room, isOpen, update, own, reach};
 ghost use Rattle.free_slots.specs.Chain.{Linked, Unlinked, Chain};
-ghost use Rattle.build.specs.ListTrie.{OneWordRows, placedList};
+ghost use Rattle.build.specs.ListTrie.{RowsBelow, placedList};
 ghost use Rattle.build.specs.Build.{checkedBuild, buildOutcome, IsBuilt, BuildMeans};
 ghost use Rattle.build.specs.Steps.{Passed, Wiped, ChildRows, oldestOf, Rising, FoundFit, LastWord, ChildSlots, Settles, Fitting, Given, NodePlaced, Flagged, placedNodes, Filled, Tried, halved};
 use backoff::Verdict;
@@ -191,7 +191,7 @@ fn row_node(table: &[i32], i: usize, item: u32, extended: bool) -> Node
     }
 }
 
-// Places the node of row i, whose children's rows are soonest found from `near` on. Answers the new top.
+// Places the node of row i, which has fewer than n words and whose children's rows are soonest found from `near` on. Answers the new top.
 fn place_row(
     table: &[i32],
     i: usize,
@@ -201,7 +201,7 @@ fn place_row(
     near: usize,
     top: usize,
 ) -> usize
-    requires { ⌜ (verdict (now table) ≡ Accepted) × (i < rowsOf (now table)) × (top ≡ placedNodes (now table) (i + 1) .top) ⌝ }
+    requires { ⌜ (verdict (now table) ≡ Accepted) × (i < rowsOf (now table)) × (lengthOf (now table) i < orderOf (now table)) × (top ≡ placedNodes (now table) (i + 1) .top) ⌝ }
     requires { ⌜ Filled (now table) (length (now check)) (placedNodes (now table) (i + 1)) (now base) (now check) (now work) ⌝ }
     ensures { λ r. ⌜ Tried (now (table .entry)) (length (now (check .entry))) (placedNodes (now (table .entry)) (i + 2)) r (now (base .exit)) (now (check .exit)) (now (work .exit)) ⌝ }
 {
@@ -219,15 +219,23 @@ fn place_row(
     )
 }
 
-// The number of rows with one word.
-fn one_word_rows(table: &[i32]) -> usize
+// The order: the number of the last row's words.
+fn order_of(table: &[i32]) -> usize
     requires { ⌜ verdict (now table) ≡ Accepted ⌝ }
-    ensures { λ r. ⌜ OneWordRows (now (table .entry)) r ⌝ }
+    ensures { λ r. ⌜ (r ≡ orderOf (now (table .entry))) × (r ≤ orderLimit) ⌝ }
+{
+    list::length_of(table, table.len() / 8 - 1)
+}
+
+// The number of rows with fewer than m words.
+fn rows_below(table: &[i32], m: usize) -> usize
+    requires { ⌜ verdict (now table) ≡ Accepted ⌝ }
+    ensures { λ r. ⌜ RowsBelow (now (table .entry)) m r ⌝ }
 {
     let count = table.len() / 8;
     let mut k = 0;
     while k < count {
-        if list::length_of(table, k) != 1 {
+        if m <= list::length_of(table, k) {
             return k;
         }
         k += 1;
@@ -241,7 +249,7 @@ fn place_root(table: &[i32], base: &mut [i32], check: &mut [i32], work: &mut [u3
     requires { ⌜ Filled (now table) (length (now check)) (placedNodes (now table) 0) (now base) (now check) (now work) ⌝ }
     ensures { λ r. ⌜ Tried (now (table .entry)) (length (now (check .entry))) (placedNodes (now (table .entry)) 1) r (now (base .exit)) (now (check .exit)) (now (work .exit)) ⌝ }
 {
-    let k = one_word_rows(table);
+    let k = rows_below(table, 2);
     let end = 8 * k;
     let node = Node {
         slot: 0,
@@ -263,22 +271,37 @@ fn next_without_slot(work: &[u32], j: usize) -> usize {
     k
 }
 
-// Places the nodes of the rows, one by one, as long as they have room. Answers the new top.
+// Places the nodes of the rows from row `first` on, which have n words: the node's own BASE holds p − 1, and no slot is taken.
+fn place_longest(table: &[i32], first: usize, base: &mut [i32], work: &[u32])
+    requires { ⌜ (verdict (now table) ≡ Accepted) × RowsBelow (now table) (orderOf (now table)) first ⌝ }
+    requires { ⌜ ((N : ℕ) × (check : List ℤ) × Filled (now table) N (placedNodes (now table) (first + 1)) (now base) check (now work)) ⌝ }
+    ensures { λ _. ⌜ ((N : ℕ) (check : List ℤ) → Filled (now (table .entry)) N (placedNodes (now (table .entry)) (first + 1)) (now (base .entry)) check (now (work .entry)) → Tried (now (table .entry)) N (placedList (now (table .entry))) (placedNodes (now (table .entry)) (first + 1) .top) (now (base .exit)) check (now (work .entry))) ⌝ }
+{
+    let mut i = first;
+    while i < work.len() {
+        let mark = double_array::marker_check(list::field(table, i, 6));
+        free_slots::set_base(base, (work[i] / 2) as usize, mark);
+        i += 1;
+    }
+}
+
+// Places the nodes of the rows, one by one, as long as they have room; the first `shorter` rows have fewer than n words. Answers the new top.
 fn place_rows(
     table: &[i32],
+    shorter: usize,
     base: &mut [i32],
     check: &mut [i32],
     work: &mut [u32],
     top: usize,
 ) -> usize
-    requires { ⌜ (verdict (now table) ≡ Accepted) × (top ≡ placedNodes (now table) 1 .top) ⌝ }
+    requires { ⌜ (verdict (now table) ≡ Accepted) × RowsBelow (now table) (orderOf (now table)) shorter × (top ≡ placedNodes (now table) 1 .top) ⌝ }
     requires { ⌜ Filled (now table) (length (now check)) (placedNodes (now table) 1) (now base) (now check) (now work) ⌝ }
     ensures { λ r. ⌜ Tried (now (table .entry)) (length (now (check .entry))) (placedList (now (table .entry))) r (now (base .exit)) (now (check .exit)) (now (work .exit)) ⌝ }
 {
     let mut top = top;
     let mut near = 0;
     let mut i = 0;
-    while i < work.len() {
+    while i < shorter {
         near = next_without_slot(work, near);
         top = place_row(table, i, base, check, work, near, top);
         if check.len() < top {
@@ -286,6 +309,7 @@ fn place_rows(
         }
         i += 1;
     }
+    place_longest(table, shorter, base, work);
     top
 }
 
@@ -299,7 +323,8 @@ fn place_nodes(table: &[i32], base: &mut [i32], check: &mut [i32], work: &mut [u
     if check.len() < top {
         return top;
     }
-    place_rows(table, base, check, work, top)
+    let shorter = rows_below(table, order_of(table));
+    place_rows(table, shorter, base, check, work, top)
 }
 
 // Frees all slots and empties the work items.
@@ -348,8 +373,8 @@ fn finish(table: &[i32], base: &mut [i32], check: &mut [i32], top: usize)
     requires { ⌜ (verdict (now table) ≡ Accepted) × Chain (now base) (now check) ⌝ }
     ensures { λ _. ⌜ ((N : ℕ) (b c : Room) → Linked N b c (now (base .entry)) (now (check .entry)) → ((t : ℕ) → top ≤ t → c t ≡ freeCheck) → Unlinked N (update b 0 (pos 1)) (update c 0 (headCheck (orderOf (now (table .entry))))) (now (base .exit)) (now (check .exit))) ⌝ }
 {
-    let order = list::length_of(table, table.len() / 8 - 1);
-    free_slots::unlink_all(base, check, top, 1, double_array::head_check(order));
+    let head = double_array::head_check(order_of(table));
+    free_slots::unlink_all(base, check, top, 1, head);
 }
 
 // Builds the array of an accepted list, whose marks and work items are in hand.

@@ -1,16 +1,18 @@
 -- Laws of specs/DoubleArray.antt: markers packed and read, children, the head, the walk. Of a definition by tests, the law `..-told` says in plain
 -- facts what holds where it answers, and `..-shown` is the converse. Assumes nothing.
 use mathlib.Core.Path.{_≡_, refl, sym, ap, _∙_}
+use mathlib.Core.Logic.{_≢_}
 use mathlib.Core.Bool.{Bool, true, false, cond, _&&_, false≢true}
 use mathlib.Core.List.{List, [], _∷_}
 use mathlib.Core.Option.{none, some}
 use Prim.Native.Nat.{ℕ, zero, suc, _+_, _≤_, _<_}
 use native.Mathlib.Omega.{arith}
+use native.Mathlib.Decide.{ℕ-discrete}
 use lib.Dec.{eqb, leb, ltb}
 use lib.ListN.{length, getD}
 use lib.IntN.{ℤ, pos, negsuc, negℤ, natAbs, _+ℤ_, _*ℤ_, pos-ne-negsuc}
 use lib.Signed.{leZ, ltZ, _≤ℤ_}
-use borrow.Author.Tests.{leb-true, leb-false, ltb-true, lt-ltb, le-ltb, le-leb, eq-eqb}
+use borrow.Author.Tests.{leb-true, leb-false, ltb-true, lt-ltb, le-ltb, le-leb, eq-eqb, ne-eqb}
 use Rattle.integer.specs.Integer.{eqZ, between, bit, twice, half, odd}
 use Rattle.integer.proofs.Arithmetic.{zarith, add, sub, mul, shr, abs}
 use Rattle.integer.proofs.Ranges.{and-left, and-right, and-both, between-low, between-high, between-yes}
@@ -18,8 +20,8 @@ use Rattle.integer.proofs.Halving.{half-twice, odd-twice, half-odd, bit-bounds}
 use Rattle.backoff.specs.Limits.{leastProbability, largestBackoff, wordLimit, orderLimit, rowLimit, slotLimit}
 use Rattle.backoff.specs.Words.{isWord, radix}
 use Rattle.backoff.specs.Model.{inProbability, inBackoff}
-use Rattle.backoff.specs.Store.{broken, here, Store}
-use Rattle.double_array.specs.DoubleArray.{freeCheck, headCheck, markerCheck, markerBase, markerOf, childSlot, wordAt, baseAt, checkAt, markerAt, ownedBy, orElse, onEitherSide, childAt, rootChild, downTo, lookFrom, sizesOk, orderOk, headOk, isArray, orderIn, lookRow, storeIn, opened}
+use Rattle.backoff.specs.Store.{absent, broken, here, Store}
+use Rattle.double_array.specs.DoubleArray.{freeCheck, headCheck, markerCheck, markerBase, markerOf, childSlot, wordAt, baseAt, checkAt, keptMarker, ownMarker, markerAt, ownedBy, orElse, onEitherSide, childAt, rootChild, downTo, lookFrom, sizesOk, orderOk, headOk, isArray, orderIn, lookRow, storeIn, opened}
 use Rattle.double_array.specs.declared.Marker.{Marker}
 use Rattle.double_array.specs.declared.Marker.the-variants.{Sound, Broken}
 use Rattle.double_array.specs.declared.Child.{Child}
@@ -68,9 +70,6 @@ sound-read check base p b e f h =
     let r : half upper ≡ b = cc in
     (omega (zarith, add check (pos 1), sub p (pos 1)), cc (twice-half base, twice-half upper), rw q at (tests .0), rw r at (tests .1))
 
-pub sound-in-range : (check base p b : ℤ) (e f : Bool) → markerOf check base ≡ Sound p b e f → (inProbability p ≡ true) × (inBackoff b ≡ true)
-sound-in-range check base p b e f h = let r = sound-read check base p b e f h in (r .2, r .3)
-
 -- what was packed is read
 pub marker-round-trip : (p b : ℤ) (e f : Bool) → inProbability p ≡ true → inBackoff b ≡ true → markerOf (markerCheck p) (markerBase b e f) ≡ Sound p b e f
 marker-round-trip p b e f hp hb =
@@ -98,21 +97,56 @@ pub record IsMarker (base check : List ℤ) (s : ℕ) (p b : ℤ) (e f : Bool) :
   pub b-in-range : inBackoff b ≡ true
 
 module _ (base check : List ℤ) (s : ℕ) (p b : ℤ) (e f : Bool) where
-  pub marker-shown : IsMarker base check s p b e f → markerAt base check s ≡ Sound p b e f
-  unfolding markerAt
-  marker-shown m =
+  pub kept-shown : IsMarker base check s p b e f → keptMarker base check s ≡ Sound p b e f
+  unfolding keptMarker
+  kept-shown m =
       let d = baseAt base check s in
       let l : leZ (pos 1) d ≡ true = omega zarith in
       let u : ltZ d (pos (length check)) ≡ true = omega (zarith, abs d) in
       rw (l, u, m .p-packed, m .b-packed) (marker-round-trip p b e f (m .p-in-range) (m .b-in-range))
 
-  pub marker-told : markerAt base check s ≡ Sound p b e f → IsMarker base check s p b e f
-  unfolding markerAt
-  marker-told h =
+  pub kept-told : keptMarker base check s ≡ Sound p b e f → IsMarker base check s p b e f
+  unfolding keptMarker
+  kept-told h =
       let d = baseAt base check s in
       let tests = guarded (leZ (pos 1) d) (ltZ d (pos (length check))) (markerOf (checkAt base check (natAbs d)) (baseAt base check (natAbs d))) p b e f h in
       let r = sound-read (checkAt base check (natAbs d)) (baseAt base check (natAbs d)) p b e f (tests .2) in
       record { some-base = omega zarith; inside = omega (zarith, abs d); p-packed = r .0; b-packed = r .1; p-in-range = r .2; b-in-range = r .3 }
+
+-- what a node of n words says where it is sound: p and nothing else
+pub record IsOwn (base check : List ℤ) (s : ℕ) (p b : ℤ) (e f : Bool) : Type 0 where
+  pub packed : baseAt base check s ≡ markerCheck p
+  pub p-in-range : inProbability p ≡ true
+  pub no-b : b ≡ pos 0
+  pub no-e : e ≡ false
+  pub no-f : f ≡ false
+
+pub own-told : (base check : List ℤ) (s : ℕ) (p b : ℤ) (e f : Bool) → ownMarker base check s ≡ Sound p b e f → IsOwn base check s p b e f
+unfolding ownMarker markerOf
+own-told base check s p b e f h =
+    let own = baseAt base check s in
+    let r = sound-read own (pos 0) p b e f h in
+    let said = guarded (inProbability (own +ℤ pos 1)) (inBackoff (half (half (pos 0)))) (Sound (own +ℤ pos 1) (half (half (pos 0))) (odd (half (pos 0))) (odd (pos 0))) p b e f h .2 in
+    record { packed = r .0; p-in-range = r .2; no-b = sym (cc); no-e = sym (cc); no-f = sym (cc) }
+
+-- which of the two a node has
+module _ (base check : List ℤ) (k s : ℕ) where
+  pub marker-own : k ≡ orderIn check → markerAt base check k s ≡ ownMarker base check s
+  unfolding markerAt
+  marker-own e = rw (eq-eqb k (orderIn check) e)
+
+  pub marker-kept : k ≢ orderIn check → markerAt base check k s ≡ keptMarker base check s
+  unfolding markerAt
+  marker-kept n = rw (ne-eqb k (orderIn check) n)
+
+  -- either way p and b are in range
+  pub marker-in-range : (p b : ℤ) (e f : Bool) → markerAt base check k s ≡ Sound p b e f → (inProbability p ≡ true) × (inBackoff b ≡ true)
+  unfolding inBackoff between
+  marker-in-range p b e f h = go (ℕ-discrete k (orderIn check))
+    where
+      go : Dec (k ≡ orderIn check) → (inProbability p ≡ true) × (inBackoff b ≡ true)
+      go (yes q) = let o = own-told base check s p b e f (sym (marker-own q) ∙ h) in (o .p-in-range, rw (o .no-b))
+      go (no q) = let m = kept-told base check s p b e f (sym (marker-kept q) ∙ h) in (m .p-in-range, m .b-in-range)
 
 -- ---- children
 
@@ -235,13 +269,13 @@ module _ (base check : List ℤ) (s w t : ℕ) where
   unfolding isWord
   child-word h = leb-true 1 w (and-left (leb 1 w) (leb w wordLimit) (child-told h .word))
 
--- a node whose marker is sound
-module _ (base check : List ℤ) (s : ℕ) (p b : ℤ) (e f : Bool) (sound : markerAt base check s ≡ Sound p b e f) where
+-- a node that keeps a sound marker
+module _ (base check : List ℤ) (s : ℕ) (p b : ℤ) (e f : Bool) (sound : keptMarker base check s ≡ Sound p b e f) where
   abbrev d : ℤ
   d = baseAt base check s
 
   m : IsMarker base check s p b e f
-  m = marker-told base check s p b e f sound
+  m = kept-told base check s p b e f sound
 
   -- its marker's CHECK is negative
   pub marker-unowned : ownedBy check s (natAbs d) ≡ Nothing
@@ -358,16 +392,18 @@ module _ (base check : List ℤ) (h : isArray base check ≡ true) where
   opened-order = let o = order-told check (opened-head .order) in omega (zarith, abs (getD check 0 freeCheck))
 
   -- the marker of the root is slot 1
-  pub root-sound : markerAt base check 0 ≡ Sound (pos 0) (half (half (baseAt base check 1))) (odd (half (baseAt base check 1))) (odd (baseAt base check 1))
-  unfolding markerAt inProbability inBackoff between
+  pub root-sound : markerAt base check 0 0 ≡ Sound (pos 0) (half (half (baseAt base check 1))) (odd (half (baseAt base check 1))) (odd (baseAt base check 1))
+  unfolding keptMarker inProbability inBackoff between
   root-sound =
+      let n = opened-order in
       let z = opened-sizes in
       let inside : ltZ (pos 1) (pos (length check)) ≡ true = omega zarith in
       let rows = baseAt base check 1 in
       let l = between-low (pos 3) (pos rowLimit) rows (opened-head .rows) in
       let u = between-high (pos 3) (pos rowLimit) rows (opened-head .rows) in
       let b = between-yes (negℤ (pos largestBackoff)) (pos largestBackoff) (half (half rows)) (omega (zarith, shr 2 rows tt, shr 2 (half rows) tt)) (omega (zarith, shr 2 rows tt, shr 2 (half rows) tt)) in
-      rw (opened-head .root-base, inside, opened-head .root-check) (marker-sound (negsuc 0) rows (and-both _ _ refl b))
+      marker-kept base check 0 0 (λ q. absurd (omega arith))
+      ∙ rw (opened-head .root-base, inside, opened-head .root-check) (marker-sound (negsuc 0) rows (and-both _ _ refl b))
 
   -- BASE[0] is 1, and no slot behind it is a child's
   pub root-child : (w : ℕ) → rootChild check w ≡ childAt base check 0 w
@@ -402,20 +438,37 @@ opened-none base check h = rw h
 
 -- ---- the walk
 
-module _ (base check : List ℤ) (s : ℕ) where
-  pub look-here : (p b : ℤ) (e f : Bool) → markerAt base check s ≡ Sound p b e f → lookFrom base check s [] ≡ here (record { p = p; b = b; e = e; f = f })
+module _ (base check : List ℤ) (k s : ℕ) where
+  pub look-here : (p b : ℤ) (e f : Bool) → markerAt base check k s ≡ Sound p b e f → lookFrom base check k s [] ≡ here (record { p = p; b = b; e = e; f = f })
   unfolding lookFrom
   look-here p b e f m = rw m
 
-  pub look-down : (p b : ℤ) (e f : Bool) (w : ℕ) (ws : List ℕ) → markerAt base check s ≡ Sound p b e f → lookFrom base check s (w ∷ ws) ≡ downTo (childAt base check s w) (λ (t : ℕ). lookFrom base check t ws)
+  pub look-down : (p b : ℤ) (e f : Bool) (w : ℕ) (ws : List ℕ) → markerAt base check k s ≡ Sound p b e f → lookFrom base check k s (w ∷ ws) ≡ downTo (childAt base check s w) (λ (t : ℕ). lookFrom base check (suc k) t ws)
   unfolding lookFrom
   look-down p b e f w ws m = rw m
 
-  pub look-broken : (ws : List ℕ) → markerAt base check s ≡ Broken → lookFrom base check s ws ≡ broken
+  pub look-broken : (ws : List ℕ) → markerAt base check k s ≡ Broken → lookFrom base check k s ws ≡ broken
   unfolding lookFrom
   look-broken [] e = rw e
   look-broken (w ∷ ws) e = rw e
 
-pub look-row : (base check : List ℤ) (l : List ℕ) → 1 ≤ length l → lookRow base check l ≡ lookFrom base check 0 l
+-- a node whose BASE is negative has no child,
+pub negative-childless : (base check : List ℤ) (s : ℕ) {c : ℕ} → baseAt base check s ≡ negsuc c → (w : ℕ) → childAt base check s w ≡ Nothing
+negative-childless base check s b w = go (childAt base check s w) refl
+  where
+    go : (r : Child) → childAt base check s w ≡ r → r ≡ Nothing
+    go (At t) e = let l = child-told base check s w t e .some-base in absurd (omega (zarith, b))
+    go Nothing e = refl
+
+-- so that no walk goes on from a sound node of n words
+pub look-below-longest : (base check : List ℤ) (s : ℕ) (p b : ℤ) (e f : Bool) (w : ℕ) (ws : List ℕ) → markerAt base check (orderIn check) s ≡ Sound p b e f → lookFrom base check (orderIn check) s (w ∷ ws) ≡ absent
+unfolding inProbability
+look-below-longest base check s p b e f w ws m =
+    let o = own-told base check s p b e f (sym (marker-own base check (orderIn check) s refl) ∙ m) in
+    let high = between-high leastProbability (pos 0) p (o .p-in-range) in
+    let negative : baseAt base check s ≡ negsuc (natAbs p) = omega (zarith, o .packed, sub p (pos 1), abs p) in
+    look-down base check (orderIn check) s p b e f w ws m ∙ rw (negative-childless base check s negative w)
+
+pub look-row : (base check : List ℤ) (l : List ℕ) → 1 ≤ length l → lookRow base check l ≡ lookFrom base check 0 0 l
 look-row base check [] h = absurd (omega arith)
 look-row base check (w ∷ ws) h = refl

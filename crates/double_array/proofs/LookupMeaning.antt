@@ -81,7 +81,7 @@ module _ (base check : List ℤ) (ws : List ℕ) where
     unfolding lookupOutcome storeIn
     lookup-above-order l u h = rw (opened-some base check array, le-leb 1 (length ws) l, le-leb (length ws) orderLimit u, lt-leb (length ws) (orderIn check) h)
 
-    pub lookup-walks : 1 ≤ length ws → length ws ≤ orderIn check → lookupOutcome base check ws ≡ lookupOf (lookFrom base check 0 (reverse ws))
+    pub lookup-walks : 1 ≤ length ws → length ws ≤ orderIn check → lookupOutcome base check ws ≡ lookupOf (lookFrom base check 0 0 (reverse ws))
     unfolding lookupOutcome storeIn
     lookup-walks l h =
         let n = opened-order base check array in

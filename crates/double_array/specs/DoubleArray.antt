@@ -3,7 +3,7 @@
 use mathlib.Core.Bool.{Bool, true, false, cond, _&&_}
 use mathlib.Core.List.{List, [], _∷_}
 use mathlib.Core.Option.{Option, none, some}
-use Prim.Native.Nat.{ℕ, _+_, _-_}
+use Prim.Native.Nat.{ℕ, suc, _+_, _-_}
 use lib.Dec.{eqb, leb, ltb}
 use lib.ListN.{length, getD}
 use lib.IntN.{ℤ, pos, negsuc, natAbs, _+ℤ_, _-ℤ_}
@@ -22,12 +22,16 @@ use Rattle.double_array.specs.declared.Child.the-variants.{At, Nothing}
 abbrev pub freeCheck : ℤ
 freeCheck = negsuc 2147483647
 
--- "CHECK[0] becomes n + 16, and arrays headed otherwise give 11": the order, and what is added to it there
+-- "CHECK[0] becomes n + 24, and 11 meets any other head": the order, and what is added to it there
 abbrev pub headOffset : ℕ
-headOffset = 16
+headOffset = 24
 
 abbrev pub headCheck : ℕ → ℤ
 headCheck n = pos (n + headOffset)
+
+-- the order that CHECK[0] tells
+unfoldable pub orderIn : List ℤ → ℕ
+orderIn check = natAbs (getD check 0 freeCheck) - headOffset
 
 -- "A row's marker has CHECK = p − 1", and "BASE becomes 4 × b + 2 × e + f"
 abbrev pub markerCheck : ℤ → ℤ
@@ -72,8 +76,16 @@ module _ (base check : List ℤ) where
   checkAt s = getD check s freeCheck
 
   -- The marker of the node in slot s, whose BASE is d: "A marker is sound if 1 ≤ d < N and the p and b read from it are in range."
-  unfoldable pub markerAt : ℕ → Marker
-  markerAt s = cond (leZ (pos 1) (baseAt s) && ltZ (baseAt s) (pos (length check))) (markerOf (checkAt (natAbs (baseAt s))) (baseAt (natAbs (baseAt s)))) Broken
+  unfoldable pub keptMarker : ℕ → Marker
+  keptMarker s = cond (leZ (pos 1) (baseAt s) && ltZ (baseAt s) (pos (length check))) (markerOf (checkAt (natAbs (baseAt s))) (baseAt (natAbs (baseAt s)))) Broken
+
+  -- "the node's own BASE holds p − 1", and there is no b, e or f: what a marker says that has this CHECK and BASE 0
+  unfoldable pub ownMarker : ℕ → Marker
+  ownMarker s = markerOf (baseAt s) (pos 0)
+
+  -- What the node in slot s says, to which k words lead: "Rows of n words .. give up their marker", and "All other nodes keep theirs, the root included."
+  unfoldable pub markerAt : ℕ → ℕ → Marker
+  markerAt k s = cond (eqb k (orderIn check)) (ownMarker s) (keptMarker s)
 
   -- "a child exists if 1 ≤ d, d + w < N and CHECK[d + w] = s", and else on the other side; a word "outside 1..65,535 is unlisted"
   unfoldable pub childAt : ℕ → ℕ → Child
@@ -96,10 +108,11 @@ abbrev pub downTo : Child → (ℕ → Look) → Look
 downTo (At t) rest = rest t
 downTo Nothing rest = absent
 
--- The walk from the node in slot s: every node that it reaches needs a sound marker.
-unfoldable pub lookFrom : List ℤ → List ℤ → ℕ → List ℕ → Look
-lookFrom base check s [] = lookMarker (markerAt base check s)
-lookFrom base check s (w ∷ ws) = past (markerAt base check s) (downTo (childAt base check s w) (λ (t : ℕ). lookFrom base check t ws))
+-- The walk from the node in slot s, to which k words have led: every node that it reaches needs a sound marker. A node of n words that has one has a negative
+-- BASE, and so no child.
+unfoldable pub lookFrom : List ℤ → List ℤ → ℕ → ℕ → List ℕ → Look
+lookFrom base check k s [] = lookMarker (markerAt base check k s)
+lookFrom base check k s (w ∷ ws) = past (markerAt base check k s) (downTo (childAt base check s w) (λ (t : ℕ). lookFrom base check (suc k) t ws))
 
 -- "BASE and CHECK differ in length, N out of range": what 2 and 11 leave of the lengths
 unfoldable pub sizesOk : List ℤ → List ℤ → Bool
@@ -120,13 +133,10 @@ headOk base check =
 abbrev pub isArray : List ℤ → List ℤ → Bool
 isArray base check = sizesOk base check && headOk base check
 
-unfoldable pub orderIn : List ℤ → ℕ
-orderIn check = natAbs (getD check 0 freeCheck) - headOffset
-
 -- what the array has for words, newest first: what the walk from the root comes to, but nothing for the empty sequence, as the root is no row
 abbrev pub lookRow : List ℤ → List ℤ → List ℕ → Look
 lookRow base check [] = absent
-lookRow base check (w ∷ ws) = lookFrom base check 0 (w ∷ ws)
+lookRow base check (w ∷ ws) = lookFrom base check 0 0 (w ∷ ws)
 
 -- the array as a store
 unfoldable pub storeIn : List ℤ → List ℤ → Store

@@ -8,14 +8,14 @@ ghost use lib.ListN.{length, getD, replicate};
 ghost use lib.IntN.{negsuc};
 ghost use Rattle.backoff.specs.Limits.{wordLimit, orderLimit, slotLimit};
 ghost use Rattle.backoff.specs.Model.{inProbability, inBackoff};
-ghost use Rattle.double_array.specs.DoubleArray.{freeCheck, headCheck, markerCheck, markerBase, markerOf, markerAt, childSlot, wordAt, ownedBy, onEitherSide, childAt, rootChild, lookFrom, sizesOk, orderOk, headOk, isArray, orderIn};
+ghost use Rattle.double_array.specs.DoubleArray.{freeCheck, headCheck, markerCheck, markerBase, markerOf, keptMarker, markerAt, childSlot, wordAt, ownedBy, onEitherSide, childAt, rootChild, lookMarker, lookFrom, sizesOk, orderOk, headOk, isArray, orderIn};
 ghost use Rattle.double_array.specs.Lookup.{lookupOf, lookupOutcome, numberOf, placeOf, foundOf, pOf, bOf, leftOf, LookupMeans};
 
 // CHECK of a free slot; its BASE is 0.
 pub const FREE: i32 = -2147483648;
 
 // CHECK[0] is the order and this.
-const HEAD_OFFSET: i32 = 16;
+const HEAD_OFFSET: i32 = 24;
 
 const LEAST_HEAD: i32 = 1 + HEAD_OFFSET;
 
@@ -28,6 +28,9 @@ const LEAST_CHECK: i32 = backoff::LEAST_PROBABILITY - 1;
 const LEAST_BASE: i32 = 4 * backoff::LEAST_BACKOFF;
 
 const LARGEST_BASE: i32 = 4 * backoff::LARGEST_BACKOFF + 3;
+
+// The largest number of 32 bits.
+const ONES: usize = 4294967295;
 
 // What a marker says. The paper's "sound" marker holds a p and a b in range; `e` is set where some row puts a further word in front of this one, `f` where
 // some row is this row followed by one more word.
@@ -94,11 +97,11 @@ fn marker_of(check: i32, base: i32) -> Marker
     }
 }
 
-// The marker of the node in slot s.
-pub fn read_marker(base: &[i32], check: &[i32], s: usize) -> Marker
+// The marker of the node in slot s, which keeps one.
+pub fn kept_marker(base: &[i32], check: &[i32], s: usize) -> Marker
     requires { ⌜ length (now base) ≡ length (now check) ⌝ }
     requires { ⌜ s < length (now base) ⌝ }
-    ensures { λ r. ⌜ r ≡ markerAt (now (base .entry)) (now (check .entry)) s ⌝ }
+    ensures { λ r. ⌜ r ≡ keptMarker (now (base .entry)) (now (check .entry)) s ⌝ }
 {
     let d = base[s];
     if d < 1 {
@@ -109,6 +112,19 @@ pub fn read_marker(base: &[i32], check: &[i32], s: usize) -> Marker
         return Marker::Broken;
     }
     marker_of(check[t], base[t])
+}
+
+// What the node in slot s says, to which `depth` words lead. One of n words has no marker: its own BASE holds p − 1.
+pub fn read_marker(base: &[i32], check: &[i32], order: usize, depth: usize, s: usize) -> Marker
+    requires { ⌜ length (now base) ≡ length (now check) ⌝ }
+    requires { ⌜ s < length (now base) ⌝ }
+    requires { ⌜ order ≡ orderIn (now check) ⌝ }
+    ensures { λ r. ⌜ r ≡ markerAt (now (base .entry)) (now (check .entry)) depth s ⌝ }
+{
+    if depth == order {
+        return marker_of(base[s], 0);
+    }
+    kept_marker(base, check, s)
 }
 
 // Slot t, which the array has, as a child of the node in slot s: CHECK there names its parent.
@@ -162,11 +178,13 @@ fn on_either_side(check: &[i32], s: usize, d: usize, w: usize) -> Child
     owned_by(check, s, d - w)
 }
 
-// The slot behind d for word w, or d where that is not at least 1.
+// The slot behind d for word w, or d where that is not at least 1. A carry decides: of a test the compiler would make a branch.
 fn slot_behind(d: usize, w: usize) -> usize
+    requires { ⌜ (d < 2147483648) × (w ≤ wordLimit) ⌝ }
     ensures { λ r. ⌜ r ≡ cond (ltb w d) (childSlot true d w) d ⌝ }
 {
-    if w < d { d - w } else { d }
+    let carry = (d + ONES - w) >> 32;
+    d - w * carry
 }
 
 // The child for word w of the node in slot s whose marker lies in slot d. Both slots are read, without a branch on whether one lies behind d, which a processor
@@ -251,33 +269,43 @@ pub fn order_of(check: &[i32]) -> usize
     (check[0] - HEAD_OFFSET) as usize
 }
 
-// The answer of the walk from the root over the words, newest first. The root's marker is sound in every array.
-fn walk(base: &[i32], check: &[i32], words: &[u32]) -> Lookup
+// The answer of a lookup that ends at a node with this marker.
+fn found_at(marker: Marker) -> Lookup
+    ensures { λ r. ⌜ r ≡ lookupOf (lookMarker marker) ⌝ }
+{
+    let Marker::Sound { p, b, e, f: _ } = marker else {
+        return Lookup::Refused {
+            number: backoff::BROKEN_NODE,
+            place: 0,
+        };
+    };
+    Lookup::Found { p, b, left: e }
+}
+
+// The answer of the walk from the root over the words, newest first, of which there are no more than n, so that every node on it but the last keeps its marker. The
+// root's is sound in every array.
+fn walk(base: &[i32], check: &[i32], order: usize, words: &[u32]) -> Lookup
     requires { ⌜ isArray (now base) (now check) ≡ true ⌝ }
-    requires { ⌜ 1 ≤ length (now words) ⌝ }
-    ensures { λ r. ⌜ r ≡ lookupOf (lookFrom (now (base .entry)) (now (check .entry)) 0 (reverse (now (words .entry)))) ⌝ }
+    requires { ⌜ order ≡ orderIn (now check) ⌝ }
+    requires { ⌜ (1 ≤ length (now words)) × (length (now words) ≤ order) ⌝ }
+    ensures { λ r. ⌜ r ≡ lookupOf (lookFrom (now (base .entry)) (now (check .entry)) 0 0 (reverse (now (words .entry)))) ⌝ }
 {
     let mut left = words.len() - 1;
     let Child::At(first) = root_child(check, words[left]) else {
         return Lookup::NotFound;
     };
     let mut s = first;
-    loop {
-        let Marker::Sound { p, b, e, f: _ } = read_marker(base, check, s) else {
-            return Lookup::Refused {
-                number: backoff::BROKEN_NODE,
-                place: 0,
-            };
+    while 0 < left {
+        let Marker::Sound { .. } = kept_marker(base, check, s) else {
+            return found_at(Marker::Broken);
         };
-        if left == 0 {
-            return Lookup::Found { p, b, left: e };
-        }
         left -= 1;
         let Child::At(t) = find_child(base, check, s, words[left]) else {
             return Lookup::NotFound;
         };
         s = t;
     }
+    found_at(read_marker(base, check, order, words.len(), s))
 }
 
 // The paper's lookup: the p, b and left extension of the row that the words are, oldest first.
@@ -298,10 +326,11 @@ pub fn look_up(base: &[i32], check: &[i32], words: &[u32]) -> Lookup
             place: 0,
         };
     }
-    if order_of(check) < count {
+    let order = order_of(check);
+    if order < count {
         return Lookup::NotFound;
     }
-    walk(base, check, words)
+    walk(base, check, order, words)
 }
 
 // Writes one value everywhere.

@@ -22,7 +22,7 @@ use Rattle.list.specs.Check.{tableFits, verdict}
 use Rattle.list.proofs.Check.{accepted-row}
 use Rattle.double_array.specs.DoubleArray.{childSlot, sizesOk}
 use Rattle.placing.specs.Trie.{Node, childOf, children}
-use Rattle.placing.specs.Placing.{Room, isFree, update, isOpen, allOpen, fits, search, firstFit, own, reach, give, Placed, settle, placeAt, place, placeAll, placing}
+use Rattle.placing.specs.Placing.{Room, isFree, update, isOpen, allOpen, fits, search, firstFit, own, reach, give, Placed, settle, placeAt, withMarker, withoutMarker, place, placeAll, placing}
 use Rattle.build.specs.ListTrie.{nodeOf, rootOf, nodesFrom, nodesOf, placedList, slotsFrom, rowSlots}
 use Rattle.build.specs.Build.{Built, untouched, emptied, filled, checkedBuild, buildOutcome}
 use Rattle.finer.specs.FinerList.{OlderPoints, takenOver}
@@ -99,24 +99,33 @@ module _ {P Q : Placed} (A : PlacedAlike P Q) (m n : Node) (e : m .words ≡ n .
         top = ap (λ (x : ℕ). reach x behind d ws) (A .top);
       }
 
-  place-same : PlacedAlike (place m ws P) (place n ws Q)
-  unfolding place placeAt
-  place-same =
+  marked-same : PlacedAlike (withMarker m ws P) (withMarker n ws Q)
+  unfolding withMarker placeAt
+  marked-same =
       let d : firstFit (P .check) ws (P .top) ≡ firstFit (Q .check) ws (Q .top) = firstFit-same (P .check) (Q .check) (A .free) ws (P .top) ∙ ap (firstFit (Q .check) ws) (A .top) in
       let fit = firstFit (Q .check) ws (Q .top) in
       rw (d, allOpen-same (P .check) (Q .check) (A .free) true fit ws) (settle-same (allOpen (Q .check) true fit ws) fit)
 
-placeAll-same : {as′ bs : List Node} → SameNodes as′ bs → {ms ns : List Node} → SameNodes ms ns → {P Q : Placed} → PlacedAlike P Q → PlacedAlike (placeAll as′ ms P) (placeAll bs ns Q)
+  place-same : (order : ℕ) → PlacedAlike (place order m ws P) (place order n ws Q)
+  unfolding place withoutMarker
+  place-same order =
+      subst (λ (us : List ℕ). PlacedAlike (cond (eqb (length us) order) (withoutMarker m P) (withMarker m ws P)) (place order n ws Q)) (sym e) (go (eqb (length (n .words)) order))
+    where
+      go : (b : Bool) → PlacedAlike (cond b (withoutMarker m P) (withMarker m ws P)) (cond b (withoutMarker n Q) (withMarker n ws Q))
+      go true = record { free = A .free; slot = A .slot; top = A .top }
+      go false = marked-same
+
+placeAll-same : (order : ℕ) {as′ bs : List Node} → SameNodes as′ bs → {ms ns : List Node} → SameNodes ms ns → {P Q : Placed} → PlacedAlike P Q → PlacedAlike (placeAll order as′ ms P) (placeAll order bs ns Q)
 unfolding placeAll
-placeAll-same all none A = A
-placeAll-same {as′ = as′} {bs = bs} all (next {m = m} {n = n} e c d s) {P = P} {Q = Q} A =
-    placeAll-same all s
-    (subst (λ (ws : List ℕ). PlacedAlike (place m (children as′ (m .words)) P) (place n ws Q)) (children-same all (m .words) ∙ ap (children bs) e)
-    (place-same A m n e c d (children as′ (m .words))))
+placeAll-same order all none A = A
+placeAll-same order {as′ = as′} {bs = bs} all (next {m = m} {n = n} e c d s) {P = P} {Q = Q} A =
+    placeAll-same order all s
+    (subst (λ (ws : List ℕ). PlacedAlike (place order m (children as′ (m .words)) P) (place order n ws Q)) (children-same all (m .words) ∙ ap (children bs) e)
+    (place-same A m n e c d (children as′ (m .words)) order))
 
 placing-same : (order : ℕ) {ms ns : List Node} → SameNodes ms ns → PlacedAlike (placing order ms) (placing order ns)
 unfolding placing
-placing-same order s = placeAll-same s s (record { free = λ t. refl; slot = refl; top = refl })
+placing-same order s = placeAll-same order s s (record { free = λ t. refl; slot = refl; top = refl })
 
 -- ---- the nodes of a list in the older points, and of the list that it becomes
 

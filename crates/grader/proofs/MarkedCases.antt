@@ -11,12 +11,12 @@ use Rattle.backoff.specs.Store.{modelIn, walkedWord, endsBroken, stepFrom, word
 use Rattle.list.specs.Table.{rowsOf, field, lengthOf, orderOf, wordsOf, words, withoutFirst, withoutLast}
 use Rattle.list.specs.Order.{lastLess, precedes}
 use Rattle.list.specs.Search.{findBelow, findIn}
-use Rattle.list.specs.Check.{tableFits, placeFits, placesFit, backoffFits, fieldFault, isAfter, withoutFirsts, shorterListed, orderFault, rowFault, reservedListed, scan, verdictFor, verdict}
+use Rattle.list.specs.Check.{tableFits, placeFits, placesFit, backoffFits, fieldFault, isAfter, withoutFirsts, shorterListed, orderFault, rowFault, reservedListed, scan, verdictFor}
 use Rattle.list.specs.ListModel.{anyBelow, extendedIn, continuedIn, modelOf}
-use Rattle.double_array.specs.DoubleArray.{markerOf, markerAt, childAt, lookFrom, sizesOk, orderOk, headOk, orderIn, storeIn, opened}
+use Rattle.double_array.specs.DoubleArray.{markerOf, keptMarker, ownMarker, markerAt, childAt, lookFrom, sizesOk, orderOk, headOk, orderIn, storeIn, opened}
 use Rattle.double_array.specs.Lookup.{lookupOutcome}
 use Rattle.placing.specs.Trie.{children}
-use Rattle.placing.specs.Placing.{isFree, update, isOpen, allOpen, fits, search, firstFit, own, reach as reachSlots, give, settle, placeAt, place, placeAll, unplaced, placing, slots}
+use Rattle.placing.specs.Placing.{isFree, update, isOpen, allOpen, fits, search, firstFit, own, reach as reachSlots, give, settle, placeAt, withMarker, withoutMarker, place, placeAll, unplaced, placing, slots}
 use Rattle.build.specs.ListTrie.{nodeOf, rootOf, nodesFrom, nodesOf, placedList, slotsFrom, rowSlots}
 use Rattle.build.specs.Build.{untouched, emptied, filled, buildOutcome}
 use Rattle.plain.specs.Plain.{plainOutcome}
@@ -24,7 +24,7 @@ use Rattle.grader.specs.RunsInARow.{arrayOf}
 use Rattle.grader.specs.MarkedCases.{MarkedCases}
 
 pub marked-cases : MarkedCases
-unfolding between upTo sameWords isWord inProbability inBackoff listed probability backoff extended continued live reach addPoints lengthByte replaced scoreAfter historyLength rule ruleByte grow rulePoints ruleBytes largest climb backoffsOf newest liveLength walk matchedFrom pointsFrom extendedFrom nextFrom refusal accepted written refusedRun acceptedRun front plain all padded nine countOf stateIn stateOk modelIn walkedWord endsBroken stepFrom wordStep step runOver runOutcome startOutcome rowsOf field lengthOf orderOf wordsOf words withoutFirst withoutLast lastLess precedes findBelow findIn tableFits placeFits placesFit backoffFits fieldFault isAfter withoutFirsts shorterListed orderFault rowFault reservedListed scan verdictFor anyBelow extendedIn continuedIn modelOf markerOf markerAt childAt lookFrom sizesOk orderOk headOk orderIn storeIn opened lookupOutcome children isFree update isOpen allOpen fits search firstFit own reachSlots give settle placeAt place placeAll unplaced placing slots nodeOf rootOf nodesFrom nodesOf placedList slotsFrom rowSlots untouched emptied filled buildOutcome plainOutcome arrayOf
+unfolding between upTo sameWords isWord inProbability inBackoff listed probability backoff extended continued live reach addPoints lengthByte replaced scoreAfter historyLength rule ruleByte grow rulePoints ruleBytes largest climb backoffsOf newest liveLength walk matchedFrom pointsFrom extendedFrom nextFrom refusal accepted written refusedRun acceptedRun front plain all padded nine countOf stateIn stateOk modelIn walkedWord endsBroken stepFrom wordStep step runOver runOutcome startOutcome rowsOf field lengthOf orderOf wordsOf words withoutFirst withoutLast lastLess precedes findBelow findIn tableFits placeFits placesFit backoffFits fieldFault isAfter withoutFirsts shorterListed orderFault rowFault reservedListed scan verdictFor anyBelow extendedIn continuedIn modelOf markerOf keptMarker ownMarker markerAt childAt lookFrom sizesOk orderOk headOk orderIn storeIn opened lookupOutcome children isFree update isOpen allOpen fits search firstFit own reachSlots give settle placeAt withMarker withoutMarker place placeAll unplaced placing slots nodeOf rootOf nodesFrom nodesOf placedList slotsFrom rowSlots untouched emptied filled buildOutcome plainOutcome arrayOf
 marked-cases = record {
   k1 = record { run = refl; plain = refl };
   k2 = record { run = refl; plain = refl };
@@ -40,6 +40,10 @@ marked-cases = record {
   k8-marker = refl;
   k8-check = refl;
   k8-base = refl;
+  own-base = refl;
+  own-check = refl;
+  no-marker = refl;
+  own-found = refl;
   k9-zero = refl;
   k9-one = refl;
 }

@@ -40,10 +40,10 @@ use Rattle.unload.proofs.Meaning.{held-unloads, held-slot}
 use Rattle.grader.specs.Returns.{ReturnsList}
 
 -- in a layout, words lead to the slot of their node
-walk-laid-out : {nodes : List Node} {slot : List ℕ → ℕ} {base check : List ℤ} → Ready nodes → LaidOut nodes slot base check → (us : List ℕ) → walkTo base check us ≡ childIf (findNode nodes us) (slot us)
+walk-laid-out : {order : ℕ} {nodes : List Node} {slot : List ℕ → ℕ} {base check : List ℤ} → Ready order nodes → LaidOut nodes slot base check → (us : List ℕ) → walkTo base check us ≡ childIf (findNode nodes us) (slot us)
 unfolding walkTo
 walk-laid-out R L [] = let r = root-found R in rw (r .1, L .root)
-walk-laid-out {nodes} {slot} {base} {check} R L (w ∷ us) = go (findNode nodes us) refl (walk-laid-out R L us)
+walk-laid-out {order} {nodes} {slot} {base} {check} R L (w ∷ us) = go (findNode nodes us) refl (walk-laid-out R L us)
   where
     orphan : findNode nodes us ≡ none → (o : Option Node) → findNode nodes (w ∷ us) ≡ o → o ≡ none
     orphan q none e = refl

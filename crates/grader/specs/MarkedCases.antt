@@ -13,6 +13,7 @@ use Rattle.backoff.specs.Store.{Store, startOutcome, runOutcome}
 use Rattle.backoff.specs.declared.Verdict.the-variants.{Accepted, Refused}
 use Rattle.list.specs.Check.{verdict}
 use Rattle.list.specs.Sample.{sample, sampleWith}
+use Rattle.double_array.specs.DoubleArray.{freeCheck}
 use Rattle.double_array.specs.Lookup.{lookupOutcome}
 use Rattle.double_array.specs.declared.Lookup.the-variants.{Found, NotFound}
 use Rattle.build.specs.Build.{Built, buildOutcome}
@@ -56,15 +57,21 @@ pub record MarkedCases : Type 0 where
   -- "K6 lookup 2 4: −4000, −500; 5 4: not found."
   pub k6-listed : lookupOutcome (sampleBuilt 20 .base) (sampleBuilt 20 .check) (2 ∷ 4 ∷ []) ≡ Found (minus 4000) (minus 500) false
   pub k6-unlisted : lookupOutcome (sampleBuilt 20 .base) (sampleBuilt 20 .check) (5 ∷ 4 ∷ []) ≡ NotFound
-  -- "K7 N = 20 builds, N = 19 gives 10." No node of the sample has its children behind its BASE; the head is n + 16.
+  -- "K7 N = 20 builds, N = 19 gives 10." No node of the sample has its children behind its BASE, and its only row of three words has its node in the last slot; the
+  -- head is n + 24.
   pub k7-enough : sampleBuilt 20 .answer ≡ Accepted
   pub k7-too-few : sampleBuilt 19 .answer ≡ Refused noRoom 0
-  pub k7-head : getD (sampleBuilt 20 .check) 0 (pos 0) ≡ pos 19
+  pub k7-head : getD (sampleBuilt 20 .check) 0 (pos 0) ≡ pos 27
   -- "K8 row 2 4 has its node in slot 12 and marker in 16: CHECK −4001", and "K8 shows −1999" as BASE. The row is the seventh.
   pub k8-node : getD (sampleBuilt 20 .work) 6 0 ≡ 12
   pub k8-marker : getD (sampleBuilt 20 .base) 12 (pos 0) ≡ pos 16
   pub k8-check : getD (sampleBuilt 20 .check) 16 (pos 0) ≡ minus 4001
   pub k8-base : getD (sampleBuilt 20 .base) 16 (pos 0) ≡ minus 1999
+  -- "the node's own BASE holds p − 1, its CHECK still the parent": row 2 4 5 in slot 19, its parent in slot 15; no marker takes slot 18
+  pub own-base : getD (sampleBuilt 20 .base) 19 (pos 0) ≡ minus 1001
+  pub own-check : getD (sampleBuilt 20 .check) 19 (pos 0) ≡ pos 15
+  pub no-marker : getD (sampleBuilt 20 .check) 18 (pos 0) ≡ freeCheck
+  pub own-found : lookupOutcome (sampleBuilt 20 .base) (sampleBuilt 20 .check) (2 ∷ 4 ∷ 5 ∷ []) ≡ Found (minus 1000) (pos 0) false
   -- "K9 p = 0 is accepted in row 1, p = 1 gives 5, row 1."
   pub k9-zero : verdict (sampleWith (pos 0)) ≡ Accepted
   pub k9-one : verdict (sampleWith (pos 1)) ≡ Refused rowProbability 1

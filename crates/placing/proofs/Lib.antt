@@ -8,3 +8,4 @@ pub mod NodeByNode
 pub mod Slots
 pub mod Walk
 pub mod Sample
+pub mod TakenSlots

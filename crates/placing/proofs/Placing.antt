@@ -8,10 +8,11 @@ use Prim.Native.Nat.{ℕ, suc, _≤_, _<_}
 use native.Mathlib.Omega.{arith}
 use native.Mathlib.Decide.{ℕ-discrete, decLt}
 use lib.IntN.{pos, negsuc, pos-ne-negsuc}
+use lib.ListN.{length}
 use Rattle.double_array.specs.DoubleArray.{freeCheck, headCheck, childSlot}
 use Rattle.double_array.proofs.DoubleArray.{slots-apart}
 use Rattle.placing.specs.Trie.{Node, children}
-use Rattle.placing.specs.Placing.{Placed, update, own, give, settle}
+use Rattle.placing.specs.Placing.{Placed, update, own, give, settle, withoutMarker}
 use Rattle.backoff.proofs.Words.{same-refl, same-ne}
 use Rattle.placing.proofs.Rooms.{update-same, update-other, Owned, kept, given, own-cases, reach-top, reach-child, Highest, of-before, of-marker, of-child, reach-highest}
 
@@ -57,12 +58,14 @@ pub record Holds (all done : List Node) (P : Placed) (t s : ℕ) : Type 0 where
   pub parent : P .slot (m .words) ≡ s
   pub here : t ≡ P .slot (w ∷ m .words)
 
--- what holds once the nodes `done` of all have taken their d
+-- what holds once the nodes `done` of all are placed
 pub record Inv (order : ℕ) (all done : List Node) (P : Placed) : Type 0 where
   pub head : P .check 0 ≡ headCheck order
   pub root : P .slot [] ≡ 0
   pub closed : (m : Node) → List·Memᴰ m done → Slotted all done (m .words)
-  pub lies : (m : Node) → List·Memᴰ m done → Lies all P m
+  pub short : (us : List ℕ) (w : ℕ) → List·Memᴰ w (children all us) → length us < order
+  pub lies : (m : Node) → List·Memᴰ m done → length (m .words) ≢ order → Lies all P m
+  pub own-base : (m : Node) → List·Memᴰ m done → length (m .words) ≡ order → P .base (P .slot (m .words)) ≡ negsuc (m .cost)
   pub holds : (t s : ℕ) → 1 ≤ t → P .check t ≡ pos s → Holds all done P t s
   pub past : (t : ℕ) → P .top ≤ t → P .check t ≡ freeCheck
   pub last : (t : ℕ) → P .top ≡ suc t → P .check t ≢ freeCheck
@@ -77,12 +80,16 @@ pub record ChildLies (all done : List Node) (P : Placed) (w : ℕ) (us : List �
   pub parent : Slotted all done us
 
 module _ {order : ℕ} {all done : List Node} {P : Placed} (I : Inv order all done P) where
+  -- a node with a child lies with a marker
+  parent-lies : (m : Node) → List·Memᴰ m done → (w : ℕ) → List·Memᴰ w (children all (m .words)) → Lies all P m
+  parent-lies m h w k = I .lies m h (λ e. absurd (omega (arith, I .short (m .words) w k)))
+
   pub child-lies : (w : ℕ) (us : List ℕ) → Slotted all done (w ∷ us) → ChildLies all done P w us
   child-lies w us t = subst (λ (vs : List ℕ). ChildLies all done P w vs) (t .2) (of-parent (t .0) (t .1) (rw (t .2) (t .3)))
     where
       of-parent : (m : Node) → List·Memᴰ m done → List·Memᴰ w (children all (m .words)) → ChildLies all done P w (m .words)
       of-parent m h k =
-          let a = I .lies m h in
+          let a = parent-lies m h w k in
           record {
             positive = rw (a .child-slot w k) (a .child-positive w k);
             check = rw (a .child-slot w k) (a .child-check w k);
@@ -95,7 +102,7 @@ module _ {order : ℕ} {all done : List Node} {P : Placed} (I : Inv order all do
     where
       of-parent : (m : Node) → List·Memᴰ m done → List·Memᴰ u (children all (m .words)) → List·Memᴰ v (children all (m .words)) → P .slot (u ∷ m .words) ≡ P .slot (v ∷ m .words) → u ≡ v
       of-parent m h x y q =
-          let a = I .lies m h in
+          let a = parent-lies m h u x in
           slots-apart (a .behind) (a .behind) (a .d) u v (a .child-word u x) (a .child-word v y) (a .child-positive u x) (a .child-positive v y) (sym (a .child-slot u x) ∙ q ∙ a .child-slot v y) .1
 
   -- two nodes with a slot lie in different slots
@@ -117,17 +124,17 @@ module _ {order : ℕ} {all done : List Node} {P : Placed} (I : Inv order all do
   not-negative (u ∷ us) p t c n e = pos-ne-negsuc _ _ (sym (child-lies u us p .check) ∙ ap (P .check) e ∙ n)
 
   -- a marker's slot is not free
-  pub marker-used : (m : Node) (h : List·Memᴰ m done) → P .check (I .lies m h .d) ≢ freeCheck
-  marker-used m h e =
-      let a = I .lies m h in
+  pub marker-used : (m : Node) (h : List·Memᴰ m done) (n : length (m .words) ≢ order) → P .check (I .lies m h n .d) ≢ freeCheck
+  marker-used m h n e =
+      let a = I .lies m h n in
       let q : m .cost ≡ 2147483647 = cc in
       absurd (omega (arith, a .used))
 
   -- a child is found only where it is listed, and on the side where it lies
-  pub only-children : (m : Node) (h : List·Memᴰ m done) (behind : Bool) (w : ℕ) → 1 ≤ w → 1 ≤ childSlot behind (I .lies m h .d) w → P .check (childSlot behind (I .lies m h .d) w) ≡ pos (P .slot (m .words))
-      → (behind ≡ I .lies m h .behind) × List·Memᴰ w (children all (m .words))
-  only-children m h behind w p l e =
-      let a = I .lies m h in
+  pub only-children : (m : Node) (h : List·Memᴰ m done) (n : length (m .words) ≢ order) (behind : Bool) (w : ℕ) → 1 ≤ w → 1 ≤ childSlot behind (I .lies m h n .d) w
+      → P .check (childSlot behind (I .lies m h n .d) w) ≡ pos (P .slot (m .words)) → (behind ≡ I .lies m h n .behind) × List·Memᴰ w (children all (m .words))
+  only-children m h n behind w p l e =
+      let a = I .lies m h n in
       let o = I .holds (childSlot behind (a .d) w) (P .slot (m .words)) l e in
       let same : o .m .words ≡ m .words = slots-distinct (o .m .words) (m .words) (I .closed (o .m) (o .is-done)) (I .closed m h) (o .parent) in
       let k : List·Memᴰ (o .w) (children all (m .words)) = subst (λ (us : List ℕ). List·Memᴰ (o .w) (children all us)) same (o .is-child) in
@@ -146,12 +153,34 @@ module _ {order : ℕ} {all done : List Node} {P : Placed} (I : Inv order all do
   pub slot-below-top : (us : List ℕ) → Slotted all done us → P .slot us < P .top
   slot-below-top us p = below-top (P .slot us) (λ e. not-negative us p (P .slot us) 2147483647 e refl)
 
--- ---- one node more takes its d
+-- ---- one node more
 
--- what is asked of the next node n, of its d and of the side on which its children lie
-pub record Next (all done : List Node) (P : Placed) (n : Node) (behind : Bool) (d : ℕ) : Type 0 where
+-- what is asked of the next node n
+pub record Next (all done : List Node) (n : Node) : Type 0 where
   pub slotted : Slotted all done (n .words)
   pub fresh : (m : Node) → List·Memᴰ m done → m .words ≢ n .words
+
+module _ (done : List Node) (n : Node) where
+  n-in : List·Memᴰ n (done ++ (n ∷ []))
+  n-in = Memᴰ·append-right done (List·Memᴰ·head refl)
+
+  by-cases : {X : Node → Type 0} → ((m : Node) → List·Memᴰ m done → X m) → X n → (m : Node) → List·Memᴰ m (done ++ (n ∷ [])) → X m
+  by-cases {X} f x m h = go (List·Memᴰ·append-cases done h)
+    where
+      go : List·Memᴰ m done ⊎ List·Memᴰ m (n ∷ []) → X m
+      go (inl k) = f m k
+      go (inr k) = subst X (sym (List·Memᴰ·eq-of-singleton k)) x
+
+  slotted-more : (all : List Node) (us : List ℕ) → Slotted all done us → Slotted all (done ++ (n ∷ [])) us
+  slotted-more all [] p = p
+  slotted-more all (w ∷ us) p = (p .0, Memᴰ·append-left (n ∷ []) (p .1), p .2, p .3)
+
+-- ---- it takes its d
+
+-- what is asked of its d and of the side on which its children lie
+pub record NextMarked (order : ℕ) (all done : List Node) (P : Placed) (n : Node) (behind : Bool) (d : ℕ) : Type 0 where
+  pub next : Next all done n
+  pub fewer : length (n .words) ≢ order
   pub used : n .cost < 2147483647
   pub positive : (w : ℕ) → List·Memᴰ w (children all (n .words)) → 1 ≤ w
   pub d-positive : 1 ≤ d
@@ -159,7 +188,7 @@ pub record Next (all done : List Node) (P : Placed) (n : Node) (behind : Bool) (
   pub children-positive : (w : ℕ) → List·Memᴰ w (children all (n .words)) → 1 ≤ childSlot behind d w
   pub children-free : (w : ℕ) → List·Memᴰ w (children all (n .words)) → P .check (childSlot behind d w) ≡ freeCheck
 
-module _ {order : ℕ} {all done : List Node} {P : Placed} (I : Inv order all done P) {n : Node} {behind : Bool} {d : ℕ} (N : Next all done P n behind d) where
+module _ {order : ℕ} {all done : List Node} {P : Placed} (I : Inv order all done P) {n : Node} {behind : Bool} {d : ℕ} (N : NextMarked order all done P n behind d) where
   abbrev ws : List ℕ
   ws = children all (n .words)
 
@@ -174,10 +203,10 @@ module _ {order : ℕ} {all done : List Node} {P : Placed} (I : Inv order all do
   stays us p = slot-kept n ws behind d P us (λ w e. other w us e p)
     where
       other : (w : ℕ) (us : List ℕ) → us ≡ w ∷ n .words → Slotted all done us → ⊥
-      other w us e p = let q = subst (Slotted all done) e p in N .fresh (q .0) (q .1) (q .2)
+      other w us e p = let q = subst (Slotted all done) e p in N .next .fresh (q .0) (q .1) (q .2)
 
   own-stays : P′ .slot (n .words) ≡ s
-  own-stays = stays (n .words) (N .slotted)
+  own-stays = stays (n .words) (N .next .slotted)
 
   -- CHECK
   check-d : P′ .check d ≡ negsuc (n .cost)
@@ -218,7 +247,7 @@ module _ {order : ℕ} {all done : List Node} {P : Placed} (I : Inv order all do
   base-d : P′ .base d ≡ n .load
   unfolding settle
   base-d =
-      update-other (update (P .base) d (n .load)) s (pos d) d (λ e. not-negative I (n .words) (N .slotted) d 2147483647 (N .d-free) (sym e))
+      update-other (update (P .base) d (n .load)) s (pos d) d (λ e. not-negative I (n .words) (N .next .slotted) d 2147483647 (N .d-free) (sym e))
       ∙ update-same (P .base) d (n .load) d refl
 
   -- the BASE of a node that was done stays
@@ -226,30 +255,13 @@ module _ {order : ℕ} {all done : List Node} {P : Placed} (I : Inv order all do
   base-stays m h =
       let p : Slotted all done (m .words) = I .closed m h in
       ap (P′ .base) (stays (m .words) p)
-      ∙ base-other (P .slot (m .words)) (λ e. N .fresh m h (slots-distinct I (m .words) (n .words) p (N .slotted) e))
+      ∙ base-other (P .slot (m .words)) (λ e. N .next .fresh m h (slots-distinct I (m .words) (n .words) p (N .next .slotted) e))
       (not-negative I (m .words) p d 2147483647 (N .d-free))
 
   pub root-stays : (r : Node) → List·Memᴰ r done → r .words ≡ [] → P′ .base 0 ≡ P .base 0
   root-stays r h e = cc (base-stays r h, stays (r .words) (I .closed r h), I .root)
 
   -- the invariant, part by part
-  abbrev more : List Node
-  more = done ++ (n ∷ [])
-
-  n-in : List·Memᴰ n more
-  n-in = Memᴰ·append-right done (List·Memᴰ·head refl)
-
-  by-cases : {X : Node → Type 0} → ((m : Node) → List·Memᴰ m done → X m) → X n → (m : Node) → List·Memᴰ m more → X m
-  by-cases {X} f x m h = go (List·Memᴰ·append-cases done h)
-    where
-      go : List·Memᴰ m done ⊎ List·Memᴰ m (n ∷ []) → X m
-      go (inl k) = f m k
-      go (inr k) = subst X (sym (List·Memᴰ·eq-of-singleton k)) x
-
-  slotted-more : (us : List ℕ) → Slotted all done us → Slotted all more us
-  slotted-more [] p = p
-  slotted-more (w ∷ us) p = (p .0, Memᴰ·append-left (n ∷ []) (p .1), p .2, p .3)
-
   n-lies : Lies all P′ n
   n-lies = record {
     d = d;
@@ -265,31 +277,31 @@ module _ {order : ℕ} {all done : List Node} {P : Placed} (I : Inv order all do
     child-check = λ w h. check-child w h ∙ ap pos (sym own-stays);
   }
 
-  done-lies : (m : Node) → List·Memᴰ m done → Lies all P′ m
-  done-lies m h =
-      let a = I .lies m h in
-      let off-s : a .d ≢ s = λ e. not-negative I (n .words) (N .slotted) (a .d) (m .cost) (a .marker-check) (sym e) in
-      let off-d : a .d ≢ d = λ e. marker-used I m h (ap (P .check) e ∙ N .d-free) in
+  done-lies : (m : Node) → List·Memᴰ m done → length (m .words) ≢ order → Lies all P′ m
+  done-lies m h k =
+      let a = I .lies m h k in
+      let off-s : a .d ≢ s = λ e. not-negative I (n .words) (N .next .slotted) (a .d) (m .cost) (a .marker-check) (sym e) in
+      let off-d : a .d ≢ d = λ e. marker-used I m h k (ap (P .check) e ∙ N .d-free) in
       record {
         d = a .d;
         d-positive = a .d-positive;
         base = base-stays m h ∙ a .base;
-        marker-check = check-stays (a .d) (marker-used I m h) ∙ a .marker-check;
+        marker-check = check-stays (a .d) (marker-used I m h k) ∙ a .marker-check;
         marker-base = base-other (a .d) off-s off-d ∙ a .marker-base;
         used = a .used;
         behind = a .behind;
         child-word = a .child-word;
         child-positive = a .child-positive;
-        child-slot = λ w k. stays (w ∷ m .words) (m, h, refl, k) ∙ a .child-slot w k;
-        child-check = λ w k.
-            check-stays (childSlot (a .behind) (a .d) w) (λ e. pos-ne-negsuc _ _ (sym (a .child-check w k) ∙ e))
-            ∙ a .child-check w k ∙ ap pos (sym (stays (m .words) (I .closed m h)));
+        child-slot = λ w c. stays (w ∷ m .words) (m, h, refl, c) ∙ a .child-slot w c;
+        child-check = λ w c.
+            check-stays (childSlot (a .behind) (a .d) w) (λ e. pos-ne-negsuc _ _ (sym (a .child-check w c) ∙ e))
+            ∙ a .child-check w c ∙ ap pos (sym (stays (m .words) (I .closed m h)));
       }
 
-  holds-more : (t u : ℕ) → 1 ≤ t → P′ .check t ≡ pos u → Holds all more P′ t u
+  holds-more : (t u : ℕ) → 1 ≤ t → P′ .check t ≡ pos u → Holds all (done ++ (n ∷ [])) P′ t u
   holds-more t u l e = go (ℕ-discrete t d)
     where
-      old : Holds all done P t u → Holds all more P′ t u
+      old : Holds all done P t u → Holds all (done ++ (n ∷ [])) P′ t u
       old o = record {
         m = o .m;
         w = o .w;
@@ -299,18 +311,18 @@ module _ {order : ℕ} {all done : List Node} {P : Placed} (I : Inv order all do
         here = o .here ∙ sym (stays (o .w ∷ o .m .words) (o .m, o .is-done, refl, o .is-child));
       }
 
-      cases : own behind d s ws (P .check) t ≡ pos u → Owned behind d s ws t (P .check t) (own behind d s ws (P .check) t) → Holds all more P′ t u
+      cases : own behind d s ws (P .check) t ≡ pos u → Owned behind d s ws t (P .check t) (own behind d s ws (P .check) t) → Holds all (done ++ (n ∷ [])) P′ t u
       cases q (kept r f) = old (I .holds t u l (sym r ∙ q))
       cases q (given w h p r) = record {
         m = n;
         w = w;
-        is-done = n-in;
+        is-done = n-in done n;
         is-child = h;
         parent = cc own-stays;
         here = p ∙ sym (slot-given n ws behind d P w (n .words) refl);
       }
 
-      go : Dec (t ≡ d) → Holds all more P′ t u
+      go : Dec (t ≡ d) → Holds all (done ++ (n ∷ [])) P′ t u
       go (yes q) = absurd (pos-ne-negsuc _ _ (sym e ∙ ap (P′ .check) q ∙ check-d))
       go (no q) = cases (sym (check-other t q) ∙ e) (own-cases behind d s ws (P .check) t)
 
@@ -341,7 +353,7 @@ module _ {order : ℕ} {all done : List Node} {P : Placed} (I : Inv order all do
       cases : t ≢ d → own behind d s ws (P .check) t ≡ freeCheck → Owned behind d s ws t (P .check t) (own behind d s ws (P .check) t) → P′ .base t ≡ pos 0
       cases q f (kept r u) =
           let free : P .check t ≡ freeCheck = sym r ∙ f in
-          base-other t (λ z. not-negative I (n .words) (N .slotted) t 2147483647 free (sym z)) q ∙ I .blank t free
+          base-other t (λ z. not-negative I (n .words) (N .next .slotted) t 2147483647 free (sym z)) q ∙ I .blank t free
       cases q f (given w h p r) = absurd (pos-ne-negsuc _ _ (sym r ∙ f))
 
       go : Dec (t ≡ d) → P′ .base t ≡ pos 0
@@ -354,10 +366,72 @@ module _ {order : ℕ} {all done : List Node} {P : Placed} (I : Inv order all do
   settle-keeps = record {
     head = check-stays 0 (λ e. pos-ne-negsuc _ _ (sym (I .head) ∙ e)) ∙ I .head;
     root = stays [] tt ∙ I .root;
-    closed = λ m h. slotted-more (m .words) (by-cases {X = λ (k : Node). Slotted all done (k .words)} (I .closed) (N .slotted) m h);
-    lies = by-cases {X = Lies all P′} done-lies n-lies;
+    closed = λ m h. slotted-more done n all (m .words) (by-cases done n {X = λ (k : Node). Slotted all done (k .words)} (I .closed) (N .next .slotted) m h);
+    short = I .short;
+    lies = by-cases done n {X = λ (m : Node). length (m .words) ≢ order → Lies all P′ m} done-lies (λ e. n-lies);
+    own-base = by-cases done n {X = λ (m : Node). length (m .words) ≡ order → P′ .base (P′ .slot (m .words)) ≡ negsuc (m .cost)} (λ m h e. base-stays m h ∙ I .own-base m h e) (λ e. absurd (N .fewer e));
     holds = holds-more;
     past = past-more;
     last = last-more;
     blank = blank-more;
+  }
+
+-- ---- or it has n words and takes none
+
+module _ {order : ℕ} {all done : List Node} {P : Placed} (I : Inv order all done P) {n : Node} (N : Next all done n) (longest : length (n .words) ≡ order) where
+  abbrev bare : Placed
+  bare = withoutMarker n P
+
+  -- BASE of other nodes, and of slots whose CHECK is negative, stays
+  bare-stays : (m : Node) → List·Memᴰ m done → bare .base (P .slot (m .words)) ≡ P .base (P .slot (m .words))
+  unfolding withoutMarker
+  bare-stays m h =
+      update-other (P .base) (P .slot (n .words)) (negsuc (n .cost)) (P .slot (m .words))
+      (λ e. N .fresh m h (slots-distinct I (m .words) (n .words) (I .closed m h) (N .slotted) e))
+
+  bare-negative : (t c : ℕ) → P .check t ≡ negsuc c → bare .base t ≡ P .base t
+  unfolding withoutMarker
+  bare-negative t c e = update-other (P .base) (P .slot (n .words)) (negsuc (n .cost)) t (λ z. not-negative I (n .words) (N .slotted) t c e (sym z))
+
+  pub bare-root : (r : Node) → List·Memᴰ r done → r .words ≡ [] → bare .base 0 ≡ P .base 0
+  bare-root r h e = cc (bare-stays r h, I .root)
+
+  bare-lies : (m : Node) → List·Memᴰ m done → length (m .words) ≢ order → Lies all bare m
+  unfolding withoutMarker
+  bare-lies m h k =
+      let a = I .lies m h k in
+      record {
+        d = a .d;
+        d-positive = a .d-positive;
+        base = bare-stays m h ∙ a .base;
+        marker-check = a .marker-check;
+        marker-base = bare-negative (a .d) (m .cost) (a .marker-check) ∙ a .marker-base;
+        used = a .used;
+        behind = a .behind;
+        child-word = a .child-word;
+        child-positive = a .child-positive;
+        child-slot = a .child-slot;
+        child-check = a .child-check;
+      }
+
+  bare-holds : (t u : ℕ) → 1 ≤ t → bare .check t ≡ pos u → Holds all (done ++ (n ∷ [])) bare t u
+  unfolding withoutMarker
+  bare-holds t u l e =
+      let o = I .holds t u l e in
+      record { m = o .m; w = o .w; is-done = Memᴰ·append-left (n ∷ []) (o .is-done); is-child = o .is-child; parent = o .parent; here = o .here }
+
+  pub bare-keeps : Inv order all (done ++ (n ∷ [])) (withoutMarker n P)
+  unfolding withoutMarker
+  bare-keeps = record {
+    head = I .head;
+    root = I .root;
+    closed = λ m h. slotted-more done n all (m .words) (by-cases done n {X = λ (k : Node). Slotted all done (k .words)} (I .closed) (N .slotted) m h);
+    short = I .short;
+    lies = by-cases done n {X = λ (m : Node). length (m .words) ≢ order → Lies all bare m} bare-lies (λ e. absurd (e longest));
+    own-base = by-cases done n {X = λ (m : Node). length (m .words) ≡ order → bare .base (P .slot (m .words)) ≡ negsuc (m .cost)} (λ m h e. bare-stays m h ∙ I .own-base m h e)
+        (λ e. update-same (P .base) (P .slot (n .words)) (negsuc (n .cost)) (P .slot (n .words)) refl);
+    holds = bare-holds;
+    past = I .past;
+    last = I .last;
+    blank = λ t e. bare-negative t 2147483647 e ∙ I .blank t e;
   }

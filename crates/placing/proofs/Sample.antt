@@ -1,20 +1,22 @@
 -- The sample's trie and the array that the rule places for it, computed. Assumes nothing.
 use mathlib.Core.Path.{_≡_, refl, sym, ap, _∙_}
 use mathlib.Core.Logic.{_≢_}
-use mathlib.Core.Bool.{Bool, true, false, not, _&&_, false≢true}
+use mathlib.Core.Bool.{Bool, true, false, not, _&&_, _||_, false≢true}
 use mathlib.Core.List.{List, [], _∷_, map}
 use Prim.Native.Nat.{ℕ, zero, suc, _<_}
 use native.Mathlib.Omega.{arith}
 use native.Mathlib.Decide.{ℕ-discrete}
-use borrow.Author.Tests.{ltb-true}
-use lib.Dec.{ltb}
+use borrow.Author.Tests.{leb-true, ltb-true, eq-eqb}
+use lib.Dec.{eqb, leb, ltb}
 use lib.IntN.{pos, negsuc, negℤ}
 use lib.ListN.{length, getD}
+use Rattle.integer.specs.Integer.{eqZ}
+use Rattle.integer.proofs.Arithmetic.{zarith}
 use Rattle.integer.proofs.Ranges.{and-left, and-right}
 use Rattle.backoff.specs.Words.{sameWords, isWord, areWords}
 use Rattle.double_array.specs.DoubleArray.{freeCheck, markerBase}
 use Rattle.placing.specs.Trie.{Node, children, nodeAt, HasParent, Ready}
-use Rattle.placing.specs.Placing.{Placed, isFree, update, isOpen, allOpen, fits, search, firstFit, own, reach, give, settle, placeAt, place, placeAll, unplaced, placing, slots, usedSlots}
+use Rattle.placing.specs.Placing.{Placed, isFree, update, isOpen, allOpen, fits, search, firstFit, own, reach, give, settle, placeAt, withMarker, withoutMarker, place, placeAll, unplaced, placing, slots, usedSlots, takenSlots}
 use Rattle.backoff.proofs.Words.{same-eq, same-refl}
 
 -- a row's node, from its words, −p, −b, e and f
@@ -36,7 +38,7 @@ sampleNodes =
     ∷ []
 
 samplePlaced : Placed
-unfolding sameWords children isFree update isOpen allOpen fits search firstFit own reach give settle placeAt place placeAll unplaced placing slots
+unfolding sameWords children isFree update isOpen allOpen fits search firstFit own reach give settle placeAt withMarker withoutMarker place placeAll unplaced placing slots
 samplePlaced = placing 3 sampleNodes
 
 -- so N = 20 is enough, and N = 19 is not
@@ -45,12 +47,12 @@ unfolding samplePlaced
 sample-top = refl
 
 sample-base : slots 20 (placing 3 sampleNodes .base)
-    ≡ pos 1 ∷ pos 9 ∷ pos 7 ∷ pos 8 ∷ pos 9 ∷ pos 10 ∷ pos 11 ∷ pos 0 ∷ negsuc 11998 ∷ pos 2 ∷ negsuc 7996 ∷ negsuc 3996 ∷ pos 16 ∷ pos 0 ∷ pos 13 ∷ pos 17 ∷ negsuc 1998 ∷ pos 2 ∷ pos 0 ∷ pos 18 ∷ []
+    ≡ pos 1 ∷ pos 9 ∷ pos 7 ∷ pos 8 ∷ pos 9 ∷ pos 10 ∷ pos 11 ∷ pos 0 ∷ negsuc 11998 ∷ pos 2 ∷ negsuc 7996 ∷ negsuc 3996 ∷ pos 16 ∷ pos 0 ∷ pos 13 ∷ pos 17 ∷ negsuc 1998 ∷ pos 2 ∷ pos 0 ∷ negsuc 1000 ∷ []
 unfolding samplePlaced
 sample-base = refl
 
 sample-check : slots 20 (placing 3 sampleNodes .check)
-    ≡ pos 19 ∷ negsuc 0 ∷ pos 0 ∷ pos 0 ∷ pos 0 ∷ pos 0 ∷ pos 0 ∷ negsuc 20000 ∷ negsuc 990000 ∷ negsuc 10000 ∷ negsuc 6000 ∷ negsuc 9000 ∷ pos 5 ∷ negsuc 1500 ∷ pos 4 ∷ pos 6 ∷ negsuc 4000 ∷ negsuc 3000 ∷ negsuc 1000 ∷ pos 15 ∷ []
+    ≡ pos 27 ∷ negsuc 0 ∷ pos 0 ∷ pos 0 ∷ pos 0 ∷ pos 0 ∷ pos 0 ∷ negsuc 20000 ∷ negsuc 990000 ∷ negsuc 10000 ∷ negsuc 6000 ∷ negsuc 9000 ∷ pos 5 ∷ negsuc 1500 ∷ pos 4 ∷ pos 6 ∷ negsuc 4000 ∷ negsuc 3000 ∷ freeCheck ∷ pos 15 ∷ []
 unfolding samplePlaced
 sample-check = refl
 
@@ -63,6 +65,11 @@ sample-slots = refl
 sample-used : usedSlots (slots 25 (placing 3 sampleNodes .check)) ≡ 20
 unfolding samplePlaced usedSlots
 sample-used = refl
+
+-- Two for each of the ten nodes, but one for the row of three words: 19 are taken.
+sample-taken : takenSlots (slots 25 (placing 3 sampleNodes .check)) ≡ 19
+unfolding samplePlaced takenSlots
+sample-taken = refl
 
 used-past-free : usedSlots (pos 0 ∷ freeCheck ∷ pos 0 ∷ freeCheck ∷ []) ≡ 3
 unfolding isFree usedSlots
@@ -79,14 +86,20 @@ behindPlaced : Placed
 behindPlaced = placing 2 (row [] 0 0 false false ∷ row (1 ∷ []) 0 0 true false ∷ row (3 ∷ []) 0 0 false false ∷ row (6 ∷ []) 0 0 false false ∷ row (7 ∷ []) 0 0 false false ∷ row (1 ∷ 1 ∷ []) 0 0 false false ∷ row (3 ∷ 1 ∷ []) 0 0 false false ∷ [])
 
 lies-behind : slots 13 (behindPlaced .base)
-    ≡ pos 1 ∷ pos 0 ∷ pos 6 ∷ pos 13 ∷ pos 9 ∷ pos 12 ∷ pos 2 ∷ pos 10 ∷ pos 11 ∷ pos 0 ∷ pos 0 ∷ pos 0 ∷ pos 0 ∷ []
+    ≡ pos 1 ∷ pos 0 ∷ pos 6 ∷ negsuc 0 ∷ pos 9 ∷ negsuc 0 ∷ pos 2 ∷ pos 10 ∷ pos 11 ∷ pos 0 ∷ pos 0 ∷ pos 0 ∷ pos 0 ∷ []
 unfolding samplePlaced behindPlaced
 lies-behind = refl
 
 lies-behind-check : slots 13 (behindPlaced .check)
-    ≡ pos 18 ∷ negsuc 0 ∷ pos 0 ∷ pos 2 ∷ pos 0 ∷ pos 2 ∷ negsuc 0 ∷ pos 0 ∷ pos 0 ∷ negsuc 0 ∷ negsuc 0 ∷ negsuc 0 ∷ negsuc 0 ∷ []
+    ≡ pos 26 ∷ negsuc 0 ∷ pos 0 ∷ pos 2 ∷ pos 0 ∷ pos 2 ∷ negsuc 0 ∷ pos 0 ∷ pos 0 ∷ negsuc 0 ∷ negsuc 0 ∷ negsuc 0 ∷ freeCheck ∷ []
 unfolding samplePlaced behindPlaced
 lies-behind-check = refl
+
+-- Of order 1 no row has a marker, and the root keeps its own.
+one-word-rows : slots 5 (placing 1 (record { words = []; cost = 0; load = pos 3 } ∷ row (1 ∷ []) 5 0 false false ∷ row (2 ∷ []) 6 0 false false ∷ row (3 ∷ []) 7 0 false false ∷ []) .base)
+    ≡ pos 1 ∷ pos 3 ∷ negsuc 5 ∷ negsuc 6 ∷ negsuc 7 ∷ []
+unfolding samplePlaced
+one-word-rows = refl
 
 -- ---- `Ready` asks nothing that the sample has not
 
@@ -130,13 +143,24 @@ sample-distinct i j l h e =
     let t : not (sameWords (words i) (words j)) ≡ true = all-below (apart j) j (all-below (λ j. allBelow (apart j) j) 10 refl j h) i l in
     false≢true (ap not (sym (same-refl (words j))) ∙ ap (λ (us : List ℕ). not (sameWords us (words j))) (sym e) ∙ t)
 
-sample-ready : Ready sampleNodes
+-- the sample's only row of three words
+sample-bare : (i : ℕ) → i < length sampleNodes → length (words i) ≡ 3 → nodeAt sampleNodes i .load ≡ pos 0
+unfolding allBelow
+sample-bare i h e =
+    let t : (not (eqb (length (words i)) 3) || eqZ (nodeAt sampleNodes i .load) (pos 0)) ≡ true = all-below (λ i. not (eqb (length (words i)) 3) || eqZ (nodeAt sampleNodes i .load) (pos 0)) 10 refl i h in
+    let z : eqZ (nodeAt sampleNodes i .load) (pos 0) ≡ true = rw (eq-eqb (length (words i)) 3 e) at t in
+    omega zarith
+
+sample-ready : Ready 3 sampleNodes
 unfolding allBelow areWords isWord
 sample-ready = record {
+  some-words = omega arith;
   nonempty = omega arith;
   root = refl;
   parents = sample-parent;
   distinct = sample-distinct;
   in-words = all-below (λ i. areWords (words i)) 10 refl;
   costs = λ i h. ltb-true (nodeAt sampleNodes i .cost) 2147483647 (all-below (λ i. ltb (nodeAt sampleNodes i .cost) 2147483647) 10 refl i h);
+  short = λ i h. leb-true (length (words i)) 3 (all-below (λ i. leb (length (words i)) 3) 10 refl i h);
+  bare = sample-bare;
 }

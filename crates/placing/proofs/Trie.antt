@@ -8,6 +8,7 @@ use Prim.Native.Nat.{ℕ, zero, suc, _≤_, _<_}
 use native.Mathlib.Omega.{arith}
 use borrow.Author.Tests.{leb-true}
 use lib.Dec.{leb}
+use lib.IntN.{pos}
 use lib.ListN.{length}
 use Rattle.integer.proofs.Ranges.{and-left}
 use Rattle.backoff.specs.Limits.{wordLimit}
@@ -96,7 +97,7 @@ in-child nodes m w us h e =
 
 -- ---- nodes that are ready to be placed
 
-module _ {nodes : List Node} (R : Ready nodes) where
+module _ {order : ℕ} {nodes : List Node} (R : Ready order nodes) where
   pub root-in : List·Memᴰ (nodeAt nodes 0) nodes
   root-in = getD-in nodes 0 _ (R .nonempty)
 
@@ -129,6 +130,20 @@ module _ {nodes : List Node} (R : Ready nodes) where
   child-positive us w h =
       let f = child-found nodes us w h in
       leb-true 1 w (and-left (leb 1 w) (leb w wordLimit) (found-word w us (f .0) (f .1)))
+
+  -- a node that has children has fewer words than the order
+  pub child-short : (us : List ℕ) (w : ℕ) → List·Memᴰ w (children nodes us) → length us < order
+  child-short us w h =
+      let f = child-found nodes us w h in
+      let k = found-in nodes (w ∷ us) (f .0) (f .1) in
+      let i = in-getD nodes _ (f .0) (k .0) in
+      let e : length (nodeAt nodes (i .0) .words) ≡ suc (length us) = ap (λ (m : Node). length (m .words)) (i .2) ∙ ap length (k .1) in
+      omega (arith, R .short (i .0) (i .1), e)
+
+  pub node-bare : (m : Node) → List·Memᴰ m nodes → length (m .words) ≡ order → m .load ≡ pos 0
+  node-bare m h e =
+      let i = in-getD nodes _ m h in
+      sym (ap (λ (k : Node). k .load) (i .2)) ∙ R .bare (i .0) (i .1) (ap (λ (k : Node). length (k .words)) (i .2) ∙ e)
 
   -- a node that is not there has no descendants
   pub absent-below : (q us : List ℕ) → findNode nodes us ≡ none → findNode nodes (reverseAux q us) ≡ none

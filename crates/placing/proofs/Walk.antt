@@ -5,8 +5,9 @@ use mathlib.Core.Logic.{_≢_}
 use mathlib.Core.Bool.{Bool, true, false, false≢true}
 use mathlib.Core.List.{List, [], _∷_, List·Memᴰ, reverse, reverseAux}
 use mathlib.Core.Option.{Option, none, some, Option·none-ne-some}
-use Prim.Native.Nat.{ℕ, _≤_, _<_}
+use Prim.Native.Nat.{ℕ, suc, _≤_, _<_}
 use native.Mathlib.Omega.{arith}
+use native.Mathlib.Decide.{ℕ-discrete}
 use borrow.Author.Tests.{lt-ltb, le-leb}
 use lib.IntN.{ℤ, pos, negsuc, natAbs, pos-ne-negsuc}
 use lib.ListN.{length}
@@ -17,11 +18,11 @@ use Rattle.double_array.specs.declared.Marker.{Marker}
 use Rattle.double_array.specs.declared.Marker.the-variants.{Sound, Broken}
 use Rattle.double_array.specs.declared.Child.{Child}
 use Rattle.double_array.specs.declared.Child.the-variants.{At, Nothing}
-use Rattle.double_array.specs.DoubleArray.{freeCheck, markerOf, childSlot, ownedBy, baseAt, checkAt, markerAt, childAt, lookMarker, past, downTo, lookFrom}
-use Rattle.double_array.proofs.DoubleArray.{owned-none, child-told, child-shown, child-word}
+use Rattle.double_array.specs.DoubleArray.{freeCheck, markerOf, childSlot, ownedBy, baseAt, checkAt, keptMarker, ownMarker, markerAt, childAt, lookMarker, past, downTo, lookFrom, orderIn}
+use Rattle.double_array.proofs.DoubleArray.{marker-own, marker-kept, owned-none, child-told, child-shown, child-word, negative-childless}
 use Rattle.placing.specs.Trie.{Node, children, findNode, Ready}
 use Rattle.placing.specs.Placing.{Placed, placing, slots}
-use Rattle.placing.proofs.Trie.{child-found, found-child, found-in, root-found, found-word, absent-below}
+use Rattle.placing.proofs.Trie.{child-found, found-child, found-in, root-found, found-word, child-short, node-bare, absent-below}
 use Rattle.placing.proofs.Placing.{Lies, Inv, marker-used, only-children, below-top, slot-below-top}
 use Rattle.placing.proofs.NodeByNode.{placing-inv}
 use Rattle.placing.proofs.Slots.{length-slots, getD-slots}
@@ -42,7 +43,7 @@ childIf (some m) t = At t
 -- BASE and CHECK hold the nodes, the node of the words `us` in slot `slot us`
 pub record LaidOut (nodes : List Node) (slot : List ℕ → ℕ) (base check : List ℤ) : Type 0 where
   pub root : slot [] ≡ 0
-  pub marker : (us : List ℕ) (m : Node) → findNode nodes us ≡ some m → markerAt base check (slot us) ≡ nodeMarker m
+  pub marker : (us : List ℕ) (m : Node) → findNode nodes us ≡ some m → markerAt base check (length us) (slot us) ≡ nodeMarker m
   pub child : (us : List ℕ) (m : Node) → findNode nodes us ≡ some m → (w : ℕ) → childAt base check (slot us) w ≡ childIf (findNode nodes (w ∷ us)) (slot (w ∷ us))
 
 -- ---- a layout suffices for walking
@@ -51,27 +52,27 @@ past-sound : (k : Marker) → k ≢ Broken → (rest : Look) → past k rest ≡
 past-sound (Sound p b e f) h rest = refl
 past-sound Broken h rest = absurd (h refl)
 
-module _ {nodes : List Node} {slot : List ℕ → ℕ} {base check : List ℤ} (R : Ready nodes) (L : LaidOut nodes slot base check)
+module _ {order : ℕ} {nodes : List Node} {slot : List ℕ → ℕ} {base check : List ℤ} (R : Ready order nodes) (L : LaidOut nodes slot base check)
     (sound : (m : Node) → List·Memᴰ m nodes → nodeMarker m ≢ Broken) where
   -- the walk from a node
-  pub look-from : (q us : List ℕ) (m : Node) → findNode nodes us ≡ some m → lookFrom base check (slot us) q ≡ lookNode (findNode nodes (reverseAux q us))
+  pub look-from : (q us : List ℕ) (m : Node) → findNode nodes us ≡ some m → lookFrom base check (length us) (slot us) q ≡ lookNode (findNode nodes (reverseAux q us))
   unfolding lookFrom
   look-from [] us m e = rw (L .marker us m e, e)
   look-from (w ∷ q) us m e =
       rw (L .marker us m e)
-      (past-sound (nodeMarker m) (sound m (found-in nodes us m e .0)) (downTo (childAt base check (slot us) w) (λ (t : ℕ). lookFrom base check t q))
+      (past-sound (nodeMarker m) (sound m (found-in nodes us m e .0)) (downTo (childAt base check (slot us) w) (λ (t : ℕ). lookFrom base check (suc (length us)) t q))
       ∙ go (λ k h. look-from q (w ∷ us) k h) (findNode nodes (w ∷ us)) refl)
     where
       there : Look
       there = lookNode (findNode nodes (reverseAux q (w ∷ us)))
 
-      go : ((k : Node) → findNode nodes (w ∷ us) ≡ some k → lookFrom base check (slot (w ∷ us)) q ≡ there)
-          → (o : Option Node) → findNode nodes (w ∷ us) ≡ o → downTo (childAt base check (slot us) w) (λ (t : ℕ). lookFrom base check t q) ≡ there
+      go : ((k : Node) → findNode nodes (w ∷ us) ≡ some k → lookFrom base check (suc (length us)) (slot (w ∷ us)) q ≡ there)
+          → (o : Option Node) → findNode nodes (w ∷ us) ≡ o → downTo (childAt base check (slot us) w) (λ (t : ℕ). lookFrom base check (suc (length us)) t q) ≡ there
       go rec none h = rw (L .child us m e w, h, absent-below R q (w ∷ us) h)
       go rec (some k) h = rw (L .child us m e w, h) (rec k h)
 
   -- a walk from the root over words, newest first, comes to the node of those words
-  pub look-laid-out : (l : List ℕ) → lookFrom base check 0 l ≡ lookNode (findNode nodes (reverse l))
+  pub look-laid-out : (l : List ℕ) → lookFrom base check 0 0 l ≡ lookNode (findNode nodes (reverse l))
   look-laid-out l =
       let r = root-found R in
       rw (L .root) at (look-from l [] (r .0) (r .1))
@@ -79,8 +80,8 @@ module _ {nodes : List Node} {slot : List ℕ → ℕ} {base check : List ℤ} (
 -- ---- what a node's BASE says of its marker and its children
 
 module _ (base check : List ℤ) (s : ℕ) {d : ℕ} (b : baseAt base check s ≡ pos d) (p : 1 ≤ d) where
-  marker-read : d < length check → markerAt base check s ≡ markerOf (checkAt base check d) (baseAt base check d)
-  unfolding markerAt
+  marker-read : d < length check → keptMarker base check s ≡ markerOf (checkAt base check d) (baseAt base check d)
+  unfolding keptMarker
   marker-read l = rw (b, le-leb 1 d p, lt-ltb d (length check) l)
 
   -- a slot on either side of d, as the definition of a child names it
@@ -113,7 +114,7 @@ module _ (base check : List ℤ) (s : ℕ) {d : ℕ} (b : baseAt base check s �
 
 -- ---- the placing rule's array
 
-module _ {order : ℕ} {nodes : List Node} {P : Placed} (R : Ready nodes) (I : Inv order nodes nodes P) {N : ℕ} (room : P .top ≤ N) where
+module _ {order : ℕ} {nodes : List Node} {P : Placed} (R : Ready order nodes) (I : Inv order nodes nodes P) {N : ℕ} (room : P .top ≤ N) where
   abbrev B : List ℤ
   B = slots N (P .base)
 
@@ -125,9 +126,14 @@ module _ {order : ℕ} {nodes : List Node} {P : Placed} (R : Ready nodes) (I : I
       let l : t < P .top = below-top I t h in
       (omega (arith, length-slots N (P .check)), getD-slots N (P .check) t freeCheck (omega arith))
 
-  module _ (m : Node) (h : List·Memᴰ m nodes) where
+  order-read : orderIn C ≡ order
+  unfolding orderIn
+  order-read = rw (check-read 0 (λ z. pos-ne-negsuc _ _ (sym (I .head) ∙ z)) .1, I .head) (omega arith)
+
+  -- a node with a marker
+  module _ (m : Node) (h : List·Memᴰ m nodes) (n : length (m .words) ≢ order) where
     abbrev a : Lies nodes P m
-    a = I .lies m h
+    a = I .lies m h n
 
     abbrev s : ℕ
     s = P .slot (m .words)
@@ -135,17 +141,18 @@ module _ {order : ℕ} {nodes : List Node} {P : Placed} (R : Ready nodes) (I : I
     base-read : baseAt B C s ≡ pos (a .d)
     base-read = getD-slots N (P .base) s (pos 0) (omega (arith, slot-below-top I (m .words) (I .closed m h))) ∙ a .base
 
-    marker-laid : markerAt B C s ≡ nodeMarker m
+    marker-laid : markerAt B C (length (m .words)) s ≡ nodeMarker m
     marker-laid =
-        let c = check-read (a .d) (marker-used I m h) in
-        marker-read B C s base-read (a .d-positive) (c .0)
+        let c = check-read (a .d) (marker-used I m h n) in
+        marker-kept B C (length (m .words)) s (λ e. n (e ∙ order-read))
+        ∙ marker-read B C s base-read (a .d-positive) (c .0)
         ∙ ap₂ markerOf (c .1 ∙ a .marker-check) (getD-slots N (P .base) (a .d) (pos 0) (omega (arith, length-slots N (P .check))) ∙ a .marker-base)
 
     -- a slot that the node owns on a side is a child's, and its children lie on that side
     owned : (behind : Bool) (w : ℕ) → 1 ≤ w → 1 ≤ childSlot behind (a .d) w → childSlot behind (a .d) w < length C → checkAt B C (childSlot behind (a .d) w) ≡ pos s
         → (behind ≡ a .behind) × List·Memᴰ w (children nodes (m .words))
     owned behind w p l i q =
-        only-children I m h behind w p l (sym (getD-slots N (P .check) (childSlot behind (a .d) w) freeCheck (omega (arith, length-slots N (P .check)))) ∙ q)
+        only-children I m h n behind w p l (sym (getD-slots N (P .check) (childSlot behind (a .d) w) freeCheck (omega (arith, length-slots N (P .check)))) ∙ q)
 
     child-laid : (w : ℕ) → childAt B C s w ≡ childIf (findNode nodes (w ∷ m .words)) (P .slot (w ∷ m .words))
     child-laid w = go (findNode nodes (w ∷ m .words)) refl
@@ -162,23 +169,51 @@ module _ {order : ℕ} {nodes : List Node} {P : Placed} (R : Ready nodes) (I : I
             (child-there B C s base-read (a .d-positive) (a .behind) w (found-word R w (m .words) k e) (a .child-positive w is-child) (c .0) (c .1 ∙ q)
             (λ z. owned-none C s (childSlot false (a .d) w) (λ i r. false≢true (owned false w (a .child-word w is-child) (omega (arith, a .d-positive)) i r .0 ∙ z))))
 
+  -- a node of n words, which has nothing but its p and no child
+  module _ (m : Node) (h : List·Memᴰ m nodes) (e : length (m .words) ≡ order) where
+    own-read : baseAt B C (P .slot (m .words)) ≡ negsuc (m .cost)
+    own-read = getD-slots N (P .base) (P .slot (m .words)) (pos 0) (omega (arith, slot-below-top I (m .words) (I .closed m h))) ∙ I .own-base m h e
+
+    own-laid : markerAt B C (length (m .words)) (P .slot (m .words)) ≡ nodeMarker m
+    unfolding ownMarker
+    own-laid =
+        marker-own B C (length (m .words)) (P .slot (m .words)) (e ∙ sym order-read)
+        ∙ ap₂ markerOf own-read (sym (node-bare R m h e))
+
+    own-childless : (w : ℕ) → childAt B C (P .slot (m .words)) w ≡ childIf (findNode nodes (w ∷ m .words)) (P .slot (w ∷ m .words))
+    own-childless w = negative-childless B C (P .slot (m .words)) own-read w ∙ go (findNode nodes (w ∷ m .words)) refl
+      where
+        go : (o : Option Node) → findNode nodes (w ∷ m .words) ≡ o → Nothing ≡ childIf o (P .slot (w ∷ m .words))
+        go none q = refl
+        go (some k) q = absurd (omega (arith, child-short R (m .words) w (found-child nodes (m .words) w k q)))
+
+  -- either
+  node-laid : (m : Node) (h : List·Memᴰ m nodes) → (markerAt B C (length (m .words)) (P .slot (m .words)) ≡ nodeMarker m)
+      × ((w : ℕ) → childAt B C (P .slot (m .words)) w ≡ childIf (findNode nodes (w ∷ m .words)) (P .slot (w ∷ m .words)))
+  node-laid m h = go (ℕ-discrete (length (m .words)) order)
+    where
+      go : Dec (length (m .words) ≡ order) → (markerAt B C (length (m .words)) (P .slot (m .words)) ≡ nodeMarker m)
+          × ((w : ℕ) → childAt B C (P .slot (m .words)) w ≡ childIf (findNode nodes (w ∷ m .words)) (P .slot (w ∷ m .words)))
+      go (yes e) = (own-laid m h e, own-childless m h e)
+      go (no n) = (marker-laid m h n, child-laid m h n)
+
   inv-laid-out : LaidOut nodes (P .slot) (slots N (P .base)) (slots N (P .check))
   inv-laid-out = record {
     root = I .root;
     marker = λ us m e.
         let f = found-in nodes us m e in
-        rw (f .1) at (marker-laid m (f .0));
+        rw (f .1) at (node-laid m (f .0) .0);
     child = λ us m e w.
         let f = found-in nodes us m e in
-        rw (f .1) at (child-laid m (f .0) w);
+        rw (f .1) at (node-laid m (f .0) .1 w);
   }
 
 -- The first N slots of the placed array, N being enough for it, hold the nodes,
-pub placing-laid-out : (order : ℕ) {nodes : List Node} → Ready nodes → (N : ℕ) → placing order nodes .top ≤ N
+pub placing-laid-out : (order : ℕ) {nodes : List Node} → Ready order nodes → (N : ℕ) → placing order nodes .top ≤ N
     → LaidOut nodes (placing order nodes .slot) (slots N (placing order nodes .base)) (slots N (placing order nodes .check))
 placing-laid-out order {nodes} R N room = inv-laid-out R (placing-inv order nodes R) room
 
 -- so that a walk over any words, newest first, comes to the node of those words where there is one, and reads its own marker.
-pub look-placed : (order : ℕ) {nodes : List Node} → Ready nodes → ((m : Node) → List·Memᴰ m nodes → nodeMarker m ≢ Broken) → (N : ℕ) → placing order nodes .top ≤ N
-    → (l : List ℕ) → lookFrom (slots N (placing order nodes .base)) (slots N (placing order nodes .check)) 0 l ≡ lookNode (findNode nodes (reverse l))
+pub look-placed : (order : ℕ) {nodes : List Node} → Ready order nodes → ((m : Node) → List·Memᴰ m nodes → nodeMarker m ≢ Broken) → (N : ℕ) → placing order nodes .top ≤ N
+    → (l : List ℕ) → lookFrom (slots N (placing order nodes .base)) (slots N (placing order nodes .check)) 0 0 l ≡ lookNode (findNode nodes (reverse l))
 look-placed order R sound N room = look-laid-out R (placing-laid-out order R N room) sound

@@ -4,6 +4,7 @@ use mathlib.Core.Bool.{Bool, true, false, cond, _&&_, _||_}
 use mathlib.Core.List.{List, [], _∷_}
 use Prim.Native.Nat.{ℕ, zero, suc, max}
 use lib.Dec.{eqb, leb}
+use lib.ListN.{length}
 use lib.IntN.{ℤ, pos, negsuc}
 use Rattle.integer.specs.Integer.{eqZ}
 use Rattle.backoff.specs.Words.{sameWords}
@@ -79,13 +80,21 @@ unfoldable pub placeAt : Node → List ℕ → ℕ → Placed → Placed
 placeAt n ws d P = settle n ws (allOpen (P .check) true d ws) d P
 
 -- "Each node takes the smallest d ≥ 1 for which d and all its children's slots are free."
-unfoldable pub place : Node → List ℕ → Placed → Placed
-place n ws P = placeAt n ws (firstFit (P .check) ws (P .top)) P
+unfoldable pub withMarker : Node → List ℕ → Placed → Placed
+withMarker n ws P = placeAt n ws (firstFit (P .check) ws (P .top)) P
+
+-- "They give up their marker: the node's own BASE holds p − 1, its CHECK still the parent."
+unfoldable pub withoutMarker : Node → Placed → Placed
+withoutMarker n P = record { base = update (P .base) (P .slot (n .words)) (negsuc (n .cost)); check = P .check; slot = P .slot; top = P .top }
+
+-- "Rows of n words .. give up their marker", and "All other nodes keep theirs, the root included."
+unfoldable pub place : ℕ → Node → List ℕ → Placed → Placed
+place order n ws P = cond (eqb (length (n .words)) order) (withoutMarker n P) (withMarker n ws P)
 
 -- "Nodes are placed in the order root, row 1, row 2 and so on."
-unfoldable pub placeAll : List Node → List Node → Placed → Placed
-placeAll all [] P = P
-placeAll all (n ∷ ns) P = placeAll all ns (place n (children all (n .words)) P)
+unfoldable pub placeAll : ℕ → List Node → List Node → Placed → Placed
+placeAll order all [] P = P
+placeAll order all (n ∷ ns) P = placeAll order all ns (place order n (children all (n .words)) P)
 
 -- the root lies in slot 0, and CHECK[0] tells the order
 unfoldable pub unplaced : ℕ → Placed
@@ -93,7 +102,7 @@ unplaced order = record { base = λ t. pos 0; check = update (λ t. freeCheck) 0
 
 -- the whole array for an order and the nodes, the root first
 unfoldable pub placing : ℕ → List Node → Placed
-placing order nodes = placeAll nodes nodes (unplaced order)
+placing order nodes = placeAll order nodes nodes (unplaced order)
 
 -- the first N slots of a room
 unfoldable pub slots : ℕ → Room → List ℤ
@@ -104,3 +113,8 @@ slots (suc n) f = f 0 ∷ slots n (λ t. f (suc t))
 unfoldable pub usedSlots : List ℤ → ℕ
 usedSlots [] = 0
 usedSlots (c ∷ check) = cond (isFree c && eqb (usedSlots check) 0) 0 (suc (usedSlots check))
+
+-- how many slots of a CHECK slice are not free
+unfoldable pub takenSlots : List ℤ → ℕ
+takenSlots [] = 0
+takenSlots (c ∷ check) = cond (isFree c) (takenSlots check) (suc (takenSlots check))

@@ -6,6 +6,7 @@ pub mod Written
 pub mod Rows
 pub mod Walking
 pub mod Owing
+pub mod Ending
 pub mod Beginning
 pub mod Stepping
 pub mod Running

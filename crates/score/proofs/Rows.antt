@@ -1,24 +1,23 @@
 -- A store's rows from what a look at them comes to; the rows of a double array are in range; its order. Assumes nothing.
 use mathlib.Core.Path.{_≡_, refl, sym, _∙_}
-use mathlib.Core.Bool.{Bool, true, false, not, cond, _&&_, _||_, true≢false, false≢true}
+use mathlib.Core.Bool.{true, false, not, _&&_, _||_, true≢false, false≢true}
 use mathlib.Core.List.{List, [], _∷_}
-use Prim.Native.Nat.{ℕ}
+use Prim.Native.Nat.{ℕ, suc}
 use native.Mathlib.Omega.{arith}
-use lib.ListN.{length}
-use lib.IntN.{ℤ, pos, natAbs, _+ℤ_}
-use lib.Signed.{leZ, ltZ}
-use Rattle.integer.specs.Integer.{eqZ, between, half, odd}
+use lib.IntN.{ℤ, pos}
+use Rattle.integer.specs.Integer.{eqZ, between}
 use Rattle.integer.proofs.Ranges.{and-both}
 use Rattle.backoff.specs.Words.{isWord, areWords}
 use Rattle.backoff.specs.Model.{extended, Entry, isSome, listed, probability, backoff, continued, live, inProbability, inBackoff, probabilityOf, backoffOf}
 use Rattle.backoff.specs.Store.{Look, absent, broken, here, Store, entryOf, isBroken, modelIn}
-use Rattle.double_array.specs.DoubleArray.{baseAt, checkAt, markerOf, markerAt, childAt, lookMarker, past, downTo, lookFrom, storeIn, lookRow}
+use Rattle.double_array.specs.DoubleArray.{markerAt, childAt, lookMarker, past, downTo, lookFrom, storeIn, lookRow}
 use Rattle.double_array.specs.declared.Marker.{Marker}
 use Rattle.double_array.specs.declared.Marker.the-variants.{Sound, Broken}
 use Rattle.double_array.specs.declared.Child.{Child}
 use Rattle.double_array.specs.declared.Child.the-variants.{At, Nothing}
-use Rattle.double_array.proofs.DoubleArray.{child-told}
+use Rattle.double_array.proofs.DoubleArray.{marker-in-range, child-told}
 use Rattle.score.specs.Meaning.{rowsIn}
+use Rattle.score.specs.Inner.{InRange}
 
 module _ (S : Store) (l : List ℕ) where
   pub here-listed : {e : Entry} → S .look l ≡ here e → listed (modelIn S) l ≡ true
@@ -60,42 +59,27 @@ module _ (S : Store) (l : List ℕ) where
 
 -- ---- a double array's rows are in range
 
-abbrev InRange : Look → Type 0
-InRange absent = Unit {0}
-InRange broken = Unit {0}
-InRange (here e) = (inProbability (e .p) ≡ true) × (inBackoff (e .b) ≡ true)
-
-marker-in-range : (check base : ℤ) → InRange (lookMarker (markerOf check base))
-unfolding markerOf
-marker-in-range check base = go (inProbability (check +ℤ pos 1)) refl (inBackoff (half (half base))) refl
-  where
-    go : (s : Bool) → inProbability (check +ℤ pos 1) ≡ s → (t : Bool) → inBackoff (half (half base)) ≡ t → InRange (lookMarker (cond (s && t) (Sound (check +ℤ pos 1) (half (half base)) (odd (half base)) (odd base)) Broken))
-    go true e true f = (e, f)
-    go true e false f = tt
-    go false e t f = tt
-
 module _ (base check : List ℤ) where
-  at-in-range : (s : ℕ) → InRange (lookMarker (markerAt base check s))
-  unfolding markerAt
-  at-in-range s = go (leZ (pos 1) (baseAt base check s) && ltZ (baseAt base check s) (pos (length check)))
+  pub at-in-range : (k s : ℕ) → InRange (lookMarker (markerAt base check k s))
+  at-in-range k s = go (markerAt base check k s) refl
     where
-      go : (t : Bool) → InRange (lookMarker (cond t (markerOf (checkAt base check (natAbs (baseAt base check s))) (baseAt base check (natAbs (baseAt base check s)))) Broken))
-      go true = marker-in-range _ _
-      go false = tt
+      go : (m : Marker) → markerAt base check k s ≡ m → InRange (lookMarker m)
+      go (Sound p b e f) q = marker-in-range base check k s p b e f q
+      go Broken q = tt
 
-  look-in-range : (l : List ℕ) (s : ℕ) → InRange (lookFrom base check s l)
+  look-in-range : (l : List ℕ) (k s : ℕ) → InRange (lookFrom base check k s l)
   unfolding lookFrom
-  look-in-range [] s = at-in-range s
-  look-in-range (w ∷ l) s = go (look-in-range l) (markerAt base check s) (childAt base check s w)
+  look-in-range [] k s = at-in-range k s
+  look-in-range (w ∷ l) k s = go (look-in-range l (suc k)) (markerAt base check k s) (childAt base check s w)
     where
-      go : ((t : ℕ) → InRange (lookFrom base check t l)) → (m : Marker) (c : Child) → InRange (past m (downTo c (λ (t : ℕ). lookFrom base check t l)))
+      go : ((t : ℕ) → InRange (lookFrom base check (suc k) t l)) → (m : Marker) (c : Child) → InRange (past m (downTo c (λ (t : ℕ). lookFrom base check (suc k) t l)))
       go ih (Sound p b e f) (At t) = ih t
       go ih (Sound p b e f) Nothing = tt
       go ih Broken c = tt
 
   row-in-range : (l : List ℕ) → InRange (lookRow base check l)
   row-in-range [] = tt
-  row-in-range (w ∷ l) = look-in-range (w ∷ l) 0
+  row-in-range (w ∷ l) = look-in-range (w ∷ l) 0 0
 
   pub rows-in-probability : (l : List ℕ) → inProbability (probability (rowsIn base check) l) ≡ true
   unfolding probability modelIn storeIn
@@ -116,12 +100,12 @@ module _ (base check : List ℤ) where
       go (here e) r = r .1
 
   -- and made of words
-  look-words : (l : List ℕ) (s : ℕ) (e : Entry) → lookFrom base check s l ≡ here e → areWords l ≡ true
+  look-words : (l : List ℕ) (k s : ℕ) (e : Entry) → lookFrom base check k s l ≡ here e → areWords l ≡ true
   unfolding lookFrom areWords
-  look-words [] s e h = refl
-  look-words (w ∷ l) s e h = go (look-words l) (markerAt base check s) (childAt base check s w) refl h
+  look-words [] k s e h = refl
+  look-words (w ∷ l) k s e h = go (look-words l (suc k)) (markerAt base check k s) (childAt base check s w) refl h
     where
-      go : ((t : ℕ) (x : Entry) → lookFrom base check t l ≡ here x → areWords l ≡ true) → (m : Marker) (c : Child) → childAt base check s w ≡ c → past m (downTo c (λ (t : ℕ). lookFrom base check t l)) ≡ here e → (isWord w && areWords l) ≡ true
+      go : ((t : ℕ) (x : Entry) → lookFrom base check (suc k) t l ≡ here x → areWords l ≡ true) → (m : Marker) (c : Child) → childAt base check s w ≡ c → past m (downTo c (λ (t : ℕ). lookFrom base check (suc k) t l)) ≡ here e → (isWord w && areWords l) ≡ true
       go ih (Sound p b x f) (At t) q k = and-both (isWord w) (areWords l) (child-told base check s w t q .word) (ih t e k)
       go ih (Sound p b x f) Nothing q k = let z : _≡_ {A = ℕ} 0 1 = cc in absurd (omega arith)
       go ih Broken c q k = let z : _≡_ {A = ℕ} 0 1 = cc in absurd (omega arith)
@@ -134,4 +118,4 @@ module _ (base check : List ℤ) where
       go : (k : Look) → lookRow base check (w ∷ l) ≡ k → isSome (entryOf k) ≡ true → areWords (w ∷ l) ≡ true
       go absent q r = absurd (false≢true r)
       go broken q r = absurd (false≢true r)
-      go (here e) q r = look-words (w ∷ l) 0 e q
+      go (here e) q r = look-words (w ∷ l) 0 0 e q

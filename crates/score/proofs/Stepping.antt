@@ -50,12 +50,12 @@ other-word (Sound p b e f) = refl
 other-word Broken = refl
 
 module _ (base check : List ℤ) (h : isArray base check ≡ true) where
-  one-word : (w : ℕ) → storeIn base check .look (w ∷ []) ≡ downTo (childAt base check 0 w) (λ (t : ℕ). lookMarker (markerAt base check t))
+  one-word : (w : ℕ) → storeIn base check .look (w ∷ []) ≡ downTo (childAt base check 0 w) (λ (t : ℕ). lookMarker (markerAt base check 1 t))
   unfolding storeIn lookFrom
-  one-word w = look-down base check 0 _ _ _ _ w [] (root-sound base check h)
+  one-word w = look-down base check 0 0 _ _ _ _ w [] (root-sound base check h)
 
-  at-child : (w : ℕ) (c : Child) → childAt base check 0 w ≡ c → storeIn base check .look (w ∷ []) ≡ downTo c (λ (t : ℕ). lookMarker (markerAt base check t))
-  at-child w c e = one-word w ∙ ap (λ (k : Child). downTo k (λ (t : ℕ). lookMarker (markerAt base check t))) e
+  at-child : (w : ℕ) (c : Child) → childAt base check 0 w ≡ c → storeIn base check .look (w ∷ []) ≡ downTo c (λ (t : ℕ). lookMarker (markerAt base check 1 t))
+  at-child w c e = one-word w ∙ ap (λ (k : Child). downTo k (λ (t : ℕ). lookMarker (markerAt base check 1 t))) e
 
   module _ (w : ℕ) where
     abbrev first : First
@@ -80,10 +80,10 @@ module _ (base check : List ℤ) (h : isArray base check ≡ true) where
         go : (a : Child) → childAt base check 0 w ≡ a → (b : Child) → childAt base check 0 unknownWord ≡ b → firstOf w a b ≡ From slot v → wordAt w (storeIn base check .look (w ∷ [])) (unknownAt (storeIn base check .look (unknownWord ∷ []))) ≡ cond (isBroken (storeIn base check .look (v ∷ []))) none (some v)
         go (At t) p b q e =
             let s : w ≡ v = cc in
-            rw (sym s) (rw (at-child w (At t) p) (own-word w (markerAt base check t) (unknownAt (storeIn base check .look (unknownWord ∷ [])))))
+            rw (sym s) (rw (at-child w (At t) p) (own-word w (markerAt base check 1 t) (unknownAt (storeIn base check .look (unknownWord ∷ [])))))
         go Nothing p (At t) q e =
             let s : unknownWord ≡ v = cc in
-            rw (sym s) (rw (at-child w Nothing p, at-child unknownWord (At t) q) (other-word (markerAt base check t)))
+            rw (sym s) (rw (at-child w Nothing p, at-child unknownWord (At t) q) (other-word (markerAt base check 1 t)))
         go Nothing p Nothing q e = let z : _≡_ {A = ℕ} 0 1 = cc in absurd (omega arith)
 
     pub first-missing : (s : Carried) → first ≡ Missing → wordStep (storeIn base check) s w ≡ stuck

@@ -3,19 +3,21 @@ use mathlib.Core.Path.{_≡_}
 use mathlib.Core.Bool.{Bool, true, false, not, cond, _&&_, _||_}
 use mathlib.Core.List.{List, [], _∷_, map}
 use mathlib.Core.Option.{Option, none, some}
-use Prim.Native.Nat.{ℕ, zero, suc, _+_, _*_, _-_, _/_, _%_, _≤_, min}
-use lib.Dec.{ltb}
-use lib.ListN.{length, take, drop}
-use lib.IntN.{ℤ, pos, natAbs}
+use Prim.Native.Nat.{ℕ, zero, suc, _+_, _*_, _-_, _/_, _%_, _≤_, _<_, min}
+use lib.ListN.{length, take, drop, set}
+use lib.IntN.{ℤ, pos, natAbs, _+ℤ_}
 use Rattle.integer.specs.Integer.{eqZ, sum}
-use Rattle.backoff.specs.Limits.{unknownWord}
+use Rattle.backoff.specs.Limits.{unknownWord, largestBackoff}
 use Rattle.backoff.specs.Refusal.{arrayHead, badState}
 use Rattle.backoff.specs.Words.{radix, threeDigits, key}
-use Rattle.backoff.specs.Model.{inBackoff, reach}
+use Rattle.backoff.specs.Model.{inProbability, inBackoff, reach}
 use Rattle.backoff.specs.Rule.{lengthByte}
 use Rattle.backoff.specs.State.{State as Carried, backoffsOf, liveLength, walk, pointsFrom, extendedFrom}
 use Rattle.backoff.specs.NineNumbers.{all, stateOk}
-use Rattle.backoff.specs.Store.{Store, isBroken, modelIn, Step, scored, endsBroken}
+use Rattle.backoff.specs.Store.{Look, absent, broken, here, Store, isBroken, modelIn, Step, scored, endsBroken}
+use Rattle.double_array.specs.DoubleArray.{markerAt, storeIn}
+use Rattle.double_array.specs.declared.Marker.{Marker}
+use Rattle.double_array.specs.declared.Marker.the-variants.{Sound, Broken}
 use Rattle.double_array.specs.declared.Child.{Child}
 use Rattle.double_array.specs.declared.Child.the-variants.{At, Nothing}
 use Rattle.score.specs.declared.State.{State}
@@ -25,6 +27,8 @@ use Rattle.score.specs.declared.First.{First}
 use Rattle.score.specs.declared.First.the-variants.{From, Missing}
 use Rattle.score.specs.declared.Packed.{Packed}
 use Rattle.score.specs.declared.Kept.{Kept}
+use Rattle.score.specs.declared.Reached.{Reached}
+use Rattle.score.specs.declared.Reached.the-variants.{End, Last, Stuck as ReachedStuck}
 use Rattle.score.specs.declared.Walked.{Walked}
 use Rattle.score.specs.declared.Walked.the-variants.{Whole, Stuck}
 use Rattle.score.specs.declared.Stepped.{Stepped}
@@ -68,9 +72,25 @@ pub record Carries (n : ℕ) (c : Packed) (backoffs : List ℤ) : Type 0 where
   pub in-backoffs : all (map inBackoff (take (c .count) backoffs)) ≡ true
   pub owed : Owes (c .count) (c .owed) backoffs
 
--- the longest live row of fewer than n words: `kept` so far, and now a row with b and f has been read
-abbrev pub longestLive : Kept → Kept → ℕ → ℤ → Bool → Kept
-longestLive kept row n b f = cond (ltb (row .count) n && (not (eqZ b (pos 0)) || f)) row kept
+-- what is there is in range
+abbrev pub InRange : Look → Type 0
+InRange absent = Unit {0}
+InRange broken = Unit {0}
+InRange (here e) = (inProbability (e .p) ≡ true) × (inBackoff (e .b) ≡ true)
+
+-- the longest live row: `kept` so far, and now a row with b and f has been read
+abbrev pub longestLive : Kept → Kept → ℤ → Bool → Kept
+longestLive kept row b f = cond (not (eqZ b (pos 0)) || f) row kept
+
+-- a walk's end at a node with this marker, where so many words are passed, so much of the state's back-offs is owed, and `read` is the sum of the back-offs before it
+abbrev pub endedAt : Marker → ℕ → ℤ → ℤ → Kept → Walked
+endedAt (Sound p b e f) passed owed read kept = Whole (p +ℤ owed) passed (longestLive kept (record { count = passed + 1; owed = read +ℤ b }) b f) e
+endedAt Broken passed owed read kept = Stuck
+
+-- and what it leaves in the lent array
+abbrev pub storedAt : Marker → ℕ → List ℤ → List ℤ
+storedAt (Sound p b e f) passed backoffs = set backoffs passed b
+storedAt Broken passed backoffs = backoffs
 
 -- the walk from v through the words ws met a node without a sound marker
 abbrev pub meetsBroken : Store → List ℕ → ℕ → Bool
@@ -90,6 +110,19 @@ pub record Read (S : Store) (s : Carried) (v : ℕ) (points : ℤ) (passed : ℕ
 abbrev pub WalkedOver : Store → Carried → ℕ → Walked → List ℤ → Type 0
 WalkedOver S s v (Whole points passed kept extended) backoffs = Read S s v points passed kept extended backoffs
 WalkedOver S s v Stuck backoffs = meetsBroken S (s .words) v ≡ true
+
+-- the node that is still to be read is in the array, and the sums are small
+abbrev pub Readable : List ℤ → Reached → Type 0
+Readable base (End points passed kept extended) = Unit {0}
+Readable base (Last slot owed read kept) = (slot < length base) × (natAbs owed ≤ 4 * largestBackoff) × (natAbs read ≤ 4 * largestBackoff)
+Readable base ReachedStuck = Unit {0}
+
+-- how far a walk from the state s, which has `count` words, has come; where a node is still to be read, the walk is whole once it is
+abbrev pub ReachedOver : List ℤ → List ℤ → Carried → ℕ → ℕ → Reached → List ℤ → Type 0
+ReachedOver base check s v count (End points passed kept extended) backoffs = Read (storeIn base check) s v points passed kept extended backoffs
+ReachedOver base check s v count (Last slot owed read kept) backoffs =
+    WalkedOver (storeIn base check) s v (endedAt (markerAt base check (count + 1) slot) count owed read kept) (storedAt (markerAt base check (count + 1) slot) count backoffs)
+ReachedOver base check s v count ReachedStuck backoffs = meetsBroken (storeIn base check) (s .words) v ≡ true
 
 -- what a word v and what was read on the walk from it make of a state's words
 pub record ScoredAs (words v : ℕ) (points : ℤ) (passed : ℕ) (kept : Kept) (extended : Bool) (r : Stepped) : Type 0 where

@@ -4,26 +4,26 @@ use double_array::Marker;
 ghost use mathlib.Core.Path.{_≡_};
 ghost use mathlib.Core.Bool.{Bool, true, false, cond};
 ghost use mathlib.Core.List.{[], _∷_, _++_, map};
-ghost use Prim.Native.Nat.{ℕ, _+_, _%_, _≤_, _<_};
+ghost use Prim.Native.Nat.{ℕ, _+_, _*_, _%_, _≤_, _<_};
 ghost use lib.Dec.{eqb};
 ghost use lib.ListN.{length, take, getD, set, replicate};
 ghost use lib.IntN.{pos, negsuc, natAbs};
 ghost use lib.Signed.{_≤ℤ_};
 ghost use Rattle.integer.specs.Integer.{between, sum};
-ghost use Rattle.backoff.specs.Limits.{unknownWord, startWord, endWord, wordLimit, slotLimit, runLimit};
+ghost use Rattle.backoff.specs.Limits.{unknownWord, startWord, endWord, wordLimit, slotLimit, runLimit, largestBackoff};
 ghost use Rattle.backoff.specs.Refusal.{brokenNode};
 ghost use Rattle.backoff.specs.Words.{isWord, radix, key};
 ghost use Rattle.backoff.specs.Model.{inBackoff};
 ghost use Rattle.backoff.specs.Rule.{lengthByte};
-ghost use Rattle.backoff.specs.State.{empty as emptyState};
+ghost use Rattle.backoff.specs.State.{State as Carried, empty as emptyState};
 ghost use Rattle.backoff.specs.Run.{Run, written, sizeRefusal};
 ghost use Rattle.backoff.specs.NineNumbers.{all, padded, nine, nineZeros, stateIn, stateOk};
 ghost use Rattle.backoff.specs.Store.{isBroken, wordStep, runOver, ranAnswer, runOutcome, refusedStart, startStep, startOutcome};
-ghost use Rattle.double_array.specs.DoubleArray.{freeCheck, markerAt, lookMarker, childAt, rootChild, isArray, orderIn, storeIn, opened};
+ghost use Rattle.double_array.specs.DoubleArray.{freeCheck, keptMarker, lookMarker, childAt, rootChild, isArray, orderIn, storeIn, opened};
 ghost use Rattle.score.specs.Answers.{numbersOf, kindByte, byteOf, answerOf, startedOf, summedOf, summed};
 ghost use Rattle.score.specs.Closing.{pointsOver};
 ghost use Rattle.score.specs.Meaning.{StartMeans, RunMeans};
-ghost use Rattle.score.specs.Inner.{partOk, firstOf, packedAs, heldIn, Carries, longestLive, WalkedOver, ScoredAs, SteppedTo, earlyRefusal};
+ghost use Rattle.score.specs.Inner.{partOk, firstOf, packedAs, heldIn, Carries, InRange, longestLive, endedAt, storedAt, WalkedOver, Readable, ReachedOver, ScoredAs, SteppedTo, earlyRefusal};
 
 // The paper's carried state as its nine signed numbers. A state of the caller's own making may hold any: check 16 decides.
 #[repr(C)]
@@ -88,6 +88,24 @@ struct Packed {
 struct Kept {
     count: usize,
     owed: i32,
+}
+
+// How far a walk through a state's words has come: to its end, as the next word has no child; to the node behind which there are no more words, which is still to
+// be read, with what is owed of the state's back-offs and the sum of those read; or to a node without a sound marker.
+enum Reached {
+    End {
+        points: i32,
+        passed: usize,
+        kept: Kept,
+        extended: bool,
+    },
+    Last {
+        slot: usize,
+        owed: i32,
+        sum: i32,
+        kept: Kept,
+    },
+    Stuck,
 }
 
 // A walk through a state's words: where each node on it had a sound marker, the word's points, how many of the state's words were passed, the
@@ -183,46 +201,71 @@ fn first_node(check: &[i32], w: u32) -> First
     }
 }
 
-// The longest live row of fewer than `order` words, once the row of `count` words has been read too.
-fn longest_live(kept: Kept, count: usize, owed: i32, order: usize, b: i32, f: bool) -> Kept
-    ensures { λ r. ⌜ r ≡ longestLive kept (record { count = count; owed = owed }) order b f ⌝ }
+// The longest live row, once the row of `count` words has been read too. One of n words has neither b nor f.
+fn longest_live(kept: Kept, count: usize, owed: i32, b: i32, f: bool) -> Kept
+    ensures { λ r. ⌜ r ≡ longestLive kept (record { count = count; owed = owed }) b f ⌝ }
 {
-    let live = (b != 0) | f;
-    if (count < order) & live {
+    if (b != 0) | f {
         Kept { count, owed }
     } else {
         kept
     }
 }
 
-// The child for the next older word of a state, where it has more words. A sound marker's slot has no parent, so that the word needs no test for 0.
-fn next_node(base: &[i32], check: &[i32], s: usize, older: u64, more: bool) -> Child
+// The child for the next older word of a state. A sound marker's slot has no parent, so that the word needs no test for 0.
+fn next_node(base: &[i32], check: &[i32], s: usize, older: u64) -> Child
     requires { ⌜ s < length (now base) ⌝ }
     requires { ⌜ length (now base) ≤ slotLimit ⌝ }
-    requires { ⌜ isBroken (lookMarker (markerAt (now base) (now check) s)) ≡ false ⌝ }
-    ensures { λ r. ⌜ r ≡ cond more (childAt (now (base .entry)) (now (check .entry)) s (older % radix)) Child.Nothing ⌝ }
+    requires { ⌜ isBroken (lookMarker (keptMarker (now base) (now check) s)) ≡ false ⌝ }
+    ensures { λ r. ⌜ r ≡ childAt (now (base .entry)) (now (check .entry)) s (older % radix) ⌝ }
 {
-    if !more {
-        return Child::Nothing;
-    }
     let d = base[s] as usize;
     double_array::beside_marker(check, s, d, (older % backoff::RADIX) as usize)
 }
 
-// The walk from the node in this slot, that of a word v, through the state's words. Each node's back-off takes the place of one of the state's.
+// The end of a walk at a node with this marker, once `passed` of the state's words are passed: `owed` is the sum of the state's back-offs that are left, `sum` that
+// of the back-offs of the nodes before this one.
+fn end_walk(
+    marker: Marker,
+    passed: usize,
+    owed: i32,
+    sum: i32,
+    kept: Kept,
+    backoffs: &mut [i32; 5],
+) -> Walked
+    requires { ⌜ (passed ≤ 4) × (length (now backoffs) ≡ 5) ⌝ }
+    requires { ⌜ (natAbs owed ≤ 4 * largestBackoff) × (natAbs sum ≤ 4 * largestBackoff) ⌝ }
+    requires { ⌜ InRange (lookMarker marker) ⌝ }
+    ensures walked { λ r. ⌜ r ≡ endedAt marker passed owed sum kept ⌝ }
+    ensures backoffs { λ _. ⌜ now (backoffs .exit) ≡ storedAt marker passed (now (backoffs .entry)) ⌝ }
+{
+    let Marker::Sound { p, b, e, f } = marker else {
+        return Walked::Stuck;
+    };
+    backoffs[passed] = b;
+    let kept = longest_live(kept, passed + 1, sum + b, b, f);
+    Walked::Whole {
+        points: p + owed,
+        passed,
+        kept,
+        extended: e,
+    }
+}
+
+// The walk from the node in this slot, that of a word v, through the state's words, so far that its last node may be one of n words. Each node's back-off takes the
+// place of one of the state's.
 fn walk(
     base: &[i32],
     check: &[i32],
-    order: usize,
     slot: usize,
     carried: Packed,
     backoffs: &mut [i32; 5],
-) -> Walked
+) -> Reached
     requires { ⌜ isArray (now base) (now check) ≡ true ⌝ }
-    requires { ⌜ order ≡ orderIn (now check) ⌝ }
     requires { ⌜ slot < length (now base) ⌝ }
-    requires { ⌜ Carries order carried (now backoffs) ⌝ }
-    ensures { λ r. ⌜ ((v : ℕ) → childAt (now (base .entry)) (now (check .entry)) 0 v ≡ Child.At slot → WalkedOver (storeIn (now (base .entry)) (now (check .entry))) (heldIn carried (now (backoffs .entry))) v r (now (backoffs .exit))) ⌝ }
+    requires { ⌜ Carries (orderIn (now check)) carried (now backoffs) ⌝ }
+    ensures last { λ r. ⌜ (length (now (backoffs .exit)) ≡ 5) × Readable (now (base .entry)) r ⌝ }
+    ensures reached { λ r. ⌜ ((v : ℕ) → childAt (now (base .entry)) (now (check .entry)) 0 v ≡ Child.At slot → ReachedOver (now (base .entry)) (now (check .entry)) (heldIn carried (now (backoffs .entry))) v (carried .count) r (now (backoffs .exit))) ⌝ }
 {
     let count = carried.count;
     let mut older = carried.words;
@@ -231,17 +274,16 @@ fn walk(
     let mut passed = 0;
     let mut sum = 0;
     let mut kept = Kept { count: 0, owed: 0 };
-    loop {
-        let Marker::Sound { p, b, e, f } = double_array::read_marker(base, check, s) else {
-            return Walked::Stuck;
+    while (passed < count) & (passed < STATE_WORDS) {
+        let Marker::Sound { p, b, e, f } = double_array::kept_marker(base, check, s) else {
+            return Reached::Stuck;
         };
         let old = backoffs[passed];
         backoffs[passed] = b;
         sum += b;
-        kept = longest_live(kept, passed + 1, sum, order, b, f);
-        let more = (passed < count) & (passed < STATE_WORDS);
-        let Child::At(t) = next_node(base, check, s, older, more) else {
-            return Walked::Whole {
+        kept = longest_live(kept, passed + 1, sum, b, f);
+        let Child::At(t) = next_node(base, check, s, older) else {
+            return Reached::End {
                 points: p + owed,
                 passed,
                 kept,
@@ -252,6 +294,50 @@ fn walk(
         older /= backoff::RADIX;
         s = t;
         passed += 1;
+    }
+    Reached::Last {
+        slot: s,
+        owed,
+        sum,
+        kept,
+    }
+}
+
+// The whole walk of a word from a state of `count` words: what it has reached, or its last node read too.
+fn last_node(
+    base: &[i32],
+    check: &[i32],
+    order: usize,
+    count: usize,
+    reached: Reached,
+    backoffs: &mut [i32; 5],
+) -> Walked
+    requires { ⌜ (isArray (now base) (now check) ≡ true) × (order ≡ orderIn (now check)) ⌝ }
+    requires { ⌜ (count ≤ 4) × (length (now backoffs) ≡ 5) × Readable (now base) reached ⌝ }
+    ensures { λ r. ⌜ ((s : Carried) (v : ℕ) → ReachedOver (now (base .entry)) (now (check .entry)) s v count reached (now (backoffs .entry)) → WalkedOver (storeIn (now (base .entry)) (now (check .entry))) s v r (now (backoffs .exit))) ⌝ }
+{
+    match reached {
+        Reached::End {
+            points,
+            passed,
+            kept,
+            extended,
+        } => Walked::Whole {
+            points,
+            passed,
+            kept,
+            extended,
+        },
+        Reached::Last {
+            slot,
+            owed,
+            sum,
+            kept,
+        } => {
+            let marker = double_array::read_marker(base, check, order, count + 1, slot);
+            end_walk(marker, count, owed, sum, kept, backoffs)
+        }
+        Reached::Stuck => Walked::Stuck,
     }
 }
 
@@ -300,24 +386,9 @@ fn walk_alone(
     requires { ⌜ length (now backoffs) ≡ 5 ⌝ }
     ensures { λ r. ⌜ ((v : ℕ) → childAt (now (base .entry)) (now (check .entry)) 0 v ≡ Child.At slot → WalkedOver (storeIn (now (base .entry)) (now (check .entry))) emptyState v r (now (backoffs .exit))) ⌝ }
 {
-    let Marker::Sound {
-        p,
-        b,
-        e: extended,
-        f,
-    } = double_array::read_marker(base, check, slot)
-    else {
-        return Walked::Stuck;
-    };
-    backoffs[0] = b;
     let none = Kept { count: 0, owed: 0 };
-    let kept = longest_live(none, 1, b, order, b, f);
-    Walked::Whole {
-        points: p,
-        passed: 0,
-        kept,
-        extended,
-    }
+    let marker = double_array::read_marker(base, check, order, 1, slot);
+    end_walk(marker, 0, 0, 0, none, backoffs)
 }
 
 // The step of `<s>` from the empty state, which start takes.
@@ -374,7 +445,8 @@ fn step(
             next: carried,
         };
     };
-    let walked = walk(base, check, order, slot, carried, backoffs);
+    let reached = walk(base, check, slot, carried, backoffs);
+    let walked = last_node(base, check, order, carried.count, reached, backoffs);
     let Walked::Whole {
         points,
         passed,
@@ -694,7 +766,8 @@ pub fn sum_closed(base: &[i32], check: &[i32], order: usize, state: State, last:
         let First::From { slot, word } = first_node(check, words[i]) else {
             return Closed::Refused;
         };
-        let walked = walk(base, check, order, slot, carried, &mut backoffs);
+        let reached = walk(base, check, slot, carried, &mut backoffs);
+        let walked = last_node(base, check, order, carried.count, reached, &mut backoffs);
         let Walked::Whole {
             points,
             passed,

@@ -84,9 +84,9 @@ marker-there (Sound p b e f) = refl
 marker-there Broken = refl
 
 module _ (base check : List ℤ) (array : isArray base check ≡ true) where
-  child-there : (c : Child) → isThere (downTo c (λ (t : ℕ). lookFrom base check t [])) ≡ isChild c
+  child-there : (c : Child) → isThere (downTo c (λ (t : ℕ). lookFrom base check 1 t [])) ≡ isChild c
   unfolding lookFrom
-  child-there (At t) = marker-there (markerAt base check t)
+  child-there (At t) = marker-there (markerAt base check 1 t)
   child-there Nothing = refl
 
   usable-is-child : (w : ℕ) → usable (storeIn base check) w ≡ usableChild check w

@@ -1,6 +1,6 @@
 -- An array that holds a list says what the list says, to lookups, starts and runs; and the nodes that walking reaches in it are the rows of the list,
 -- in their order, so that the list comes back. Assumes nothing.
-use mathlib.Core.Path.{_≡_, refl, sym, ap, _∙_, fun-ext}
+use mathlib.Core.Path.{_≡_, refl, sym, ap, _∙_, subst, fun-ext}
 use mathlib.Core.Logic.{⊎-elim}
 use mathlib.Core.Bool.{Bool, true, false, _&&_, false≢true}
 use mathlib.Core.List.{List, [], _∷_, map, reverse, reverseAux, reverse-reverse, List·Memᴰ, List·Memᴰ·head, List·Memᴰ·tail, List·Memᴰ·not-nil, List·Memᴰ·cases-cons, Memᴰ·cast}
@@ -41,7 +41,7 @@ use Rattle.double_array.specs.declared.Marker.the-variants.{Sound, Broken}
 use Rattle.double_array.specs.declared.Child.{Child}
 use Rattle.double_array.specs.declared.Child.the-variants.{At, Nothing}
 use Rattle.double_array.proofs.DoubleArray.{opened-order, opened-some, look-row}
-use Rattle.unload.specs.Unload.{Reached, isRight, walkTo, reached, rowOf, tableOf, allRight, isList, rowsIn}
+use Rattle.unload.specs.Unload.{Reached, isRight, walkTo, reached, reachedMarker, rowOf, tableOf, allRight, isList, rowsIn}
 use Rattle.unload.specs.Meaning.{Holds, Says}
 use Rattle.unload.specs.Steps.{EachTwo, none as no-two, more, IsReached}
 use Rattle.unload.proofs.Reached.{ByKey, walk-child, walk-slot, reached-unique}
@@ -59,34 +59,34 @@ module _ (base check : List ℤ) where
   -- ---- how the walk of a lookup and the words that lead to a slot go together
 
   -- a look that comes to an entry has passed the nodes of its words
-  here-through : (us q : List ℕ) (y : Entry) → lookFrom base check 0 (reverseAux us q) ≡ here y → (s : ℕ) × (walkTo base check us ≡ At s) × (lookFrom base check s q ≡ here y)
+  here-through : (us q : List ℕ) (y : Entry) → lookFrom base check 0 0 (reverseAux us q) ≡ here y → (s : ℕ) × (walkTo base check us ≡ At s) × (lookFrom base check (length us) s q ≡ here y)
   unfolding walkTo lookFrom
   here-through [] q y h = (0, refl, h)
   here-through (w ∷ us) q y h =
       let d = here-through us (w ∷ q) y h in
-      go (d .0) (d .1) (markerAt base check (d .0)) (childAt base check (d .0) w) refl (d .2)
+      go (d .0) (d .1) (markerAt base check (length us) (d .0)) (childAt base check (d .0) w) refl (d .2)
     where
-      go : (s : ℕ) → walkTo base check us ≡ At s → (m : Marker) (c : Child) → childAt base check s w ≡ c → past m (downTo c (λ (t : ℕ). lookFrom base check t q)) ≡ here y
-          → (t : ℕ) × (walkTo base check (w ∷ us) ≡ At t) × (lookFrom base check t q ≡ here y)
+      go : (s : ℕ) → walkTo base check us ≡ At s → (m : Marker) (c : Child) → childAt base check s w ≡ c → past m (downTo c (λ (t : ℕ). lookFrom base check (suc (length us)) t q)) ≡ here y
+          → (t : ℕ) × (walkTo base check (w ∷ us) ≡ At t) × (lookFrom base check (suc (length us)) t q ≡ here y)
       go s e Broken c k h = absurd (let z : _≡_ {A = ℕ} 0 1 = cc in omega arith)
       go s e (Sound p b g f) Nothing k h = absurd (let z : _≡_ {A = ℕ} 0 1 = cc in omega arith)
       go s e (Sound p b g f) (At t) k h = (t, walk-child base check us w s e ∙ k, h)
 
   -- and one that comes to nothing comes to nothing below each of them
-  absent-through : (us q : List ℕ) (s : ℕ) → walkTo base check us ≡ At s → lookFrom base check 0 (reverseAux us q) ≡ absent → lookFrom base check s q ≡ absent
+  absent-through : (us q : List ℕ) (s : ℕ) → walkTo base check us ≡ At s → lookFrom base check 0 0 (reverseAux us q) ≡ absent → lookFrom base check (length us) s q ≡ absent
   unfolding walkTo lookFrom
-  absent-through [] q s e h = let z : 0 ≡ s = cc in rw z at h
+  absent-through [] q s e h = let z : 0 ≡ s = cc in subst (λ (i : ℕ). lookFrom base check 0 i q ≡ absent) z h
   absent-through (w ∷ us) q s e h =
       let d = walk-slot base check w us s e in
-      go (markerAt base check (d .0)) (rw (d .2) at (absent-through us (w ∷ q) (d .0) (d .1) h))
+      go (markerAt base check (length us) (d .0)) (rw (d .2) at (absent-through us (w ∷ q) (d .0) (d .1) h))
     where
-      go : (m : Marker) → past m (lookFrom base check s q) ≡ absent → lookFrom base check s q ≡ absent
+      go : (m : Marker) → past m (lookFrom base check (suc (length us)) s q) ≡ absent → lookFrom base check (suc (length us)) s q ≡ absent
       go (Sound p b g f) k = k
       go Broken k = absurd (let z : _≡_ {A = ℕ} 0 1 = cc in omega arith)
 
-  look-marker : (s : ℕ) (p b : ℤ) (e f : Bool) → lookFrom base check s [] ≡ here (record { p = p; b = b; e = e; f = f }) → markerAt base check s ≡ Sound p b e f
+  look-marker : (k s : ℕ) (p b : ℤ) (e f : Bool) → lookFrom base check k s [] ≡ here (record { p = p; b = b; e = e; f = f }) → markerAt base check k s ≡ Sound p b e f
   unfolding lookFrom
-  look-marker s p b e f h = go (markerAt base check s) h
+  look-marker k s p b e f h = go (markerAt base check k s) h
     where
       go : (m : Marker) → lookMarker m ≡ here (record { p = p; b = b; e = e; f = f }) → m ≡ Sound p b e f
       go (Sound x y u v) k =
@@ -94,9 +94,9 @@ module _ (base check : List ℤ) where
           λ i. Sound (q i .p) (q i .b) (q i .e) (q i .f)
       go Broken k = absurd (let z : _≡_ {A = ℕ} 0 1 = cc in omega arith)
 
-  node-not-absent : (s : ℕ) → lookFrom base check s [] ≡ absent → ⊥
+  node-not-absent : (k s : ℕ) → lookFrom base check k s [] ≡ absent → ⊥
   unfolding lookFrom
-  node-not-absent s h = go (markerAt base check s) h
+  node-not-absent k s h = go (markerAt base check k s) h
     where
       go : (m : Marker) → lookMarker m ≡ absent → ⊥
       go (Sound p b g f) k = let z : _≡_ {A = ℕ} 0 1 = cc in omega arith
@@ -197,7 +197,7 @@ module _ (base check t : List ℤ) (H : Holds base check t) where
   good : Good t (rowsOf t)
   good = accepted-good t (H .list)
 
-  look-words : (us : List ℕ) → 1 ≤ length us → length us ≤ n → lookFrom base check 0 (reverse us) ≡ lookEntry (entryAt t us (findIn t us))
+  look-words : (us : List ℕ) → 1 ≤ length us → length us ≤ n → lookFrom base check 0 0 (reverse us) ≡ lookEntry (entryAt t us (findIn t us))
   unfolding storeIn storeOf modelOf
   look-words us l h =
       let k = length-reverse us in
@@ -210,11 +210,11 @@ module _ (base check t : List ℤ) (H : Holds base check t) where
       (omega (arith, words-length t j (row-in t j h), good .row j h .some), omega (arith, accepted-model t (H .list) .short (reverse (words t j)) l, length-reverse (words t j), H .order))
 
   -- a row's words lead to a node with its marker
-  row-leads : (j : ℕ) → j < rowsOf t → (s : ℕ) × (walkTo base check (words t j) ≡ At s) × (markerAt base check s ≡ Sound (probabilityAt t j) (backoffAt t j) (extendedIn t (words t j)) (continuedIn t (words t j)))
+  row-leads : (j : ℕ) → j < rowsOf t → (s : ℕ) × (walkTo base check (words t j) ≡ At s) × (markerAt base check (length (words t j)) s ≡ Sound (probabilityAt t j) (backoffAt t j) (extendedIn t (words t j)) (continuedIn t (words t j)))
   row-leads j h =
       let k = row-short j h in
       let d = here-through base check (words t j) [] _ (look-words (words t j) (k .0) (k .1) ∙ ap (λ (f : Found). lookEntry (entryAt t (words t j) f)) (finds t good j h)) in
-      (d .0, d .1, look-marker base check (d .0) _ _ _ _ (d .2))
+      (d .0, d .1, look-marker base check (length (words t j)) (d .0) _ _ _ _ (d .2))
 
   -- and words that lead to a node are a row's
   leading-is-row : (us : List ℕ) (s : ℕ) → 1 ≤ length us → length us ≤ n → walkTo base check us ≡ At s → (j : ℕ) × (j < rowsOf t) × (words t j ≡ us)
@@ -222,7 +222,7 @@ module _ (base check t : List ℤ) (H : Holds base check t) where
     where
       go : (f : Found) → findIn t us ≡ f → (j : ℕ) × (j < rowsOf t) × (words t j ≡ us)
       go (Row j) q = let w = found-words t us j q in (j, w .0, w .1)
-      go NoRow q = absurd (node-not-absent base check s (absent-through base check us [] s e (look-words us l h ∙ rw q)))
+      go NoRow q = absurd (node-not-absent base check (length us) s (absent-through base check us [] s e (look-words us l h ∙ rw q)))
 
   -- ---- so the nodes reached are the rows', in the order of the rows
 
@@ -254,7 +254,7 @@ module _ (base check t : List ℤ) (H : Holds base check t) where
           let s : r .slot ≡ slotIn (walkTo base check (words t (j .0))) = ap slotIn (sym (w .leads) ∙ ap (walkTo base check) (sym (j .2))) in
           Memᴰ·cast (λ i. record { slot = s i; words = sym (j .2) i }) (in-nodes base check t 0 (rowsOf t) (j .0) (omega arith) (omega (arith, j .1)))
 
-  node-marker : (j : ℕ) → j < rowsOf t → markerAt base check (node base check t j .slot) ≡ Sound (probabilityAt t j) (backoffAt t j) (extendedIn t (words t j)) (continuedIn t (words t j))
+  node-marker : (j : ℕ) → j < rowsOf t → reachedMarker base check (node base check t j) ≡ Sound (probabilityAt t j) (backoffAt t j) (extendedIn t (words t j)) (continuedIn t (words t j))
   node-marker j h = let d = row-leads j h in rw (d .1) (d .2)
 
   nodes-table : (i k : ℕ) → i + k ≡ rowsOf t → tableOf base check (nodesFrom base check t i k) ≡ drop (8 * i) t

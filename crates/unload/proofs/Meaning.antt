@@ -72,32 +72,32 @@ module _ (base check : List ℤ) (array : isArray base check ≡ true) (ok : isL
   rows : rowsOf t ≡ rowsIn base
   rows = eqb-true (rowsOf t) (rowsIn base) (tests .3)
 
-  sound-at : (us : List ℕ) (s : ℕ) → length us ≤ n → walkTo base check us ≡ At s → (p b : ℤ) × (e f : Bool) × (markerAt base check s ≡ Sound p b e f)
+  sound-at : (us : List ℕ) (s : ℕ) → length us ≤ n → walkTo base check us ≡ At s → (p b : ℤ) × (e f : Bool) × (markerAt base check (length us) s ≡ Sound p b e f)
   unfolding walkTo
-  sound-at [] s h e = let z : 0 ≡ s = cc in (_, _, _, _, rw z at (root-sound base check array))
+  sound-at [] s h e = let z : 0 ≡ s = cc in (_, _, _, _, ap (markerAt base check 0) (sym z) ∙ root-sound base check array)
   sound-at (w ∷ us) s h e = (_, _, _, _, all-sound base check t rs (tests .0) (record { slot = s; words = w ∷ us }) (reached-shown base check n (record { slot = s; words = w ∷ us }) (record { some = omega arith; few = h; leads = e })))
 
   -- ---- the walk of lookup and run comes to where the words lead
 
-  look-through : (us q : List ℕ) (s : ℕ) → length us ≤ n → walkTo base check us ≡ At s → lookFrom base check 0 (reverseAux us q) ≡ lookFrom base check s q
+  look-through : (us q : List ℕ) (s : ℕ) → length us ≤ n → walkTo base check us ≡ At s → lookFrom base check 0 0 (reverseAux us q) ≡ lookFrom base check (length us) s q
   unfolding walkTo
-  look-through [] q s h e = let z : 0 ≡ s = cc in rw z
+  look-through [] q s h e = let z : 0 ≡ s = cc in ap (λ (i : ℕ). lookFrom base check 0 i q) z
   look-through (w ∷ us) q s h e =
       let d = walk-slot base check w us s e in
       let m = sound-at us (d .0) (omega arith) (d .1) in
-      look-through us (w ∷ q) (d .0) (omega arith) (d .1) ∙ look-down base check (d .0) (m .0) (m .1) (m .2) (m .3) w q (m .4) ∙ rw (d .2)
+      look-through us (w ∷ q) (d .0) (omega arith) (d .1) ∙ look-down base check (length us) (d .0) (m .0) (m .1) (m .2) (m .3) w q (m .4) ∙ rw (d .2)
 
-  look-astray : (us q : List ℕ) → length us ≤ n → walkTo base check us ≡ Nothing → lookFrom base check 0 (reverseAux us q) ≡ absent
+  look-astray : (us q : List ℕ) → length us ≤ n → walkTo base check us ≡ Nothing → lookFrom base check 0 0 (reverseAux us q) ≡ absent
   unfolding walkTo
   look-astray [] q h e = absurd (let z : _≡_ {A = ℕ} 0 1 = cc in omega arith)
   look-astray (w ∷ us) q h e = go (walkTo base check us) refl (look-astray us (w ∷ q) (omega arith))
     where
-      go : (c : Child) → walkTo base check us ≡ c → (walkTo base check us ≡ Nothing → lookFrom base check 0 (reverseAux us (w ∷ q)) ≡ absent) → lookFrom base check 0 (reverseAux us (w ∷ q)) ≡ absent
+      go : (c : Child) → walkTo base check us ≡ c → (walkTo base check us ≡ Nothing → lookFrom base check 0 0 (reverseAux us (w ∷ q)) ≡ absent) → lookFrom base check 0 0 (reverseAux us (w ∷ q)) ≡ absent
       go Nothing k ih = ih k
       go (At s) k ih =
           let m = sound-at us s (omega arith) k in
           let c : childAt base check s w ≡ Nothing = sym (walk-child base check us w s k) ∙ e in
-          look-through us (w ∷ q) s (omega arith) k ∙ look-down base check s (m .0) (m .1) (m .2) (m .3) w q (m .4) ∙ rw c
+          look-through us (w ∷ q) s (omega arith) k ∙ look-down base check (length us) s (m .0) (m .1) (m .2) (m .3) w q (m .4) ∙ rw c
 
   -- ---- and the list has what is found there
 
@@ -113,14 +113,14 @@ module _ (base check : List ℤ) (array : isArray base check ≡ true) (ok : isL
           let same : d .0 .words ≡ us = sym (d .2 .same) ∙ w .1 in
           absurd (none-there (d .0 .slot) (omega (arith, k .some, ap length same)) (ap (walkTo base check) (sym same) ∙ k .leads))
 
-  look-listed : (us : List ℕ) (s : ℕ) → 1 ≤ length us → length us ≤ n → walkTo base check us ≡ At s → lookFrom base check 0 (reverse us) ≡ lookEntry (entryAt t us (findIn t us))
+  look-listed : (us : List ℕ) (s : ℕ) → 1 ≤ length us → length us ≤ n → walkTo base check us ≡ At s → lookFrom base check 0 0 (reverse us) ≡ lookEntry (entryAt t us (findIn t us))
   look-listed us s l h e =
       let r : Reached = record { slot = s; words = us } in
       let m = reached-shown base check n r (record { some = l; few = h; leads = e }) in
       let d = node-row base check rs (readable base check array) r m in
       let f : findIn t us ≡ Row (d .0) = ap (findIn t) (sym (d .2 .same)) ∙ finds t (accepted-good t list) (d .0) (omega (arith, d .1, rows-tableOf base check rs)) in
       look-through us [] s h e
-      ∙ look-here base check s _ _ _ _ (all-sound base check t rs (tests .0) r m)
+      ∙ look-here base check (length us) s _ _ _ _ (all-sound base check t rs (tests .0) r m)
       ∙ rw (f, d .2 .probability, d .2 .backoff)
 
   look-unloaded : (l : List ℕ) → length l ≤ n → lookRow base check l ≡ lookEntry (modelOf t .find l)
@@ -128,9 +128,9 @@ module _ (base check : List ℤ) (array : isArray base check ≡ true) (ok : isL
   look-unloaded [] h = rw (unlisted [] (λ s l e. absurd (omega arith)))
   look-unloaded (w ∷ l) h =
       let us = reverse (w ∷ l) in
-      ap (lookFrom base check 0) (sym (reverse-reverse (w ∷ l))) ∙ go us (omega (arith, length-reverse (w ∷ l))) (omega (arith, length-reverse (w ∷ l))) (walkTo base check us) refl
+      ap (lookFrom base check 0 0) (sym (reverse-reverse (w ∷ l))) ∙ go us (omega (arith, length-reverse (w ∷ l))) (omega (arith, length-reverse (w ∷ l))) (walkTo base check us) refl
     where
-      go : (us : List ℕ) → 1 ≤ length us → length us ≤ n → (c : Child) → walkTo base check us ≡ c → lookFrom base check 0 (reverse us) ≡ lookEntry (entryAt t us (findIn t us))
+      go : (us : List ℕ) → 1 ≤ length us → length us ≤ n → (c : Child) → walkTo base check us ≡ c → lookFrom base check 0 0 (reverse us) ≡ lookEntry (entryAt t us (findIn t us))
       go us k h (At s) e = look-listed us s k h e
       go us k h Nothing e = look-astray us [] h e ∙ rw (unlisted us (λ s l q. let z : _≡_ {A = ℕ} 0 1 = cc in omega arith))
 

@@ -85,8 +85,12 @@ isRight (Sound p b x y) e f = Bool·beq x e && Bool·beq y f
 isRight Broken e f = false
 
 module _ (base check : List ℤ) where
+  -- what a node says, by the number of words that lead to it
+  abbrev pub reachedMarker : Reached → Marker
+  reachedMarker r = markerAt base check (length (r .words)) (r .slot)
+
   unfoldable pub rowOf : Reached → List ℤ
-  rowOf r = row (r .words) (markerP (markerAt base check (r .slot))) (markerB (markerAt base check (r .slot)))
+  rowOf r = row (r .words) (markerP (reachedMarker r)) (markerB (reachedMarker r))
 
   unfoldable pub tableOf : List Reached → List ℤ
   tableOf [] = []
@@ -95,7 +99,7 @@ module _ (base check : List ℤ) where
   -- every marker is sound, e is 1 if "some listed row puts a further word in front of it", and "f is 1 if some row is this row followed by one more word, else 0"
   unfoldable pub allRight : List ℤ → List Reached → Bool
   allRight t [] = true
-  allRight t (r ∷ rs) = isRight (markerAt base check (r .slot)) (extendedIn t (r .words)) (continuedIn t (r .words)) && allRight t rs
+  allRight t (r ∷ rs) = isRight (reachedMarker r) (extendedIn t (r .words)) (continuedIn t (r .words)) && allRight t rs
 
 unfoldable pub slotsOf : List Reached → List ℕ
 slotsOf rs = map (λ (r : Reached). r .slot) rs

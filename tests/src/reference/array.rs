@@ -1,4 +1,5 @@
-//! "The double array" of document 01, with the markers of T-01 and the two sides of T-09, as it is read: any two lent slices, whoever wrote them.
+//! "The double array" of document 01, with the markers of T-01, the two sides of T-09 and the longest rows of T-14, as it is read: any two lent slices,
+//! whoever wrote them.
 
 use super::list::{Refusal, ACCEPTED, LARGEST_B, LARGEST_WORD, LOWEST_P, MOST_ROWS};
 use std::collections::HashMap;
@@ -6,8 +7,8 @@ use std::collections::HashMap;
 pub const MOST_SLOTS: usize = 1_048_576;
 pub const ROOT: usize = 0;
 
-/// "CHECK[0] becomes n + 16" (T-09).
-pub const HEAD: i32 = 16;
+/// "CHECK[0] becomes n + 24" (T-14).
+pub const HEAD: i32 = 24;
 
 /// The two sides of a node's d on which a child may lie: d − w and d + w.
 #[derive(Clone, Copy, Debug, PartialEq, Eq)]
@@ -26,7 +27,7 @@ impl Side {
     }
 }
 
-/// What a sound marker holds.
+/// What a sound marker holds, or the BASE of a node that has none.
 #[derive(Clone, Copy, Debug, PartialEq, Eq)]
 pub struct Marker {
     pub p: i32,
@@ -36,6 +37,14 @@ pub struct Marker {
 }
 
 impl Marker {
+    /// "The p and b read from it are in range", nothing where they are not: of p − 1 and 4 × b + 2 × e + f (T-01).
+    fn read(p_less_1: i32, packed: i32) -> Option<Marker> {
+        let p = p_less_1.checked_add(1)?;
+        let (b, bits) = (packed.div_euclid(4), packed.rem_euclid(4));
+        let in_range = (LOWEST_P..=0).contains(&p) && (-LARGEST_B..=LARGEST_B).contains(&b);
+        in_range.then_some(Marker { p, b, e: bits / 2, f: bits % 2 })
+    }
+
     /// "A row is live if its b is not 0 or its f is 1."
     pub fn live(self) -> bool {
         self.b != 0 || self.f == 1
@@ -95,14 +104,14 @@ impl<'a> Array<'a> {
         children
     }
 
-    /// "A marker is sound if 1 ≤ d < N and the p and b read from it are in range": nothing where it is not.
-    pub fn marker(&self, node: usize) -> Option<Marker> {
+    /// What the node holds to which so many words lead: "a marker is sound if 1 ≤ d < N and the p and b read from it are in range", nothing where it is
+    /// not. Rows of n words "give up their marker: the node's own BASE holds p − 1" (T-14); they "have no back-off", and no longer row can tell of them.
+    pub fn marker(&self, depth: usize, node: usize) -> Option<Marker> {
+        if depth == self.order() {
+            return Marker::read(self.base[node], 0);
+        }
         let d = usize::try_from(self.base[node]).ok().filter(|&d| 1 <= d && d < self.slots())?;
-        let p = self.check[d].checked_add(1)?;
-        // "A marker's BASE becomes 4 × b + 2 × e + f" (T-01).
-        let (b, bits) = (self.base[d].div_euclid(4), self.base[d].rem_euclid(4));
-        let in_range = (LOWEST_P..=0).contains(&p) && (-LARGEST_B..=LARGEST_B).contains(&b);
-        in_range.then_some(Marker { p, b, e: bits / 2, f: bits % 2 })
+        Marker::read(self.check[d], self.base[d])
     }
 }
 
@@ -127,9 +136,9 @@ pub fn lookup(base: &[i32], check: &[i32], words: &[u32]) -> Found {
     }
     let mut node = ROOT;
     let mut found = not_found;
-    for &word in words.iter().rev() {
+    for (depth, &word) in (1..).zip(words.iter().rev()) {
         let Some(child) = array.child(node, word) else { return not_found };
-        let Some(marker) = array.marker(child) else { return refused(12) };
+        let Some(marker) = array.marker(depth, child) else { return refused(12) };
         node = child;
         found = (ACCEPTED, true, marker.p, marker.b, marker.e == 1);
     }

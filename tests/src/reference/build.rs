@@ -1,4 +1,5 @@
-//! The placing rule of document 01 with the two sides of T-09, in room without an upper end, and the build, with the markers of T-01.
+//! The placing rule of document 01 with the two sides of T-09, in room without an upper end, and the build, with the markers of T-01 and the longest rows
+//! of T-14.
 
 use super::array::{lengths_fit, Side, HEAD};
 use super::list::{continued, extended, rows, verdict, Refusal, Row, ACCEPTED};
@@ -6,11 +7,11 @@ use std::collections::HashMap;
 
 pub const FREE: i32 = i32::MIN;
 
-/// A node as it is placed: its slot, its d, and the slot of its parent.
+/// A node as it is placed: its slot, its d, and the slot of its parent. A row of n words has no d.
 #[derive(Clone, Copy, Default)]
 pub struct Node {
     pub slot: usize,
-    pub d: usize,
+    pub d: Option<usize>,
     pub parent: usize,
 }
 
@@ -44,7 +45,7 @@ pub fn build(table: &[i32], base: &mut [i32], check: &mut [i32], work: &mut [u32
 
 /// The smallest N at which the nodes fit.
 pub fn slots_used(nodes: &[Node]) -> usize {
-    nodes.iter().map(|node| node.slot.max(node.d) + 1).max().unwrap_or(0)
+    nodes.iter().map(|node| node.slot.max(node.d.unwrap_or(0)) + 1).max().unwrap_or(0)
 }
 
 /// "Nodes are placed in the order root, row 1, row 2 and so on."
@@ -54,14 +55,16 @@ pub fn place(rows: &[Row]) -> Vec<Node> {
     place_by(rows, |words| room.first_fit(words))
 }
 
-/// Places the root and the rows' nodes where `find` tells: it is given each node's child words, and gives its d and the children's slots.
+/// Places the root and the rows' nodes where `find` tells: it is given each node's child words, and gives its d and the children's slots. Rows of n words come
+/// last; they "give up their marker" (T-14) and have no children, so `find` is not asked for them.
 pub fn place_by(rows: &[Row], mut find: impl FnMut(&[usize]) -> (usize, Vec<usize>)) -> Vec<Node> {
     let children = children(rows);
     let mut nodes = vec![Node::default(); rows.len() + 1];
-    for i in 0..nodes.len() {
+    let shorter = rows.iter().filter(|row| row.words.len() < order(rows)).count();
+    for i in 0..=shorter {
         let words: Vec<usize> = children[i].iter().map(|&child| rows[child - 1].words[0] as usize).collect();
         let (d, slots) = find(&words);
-        nodes[i].d = d;
+        nodes[i].d = Some(d);
         for (slot, &child) in slots.into_iter().zip(&children[i]) {
             nodes[child].slot = slot;
             nodes[child].parent = nodes[i].slot;
@@ -126,17 +129,24 @@ impl Room {
     }
 }
 
-/// Writes the nodes, their markers and the head into free slots.
+/// "The order n is the last row's m."
+fn order(rows: &[Row]) -> usize {
+    rows.last().map_or(0, |row| row.words.len())
+}
+
+/// Writes the nodes, their markers and the head into free slots; "the node's own BASE holds p − 1" where it has no marker (T-14).
 pub fn write(rows: &[Row], nodes: &[Node], base: &mut [i32], check: &mut [i32]) {
     let (extended, continued) = (extended(rows), continued(rows));
     for (row, node) in rows.iter().zip(&nodes[1..]) {
-        base[node.slot] = node.d as i32;
+        base[node.slot] = node.d.map_or(row.p - 1, |d| d as i32);
         check[node.slot] = node.parent as i32;
-        base[node.d] = 4 * row.b + 2 * extended.contains(&row.words[..]) as i32 + continued.contains(&row.words[..]) as i32;
-        check[node.d] = row.p - 1;
+        if let Some(d) = node.d {
+            base[d] = 4 * row.b + 2 * extended.contains(&row.words[..]) as i32 + continued.contains(&row.words[..]) as i32;
+            check[d] = row.p - 1;
+        }
     }
     base[0] = 1;
-    check[0] = HEAD + rows.last().map_or(0, |row| row.words.len() as i32);
+    check[0] = HEAD + order(rows) as i32;
     base[1] = rows.len() as i32;
     check[1] = -1;
 }

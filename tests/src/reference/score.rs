@@ -67,10 +67,10 @@ fn step(array: &Array, carried: &Carried, word: u32) -> Option<(Scored, Carried)
 /// "A word w is walked from the root, then through the state's words": the markers on the walk.
 fn walk(array: &Array, word: u32, older: &[u32]) -> Option<Vec<Marker>> {
     let mut node = array.child(ROOT, word)?;
-    let mut markers = vec![array.marker(node)?];
+    let mut markers = vec![array.marker(1, node)?];
     for &word in older {
         let Some(child) = array.child(node, word) else { break };
-        markers.push(array.marker(child)?);
+        markers.push(array.marker(markers.len() + 1, child)?);
         node = child;
     }
     Some(markers)

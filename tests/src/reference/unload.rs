@@ -36,12 +36,12 @@ fn found(array: &Array) -> Option<Vec<Node>> {
     let children = array.children();
     let mut nodes = Vec::new();
     let mut level = vec![(ROOT, vec![])];
-    for _ in 0..array.order() {
+    for depth in 1..=array.order() {
         let mut next = Vec::new();
         for (parent, words) in level {
             for &(word, slot) in children.get(&parent).into_iter().flatten() {
                 let words = [&[word as i32], &words[..]].concat();
-                let marker = array.marker(slot)?;
+                let marker = array.marker(depth, slot)?;
                 nodes.push(Node { row: Row { words: words.clone(), p: marker.p, b: marker.b }, e: marker.e, f: marker.f, slot });
                 next.push((slot, words));
             }

@@ -17,8 +17,8 @@ use Rattle.build.proofs.Turn.{root-fits, root-settles, root-tried}
 use Rattle.build.proofs.place_root.Statement.{statement}
 use Rattle.build.proofs.place_root.Tie as tie
 
-one-word-rows-requires : tie.Need-one-word-rows-requires
-one-word-rows-requires c κs = search needs
+rows-below-requires : tie.Need-rows-below-requires
+rows-below-requires c κs = search needs
 
 mul-end : tie.Need-mul-end
 mul-end c = search needs
@@ -31,23 +31,23 @@ cast-t9 c = record { sfits = omega (arith, few (c .before .before)) }
 
 slice-aggregate-place-node : tie.Need-slice-aggregate-place-node
 unfolding rowsOf
-slice-aggregate-place-node c = sym (length-take-le _ _ (omega (arith, c .before .before .before .one-word-rows .ensures .within)))
+slice-aggregate-place-node c = sym (length-take-le _ _ (omega (arith, c .before .before .before .rows-below .ensures .within)))
 
 slice-relend-prefix-place-node : tie.Need-slice-relend-prefix-place-node
 slice-relend-prefix-place-node c = search needs
 
 slice-aggregate-place-node-2 : tie.Need-slice-aggregate-place-node-2
-slice-aggregate-place-node-2 c = let o = c .before .before .before .before in sym (length-take-le _ _ (omega (arith, o .one-word-rows .ensures .within, o .before .before .pre .1 .each)))
+slice-aggregate-place-node-2 c = let o = c .before .before .before .before in sym (length-take-le _ _ (omega (arith, o .rows-below .ensures .within, o .before .before .pre .1 .each)))
 
 place-node-requires : tie.Need-place-node-requires
 place-node-requires c κs =
     let o = c .before .before .before .before in
     let s = o .before .before in
     let t = now (s .args .table) in
-    let k = o .one-word-rows .result in
-    let fits = root-fits t (s .pre .0) (s .pre .1) k (o .one-word-rows .ensures) in (
-      (child-rows t (s .pre .0) 0 k fits, length-take-le _ _ (omega (arith, o .one-word-rows .ensures .within, s .pre .1 .each)) ∙ sym (count-rows t 0 k fits)),
-      (_, _, _, root-settles t (s .pre .0) (s .pre .1) k (o .one-word-rows .ensures)),
+    let k = o .rows-below .result in
+    let fits = root-fits t (s .pre .0) (s .pre .1) k (o .rows-below .ensures) in (
+      (child-rows t (s .pre .0) 0 k fits, length-take-le _ _ (omega (arith, o .rows-below .ensures .within, s .pre .1 .each)) ∙ sym (count-rows t 0 k fits)),
+      (_, _, _, root-settles t (s .pre .0) (s .pre .1) k (o .rows-below .ensures)),
     )
 
 same-length : tie.Need-same-length
@@ -64,15 +64,15 @@ returns c =
     let p = c .before .before .before .before in
     let o = p .before .before .before .before .before in
     let s = o .before .before in
-    root-tried (now (s .args .table)) (s .pre .0) (s .pre .1) (o .one-word-rows .result) (o .one-word-rows .ensures)
+    root-tried (now (s .args .table)) (s .pre .0) (s .pre .1) (o .rows-below .result) (o .rows-below .ensures)
     (toZ-pos w32 (omega (arith, few s)) ∙ ap pos (s .pre .1 .each))
-    (p .place-node .ensures _ _ _ (root-settles (now (s .args .table)) (s .pre .0) (s .pre .1) (o .one-word-rows .result) (o .one-word-rows .ensures)))
+    (p .place-node .ensures _ _ _ (root-settles (now (s .args .table)) (s .pre .0) (s .pre .1) (o .rows-below .result) (o .rows-below .ensures)))
 
 pub place-root-spec : {M : Type 1} → statement M
 place-root-spec =
     tie.close
     (tie.spec
-    one-word-rows-requires
+    rows-below-requires
     mul-end
     cast-t9
     slice-aggregate-place-node

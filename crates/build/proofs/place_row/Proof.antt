@@ -117,7 +117,7 @@ returns c =
     let k = r .before .before in
     let s = start k in
     let n = r .row-node .ensures in
-    row-tried (table k) (s .pre .0 .0) (s .args .i) (s .pre .0 .1) (s .pre .1) (from k) (to k) (k .children .ensures) (s .pre .0 .2) (n .0) (n .1) (n .2)
+    row-tried (table k) (s .pre .0 .0) (s .args .i) (s .pre .0 .1) (s .pre .1) (from k) (to k) (k .children .ensures) (s .pre .0 .2) (s .pre .0 .3) (n .0) (n .1) (n .2)
     (rw (rows-are k) at (p .place-node .ensures _ _ _ (settles r)))
 
 pub place-row-spec : {M : Type 1} → statement M

@@ -1,5 +1,5 @@
--- Invariant: the root and the rows before row i are placed.
-use mathlib.Core.Path.{_≡_, sym, _∙_}
+-- Invariant: the root and the rows before row i are placed; these have fewer than n words.
+use mathlib.Core.Path.{_≡_, sym, ap, _∙_}
 use mathlib.Core.List.{List}
 use Prim.Native.Nat.{ℕ, suc, _+_, _-_, _≤_}
 use native.Mathlib.Numerals.{add-one}
@@ -8,26 +8,26 @@ use lib.IntN.{ℤ}
 use lib.ListN.{length}
 use denote.Ref.{now}
 use borrow.Author.Needs.{needs}
-use Rattle.list.specs.Table.{rowsOf}
+use Rattle.placing.specs.Placing.{Placed}
 use Rattle.build.specs.Steps.{placedNodes, Filled, Tried}
 use Rattle.build.proofs.Turn.{filled-base, filled-check, filled-here}
-use Rattle.build.proofs.NodeByNode.{over-refused, all-placed}
+use Rattle.build.proofs.NodeByNode.{over-refused}
 use Rattle.build.proofs.place_rows.Statement.{statement}
 use Rattle.build.proofs.place_rows.Tie as tie
 
-record Reached (t : List ℤ) (N : ℕ) (base check : List ℤ) (work : List ℕ) (top i : ℕ) : Type 0 where
-  within : i ≤ rowsOf t
+record Reached (t : List ℤ) (shorter N : ℕ) (base check : List ℤ) (work : List ℕ) (top i : ℕ) : Type 0 where
+  within : i ≤ shorter
   top-is : top ≡ placedNodes t (i + 1) .top
   filled : Filled t N (placedNodes t (i + 1)) base check work
 
 abbrev Inv-loop : tie.InvT-loop
-Inv-loop table base₀ check₀ work₀ given top₀ near₀ i₀ base check work top near i = Reached table (length check₀) base check work top i
+Inv-loop table shorter base₀ check₀ work₀ given top₀ near₀ i₀ base check work top near i = Reached table shorter (length check₀) base check work top i
 
 abbrev μ-loop : tie.MeasureT-loop
-μ-loop table base₀ check₀ work₀ given top₀ near₀ i₀ base check work top near i = rowsOf table - i
+μ-loop table shorter base₀ check₀ work₀ given top₀ near₀ i₀ base check work top near i = shorter - i
 
 loop-holds : tie.Need-loop-holds Inv-loop μ-loop
-loop-holds c = record { within = omega arith; top-is = c .before .pre .0 .1; filled = c .before .pre .1 }
+loop-holds c = record { within = omega arith; top-is = c .before .pre .0 .2; filled = c .before .pre .1 }
 
 next-without-slot-requires : tie.Need-next-without-slot-requires Inv-loop μ-loop
 next-without-slot-requires c κs = search needs
@@ -35,8 +35,9 @@ next-without-slot-requires c κs = search needs
 place-row-requires : tie.Need-place-row-requires Inv-loop μ-loop
 place-row-requires c κs =
     let i = c .before .before .before .before .before in
-    let F = i .before .loop .inv .filled in
-    ((i .before .before .before .pre .0 .0, omega (arith, i .loop-test .taken, F .each), i .before .loop .inv .top-is), filled-here F)
+    let s = i .before .before .before in
+    let o = s .pre .0 .1 in
+    ((s .pre .0 .0, omega (arith, i .loop-test .taken, o .within), o .fewer (i .before .loop .i) (i .loop-test .taken), i .before .loop .inv .top-is), filled-here (i .before .loop .inv .filled))
 
 abbrev at : tie.After-place-row Inv-loop μ-loop → tie.At-loop Inv-loop μ-loop
 at c = c .before .before .before .before .before .before .before
@@ -75,7 +76,7 @@ add-i : tie.Need-add-i Inv-loop μ-loop
 add-i c = search needs
 
 loop-less : tie.Need-loop-less Inv-loop μ-loop
-loop-less c = let p = c .before .before .before .before .before in omega (arith, at p .loop .inv .within, p .before .before .before .before .before .before .loop-test .taken, at p .loop .inv .filled .each)
+loop-less c = let p = c .before .before .before .before .before in omega (arith, p .before .before .before .before .before .before .loop-test .taken)
 
 loop-again : tie.Need-loop-again Inv-loop μ-loop
 loop-again c =
@@ -84,22 +85,41 @@ loop-again c =
     let T = turn p in
     let room : p .place-row .result ≤ length (now (l .before .before .args .check)) = omega (arith, c .if1 .left, p .place-row .kept .1 .1 .1 .0, filled-check (l .loop .inv .filled)) in
     record {
-      within = omega (arith, p .before .before .before .before .before .before .loop-test .taken, l .loop .inv .filled .each);
+      within = omega (arith, p .before .before .before .before .before .before .loop-test .taken);
       top-is = rw (add-one (l .loop .i + 1)) (omega (arith, T .answer));
       filled = rw (add-one (l .loop .i + 1)) (T .filled room);
     }
 
+-- the rows of fewer than n words are placed
+short-placed : (c : tie.After-loop Inv-loop μ-loop) → c .before .loop .i ≡ c .before .before .before .args .shorter
+short-placed c = omega (arith, c .loop-test .left, c .before .loop .inv .within)
+
+short-filled : (c : tie.After-loop Inv-loop μ-loop) → Filled (table (c .before)) (length (now (c .before .before .before .args .check))) (placedNodes (table (c .before)) (c .before .before .before .args .shorter + 1)) (c .before .loop .base) (c .before .loop .check) (c .before .loop .work)
+short-filled c = rw (short-placed c) at (c .before .loop .inv .filled)
+
+place-longest-requires : tie.Need-place-longest-requires Inv-loop μ-loop
+place-longest-requires c κs =
+    let e = c .before .before in
+    let s = e .before .before .before in
+    ((s .pre .0 .0, s .pre .0 .1), (_, _, short-filled e))
+
 same-length-4 : tie.Need-same-length-4 Inv-loop μ-loop
-same-length-4 c = base-kept (c .before)
+same-length-4 c = c .before .place-longest .kept .1 .1 .0 ∙ base-kept (c .before .before .before .before .before)
 
 same-length-5 : tie.Need-same-length-5 Inv-loop μ-loop
-same-length-5 c = filled-check (c .before .loop .inv .filled)
+same-length-5 c = filled-check (c .before .before .before .before .before .loop .inv .filled)
 
 same-length-6 : tie.Need-same-length-6 Inv-loop μ-loop
-same-length-6 c = work-kept (c .before)
+same-length-6 c = work-kept (c .before .before .before .before .before)
+
+tried-same : {t : List ℤ} {N q r : ℕ} {P : Placed} {base check : List ℤ} {work : List ℕ} → r ≡ q → Tried t N P q base check work → Tried t N P r base check work
+tried-same e T = rw e T
 
 returns-2 : tie.Need-returns-2 Inv-loop μ-loop
-returns-2 c = let l = c .before in all-placed (l .loop .i + 1) (omega (arith, c .loop-test .left, l .loop .inv .within, l .loop .inv .filled .each)) (l .loop .inv .top-is) (l .loop .inv .filled)
+returns-2 c =
+    let e = c .before .before .before .before in
+    let l = e .before in
+    tried-same (l .loop .inv .top-is ∙ ap (λ (i : ℕ). placedNodes (table l) (i + 1) .top) (short-placed e)) (c .before .place-longest .ensures _ _ (short-filled e))
 
 pub place-rows-spec : {M : Type 1} → statement M
 place-rows-spec =
@@ -117,6 +137,7 @@ place-rows-spec =
     add-i
     loop-less
     loop-again
+    place-longest-requires
     same-length-4
     same-length-5
     same-length-6

@@ -62,7 +62,7 @@ returns-3 c =
     answers s (lookup-above-order (s .args .base .now) (s .args .check .now) (s .args .words .now) (array (e .before .before)) (e .before .if2 .left) (few e) h)
 
 walk-requires : tie.Need-walk-requires
-walk-requires c κs = (array (c .before .before .before .before), c .before .before .before .if2 .left)
+walk-requires c κs = (array (c .before .before .before .before), (c .before .order-of .ensures, (c .before .before .before .if2 .left, c .if4 .left)))
 
 returns-4 : tie.Need-returns-4
 returns-4 c =

@@ -1,7 +1,7 @@
 -- `score::longest_live` meets its contract. Assumes nothing.
 use mathlib.Core.Path.{_≡_, sym, ap, _∙_}
-use mathlib.Core.Bool.{Bool, true, false, not, _&&_, _||_}
-use lib.Dec.{ltb, eqb}
+use mathlib.Core.Bool.{Bool, true, false, not, _||_}
+use lib.Dec.{eqb}
 use lib.IntN.{pos}
 use mir.Val.{ofZ}
 use mir.Syntax.{w32}
@@ -12,8 +12,8 @@ use Rattle.score.proofs.longest_live.Statement.{statement}
 use Rattle.score.proofs.longest_live.Tie as tie
 
 -- the code's test, whose value it has
-test : (c : tie.Start) (t : Bool) → (ltb (c .args .count) (c .args .order) && (not (eqb (ofZ w32 (c .args .b)) 0) || c .args .f)) ≡ t → (ltb (c .args .count) (c .args .order) && (not (eqZ (c .args .b) (pos 0)) || c .args .f)) ≡ t
-test c t e = ap (λ (u : Bool). ltb (c .args .count) (c .args .order) && (not u || c .args .f)) (sym (bits-test {b = pos 0} (c .fits .b) (sfits-lit tt))) ∙ e
+test : (c : tie.Start) (t : Bool) → (not (eqb (ofZ w32 (c .args .b)) 0) || c .args .f) ≡ t → (not (eqZ (c .args .b) (pos 0)) || c .args .f) ≡ t
+test c t e = ap (λ (u : Bool). not u || c .args .f) (sym (bits-test {b = pos 0} (c .fits .b) (sfits-lit tt))) ∙ e
 
 returns : tie.Need-returns
 returns c = rw (toZ-ofZ (c .before .fits .owed), test (c .before) true (c .if1 .taken))

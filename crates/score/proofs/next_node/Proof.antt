@@ -4,7 +4,6 @@ use mathlib.Core.Bool.{Bool, false, true≢false}
 use Prim.Native.Nat.{_%_}
 use native.Mathlib.Omega.{arith}
 use borrow.Author.Needs.{needs, sfits-of}
-use borrow.Author.Tests.{not-true, not-false}
 use lib.ListN.{getD}
 use lib.IntN.{ℤ, pos}
 use lib.Signed.{_≤ℤ_}
@@ -14,10 +13,10 @@ use mir.Facts.{toZ-ofZ}
 use Rattle.integer.proofs.Arithmetic.{zarith, abs, fit, to-nat}
 use Rattle.backoff.specs.Words.{radix}
 use Rattle.backoff.specs.Store.{isBroken}
-use Rattle.double_array.specs.DoubleArray.{lookMarker, markerAt}
+use Rattle.double_array.specs.DoubleArray.{lookMarker, keptMarker}
 use Rattle.double_array.specs.declared.Marker.{Marker}
 use Rattle.double_array.specs.declared.Marker.the-variants.{Sound, Broken}
-use Rattle.double_array.proofs.DoubleArray.{marker-told, marker-unowned, child-owned}
+use Rattle.double_array.proofs.DoubleArray.{kept-told, marker-unowned, child-owned}
 use Rattle.score.proofs.next_node.Statement.{statement}
 use Rattle.score.proofs.next_node.Tie as tie
 
@@ -29,16 +28,13 @@ not-broken Broken h = absurd (true≢false h)
 abbrev d : tie.Start → ℤ
 d s = getD (s .args .base .now) (s .args .s) (pos 0)
 
-sound : (s : tie.Start) → (p : ℤ) × (b : ℤ) × (e : Bool) × (f : Bool) × (markerAt (s .args .base .now) (s .args .check .now) (s .args .s) ≡ Sound p b e f)
-sound s = not-broken (markerAt (s .args .base .now) (s .args .check .now) (s .args .s)) (s .pre .1 .1)
+sound : (s : tie.Start) → (p : ℤ) × (b : ℤ) × (e : Bool) × (f : Bool) × (keptMarker (s .args .base .now) (s .args .check .now) (s .args .s) ≡ Sound p b e f)
+sound s = not-broken (keptMarker (s .args .base .now) (s .args .check .now) (s .args .s)) (s .pre .1 .1)
 
 low : (s : tie.Start) → pos 1 ≤ℤ d s
 low s =
     let m = sound s in
-    marker-told (s .args .base .now) (s .args .check .now) (s .args .s) (m .0) (m .1) (m .2) (m .3) (m .4) .some-base
-
-returns : tie.Need-returns
-returns c = rw (not-true (c .before .args .more) (c .if1 .taken))
+    kept-told (s .args .base .now) (s .args .check .now) (s .args .s) (m .0) (m .1) (m .2) (m .3) (m .4) .some-base
 
 mul-d : tie.Need-mul-d
 mul-d c = search needs
@@ -46,28 +42,27 @@ mul-d c = search needs
 shared-slice-copy-out-d : tie.Need-shared-slice-copy-out-d
 shared-slice-copy-out-d c = search needs
 
-d-fits : (c : tie.After-d) → SFits w32 (d (c .before .before))
+d-fits : (c : tie.After-d) → SFits w32 (d (c .before))
 d-fits c = sfits-of (c .d .given)
 
 cast-d : tie.Need-cast-d
-cast-d c = to-nat tt (d-fits c) (omega (zarith, low (c .before .before)))
+cast-d c = to-nat tt (d-fits c) (omega (zarith, low (c .before)))
 
 beside-marker-requires : tie.Need-beside-marker-requires
 beside-marker-requires c κs =
-    let s = c .before .before in
+    let s = c .before in
     let f = d-fits c in
     let m = sound s in
-    let told = marker-told (s .args .base .now) (s .args .check .now) (s .args .s) (m .0) (m .1) (m .2) (m .3) (m .4) in
+    let told = kept-told (s .args .base .now) (s .args .check .now) (s .args .s) (m .0) (m .1) (m .2) (m .3) (m .4) in
     let unowned = marker-unowned (s .args .base .now) (s .args .check .now) (s .args .s) (m .0) (m .1) (m .2) (m .3) (m .4) in
     simp (toZ-ofZ f) ((omega (arith, s .pre), told .inside, omega (zarith, fit f, abs (d s), low s), omega arith), unowned)
 
-returns-2 : tie.Need-returns-2
-returns-2 c =
-    let s = c .before .before .before in
+returns : tie.Need-returns
+returns c =
+    let s = c .before .before in
     let m = sound s in
-    rw (not-false (s .args .more) (c .before .before .if1 .left))
-    ((rw (toZ-ofZ (d-fits (c .before))) at (c .beside-marker .ensures))
-    ∙ sym (child-owned (s .args .base .now) (s .args .check .now) (s .args .s) (m .0) (m .1) (m .2) (m .3) (m .4) (s .args .older % radix) (omega arith)))
+    (rw (toZ-ofZ (d-fits (c .before))) at (c .beside-marker .ensures))
+    ∙ sym (child-owned (s .args .base .now) (s .args .check .now) (s .args .s) (m .0) (m .1) (m .2) (m .3) (m .4) (s .args .older % radix) (omega arith))
 
 pub next-node-spec : {M : Type 1} → statement M
-next-node-spec = tie.close (tie.spec returns mul-d shared-slice-copy-out-d cast-d beside-marker-requires returns-2)
+next-node-spec = tie.close (tie.spec mul-d shared-slice-copy-out-d cast-d beside-marker-requires returns)

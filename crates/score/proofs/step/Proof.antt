@@ -12,7 +12,7 @@ use mir.Facts.{toZ-ofZ}
 use Rattle.backoff.specs.Limits.{unknownWord}
 use Rattle.double_array.specs.DoubleArray.{childAt, rootChild, orderIn, storeIn}
 use Rattle.double_array.specs.declared.Child.the-variants.{At}
-use Rattle.double_array.proofs.DoubleArray.{opened-sizes, opened-head, child-inside}
+use Rattle.double_array.proofs.DoubleArray.{opened-sizes, opened-head, child-inside, opened-order}
 use Rattle.score.specs.declared.First.{First}
 use Rattle.score.specs.declared.First.the-variants.{From}
 use Rattle.score.specs.declared.Kept.{Kept}
@@ -57,21 +57,43 @@ child-is c =
     let s = c .before .before .before in
     first-child (s .args .base .now) (s .args .check .now) (s .pre .0) (s .args .w) (slot c) (word c) (first-is c)
 
+-- the state that was given, by the array's own order
+held : (s : tie.Start) → Carries (orderIn (s .args .check .now)) (s .args .carried) (s .args .backoffs .now)
+held s = rw (s .pre .1 .0) at (s .pre .1 .1)
+
 walk-requires : tie.Need-walk-requires
 walk-requires c κs =
     let t = c .before .before in
     let s = t .before .before .before in
     let z = opened-sizes (s .args .base .now) (s .args .check .now) (s .pre .0) in
-    (s .pre .0, (s .pre .1 .0, (omega (arith, child-inside (s .args .base .now) (s .args .check .now) 0 (word t) (slot t) (child-is t)), s .pre .1 .1)))
+    (s .pre .0, (omega (arith, child-inside (s .args .base .now) (s .args .check .now) 0 (word t) (slot t) (child-is t)), held s))
+
+-- the walk's first node
+abbrev begun : tie.After-walk → tie.After-slot
+begun c = c .before .before .before
+
+abbrev start : tie.After-walk → tie.Start
+start c = begun c .before .before .before
+
+last-node-requires : tie.Need-last-node-requires
+last-node-requires c κs =
+    let k = c .before in
+    let s = start k in
+    ((s .pre .0, s .pre .1 .0), (omega (arith, held s .few, opened-order (s .args .base .now) (s .args .check .now) (s .pre .0)), k .walk .ensures .0 .0, k .walk .ensures .0 .1))
 
 -- the lent back-offs as the walk left them, and what it told
-abbrev backoffs : tie.After-walk → List ℤ
-backoffs c = c .walk .last .1 .1 .1 .1 .1 .0
+abbrev walk : tie.After-last-node → tie.After-walk
+walk c = c .before .before
 
-walked : (c : tie.After-walk) (r : Walked) → c .walk .result ≡ r → WalkedOver (storeIn (c .before .before .before .before .before .before .args .base .now) (c .before .before .before .before .before .before .args .check .now)) (heldIn (c .before .before .before .before .before .before .args .carried) (c .before .before .before .before .before .before .args .backoffs .now)) (word (c .before .before .before)) r (backoffs c)
+abbrev backoffs : tie.After-last-node → List ℤ
+backoffs c = c .last-node .last .1 .1 .1 .1 .1 .0
+
+walked : (c : tie.After-last-node) (r : Walked) → c .last-node .result ≡ r → WalkedOver (storeIn (start (walk c) .args .base .now) (start (walk c) .args .check .now)) (heldIn (start (walk c) .args .carried) (start (walk c) .args .backoffs .now)) (word (begun (walk c))) r (backoffs c)
 walked c r e =
-    let s = c .before .before .before .before .before .before in
-    subst (λ (k : Walked). WalkedOver (storeIn (s .args .base .now) (s .args .check .now)) (heldIn (s .args .carried) (s .args .backoffs .now)) (word (c .before .before .before)) k (backoffs c)) e (c .walk .ensures (word (c .before .before .before)) (child-is (c .before .before .before)))
+    let k = walk c in
+    let s = start k in
+    subst (λ (k : Walked). WalkedOver (storeIn (s .args .base .now) (s .args .check .now)) (heldIn (s .args .carried) (s .args .backoffs .now)) (word (begun (walk c))) k (backoffs c)) e
+    (c .last-node .ensures (heldIn (s .args .carried) (s .args .backoffs .now)) (word (begun k)) (k .walk .ensures .1 (word (begun k)) (child-is (begun k))))
 
 enum-known-walked : tie.Need-enum-known-walked
 enum-known-walked c = search needs
@@ -82,7 +104,7 @@ enum-told-2 c = search needs
 returns-2 : tie.Need-returns-2
 returns-2 c =
     let k = c .before .before in
-    let t = k .before .before .before in
+    let t = begun (walk k) in
     let s = t .before .before .before in
     refused (first-broken (s .args .base .now) (s .args .check .now) (s .pre .0) (s .args .w) (slot t) (word t) (first-is t) (heldIn (s .args .carried) (s .args .backoffs .now)) (walked k Stuck (c .enum-told2 .given .1)))
 
@@ -102,18 +124,17 @@ extended c = c .walked .given .0 .1 .1 .1 .0
 points-fits : (c : tie.After-known-told2) → SFits w32 (points (c .before))
 points-fits c = sfits-of (c .known-told2 .given .0 .1)
 
-read : (c : tie.After-walked) → Read (storeIn (c .before .before .before .before .before .before .before .before .args .base .now) (c .before .before .before .before .before .before .before .before .args .check .now)) (heldIn (c .before .before .before .before .before .before .before .before .args .carried) (c .before .before .before .before .before .before .before .before .args .backoffs .now)) (word (c .before .before .before .before .before)) (points c) (passed c) (kept c) (extended c) (backoffs (c .before .before))
-read c = walked (c .before .before) (Whole (points c) (passed c) (kept c) (extended c)) (c .walked .given .1)
+abbrev ended : tie.After-walked → tie.After-last-node
+ended c = c .before .before
 
--- the state that was given, by the array's own order
-held : (s : tie.Start) → Carries (orderIn (s .args .check .now)) (s .args .carried) (s .args .backoffs .now)
-held s = rw (s .pre .1 .0) at (s .pre .1 .1)
+read : (c : tie.After-walked) → Read (storeIn (start (walk (ended c)) .args .base .now) (start (walk (ended c)) .args .check .now)) (heldIn (start (walk (ended c)) .args .carried) (start (walk (ended c)) .args .backoffs .now)) (word (begun (walk (ended c)))) (points c) (passed c) (kept c) (extended c) (backoffs (ended c))
+read c = walked (ended c) (Whole (points c) (passed c) (kept c) (extended c)) (c .walked .given .1)
 
 scored-requires : tie.Need-scored-requires
 scored-requires c κs =
     let m = c .before in
-    let k = m .before .before in
-    let t = k .before .before .before in
+    let k = ended m in
+    let t = begun (walk k) in
     let s = t .before .before .before in
     let a = s .args in (
       word-is-word (a .base .now) (a .check .now) (s .pre .0) (a .carried) (a .backoffs .now) (held s) (word t) (slot t) (child-is t) (points m) (passed m) (kept m) (extended m) (backoffs k) (read m),
@@ -123,8 +144,8 @@ scored-requires c κs =
 returns-3 : tie.Need-returns-3
 returns-3 c =
     let m = c .before .before in
-    let k = m .before .before in
-    let t = k .before .before .before in
+    let k = ended m in
+    let t = begun (walk k) in
     let s = t .before .before .before in
     let a = s .args in
     stepped (a .base .now) (a .check .now) (s .pre .0) (a .carried) (a .backoffs .now) (held s) (word t) (slot t) (child-is t) (points m) (passed m) (kept m) (extended m) (backoffs k) (read m) (a .order) (a .w) (s .pre .1 .0) (first-is t) (c .scored .result)
@@ -139,6 +160,7 @@ step-spec =
     enum-told
     returns
     walk-requires
+    last-node-requires
     enum-known-walked
     enum-told-2
     returns-2

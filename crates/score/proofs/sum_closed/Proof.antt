@@ -153,18 +153,31 @@ walk-requires c κs =
     let l = turn (first t) in
     let s = entry l in
     let z = opened-sizes (s .args .base .now) (s .args .check .now) (s .pre .0) in
-    (s .pre .0, (s .pre .1 .0, (omega (arith, child-inside (s .args .base .now) (s .args .check .now) 0 (word t) (slot t) (child-is t)), rw (order-is s) at (l .loop .inv .carries))))
+    (s .pre .0, (omega (arith, child-inside (s .args .base .now) (s .args .check .now) 0 (word t) (slot t) (child-is t)), held (s .args .base .now) (s .args .check .now) (l .loop .inv)))
 
--- the walk's first node, the lent back-offs as the walk left them, and what it told
+-- the walk's first node
 abbrev begun : tie.After-walk Inv-loop μ-loop → tie.After-slot Inv-loop μ-loop
 begun c = c .before .before .before
 
-abbrev backoffs : tie.After-walk Inv-loop μ-loop → List ℤ
-backoffs c = c .walk .last .1 .1 .1 .1 .1 .0
+last-node-requires : tie.Need-last-node-requires Inv-loop μ-loop
+last-node-requires c κs =
+    let k = c .before in
+    let l = turn (first (begun k)) in
+    let s = entry l in
+    let a = s .args in
+    ((s .pre .0, s .pre .1 .0), (omega (arith, held (a .base .now) (a .check .now) (l .loop .inv) .few, opened-order (a .base .now) (a .check .now) (s .pre .0)), k .walk .ensures .0 .0, k .walk .ensures .0 .1))
 
-walked : (c : tie.After-walk Inv-loop μ-loop) (r : Walked) → c .walk .result ≡ r → WalkedOver (S (first (begun c))) (scored-from (first (begun c))) (word (begun c)) r (backoffs c)
+-- the lent back-offs as the walk left them, and what it told
+abbrev walk : tie.After-last-node Inv-loop μ-loop → tie.After-walk Inv-loop μ-loop
+walk c = c .before .before
+
+abbrev backoffs : tie.After-last-node Inv-loop μ-loop → List ℤ
+backoffs c = c .last-node .last .1 .1 .1 .1 .1 .0
+
+walked : (c : tie.After-last-node Inv-loop μ-loop) (r : Walked) → c .last-node .result ≡ r → WalkedOver (S (first (begun (walk c)))) (scored-from (first (begun (walk c)))) (word (begun (walk c))) r (backoffs c)
 walked c r e =
-    subst (λ (k : Walked). WalkedOver (S (first (begun c))) (scored-from (first (begun c))) (word (begun c)) k (backoffs c)) e (c .walk .ensures (word (begun c)) (child-is (begun c)))
+    let t = begun (walk c) in
+    subst (λ (k : Walked). WalkedOver (S (first t)) (scored-from (first t)) (word t) k (backoffs c)) e (c .last-node .ensures (scored-from (first t)) (word t) (walk c .walk .ensures .1 (word t) (child-is t)))
 
 enum-known-walked : tie.Need-enum-known-walked Inv-loop μ-loop
 enum-known-walked c = search needs
@@ -175,7 +188,7 @@ enum-told-2 c = search needs
 returns-2 : tie.Need-returns-2 Inv-loop μ-loop
 returns-2 c =
     let k = c .before .before in
-    let t = begun k in
+    let t = begun (walk k) in
     let s = entry (turn (first t)) in
     refuses (first t) (first-broken (s .args .base .now) (s .args .check .now) (s .pre .0) (w (first t)) (slot t) (word t) (first-is t) (scored-from (first t)) (walked k Stuck (c .enum-told2 .given .1)))
 
@@ -192,11 +205,11 @@ kept c = c .walked .given .0 .1 .1 .0
 abbrev extended : tie.After-walked Inv-loop μ-loop → Bool
 extended c = c .walked .given .0 .1 .1 .1 .0
 
-abbrev walk : tie.After-walked Inv-loop μ-loop → tie.After-walk Inv-loop μ-loop
-walk c = c .before .before
+abbrev ended : tie.After-walked Inv-loop μ-loop → tie.After-last-node Inv-loop μ-loop
+ended c = c .before .before
 
-read : (c : tie.After-walked Inv-loop μ-loop) → Read (S (first (begun (walk c)))) (scored-from (first (begun (walk c)))) (word (begun (walk c))) (points c) (passed c) (kept c) (extended c) (backoffs (walk c))
-read c = walked (walk c) (Whole (points c) (passed c) (kept c) (extended c)) (c .walked .given .1)
+read : (c : tie.After-walked Inv-loop μ-loop) → Read (S (first (begun (walk (ended c))))) (scored-from (first (begun (walk (ended c))))) (word (begun (walk (ended c)))) (points c) (passed c) (kept c) (extended c) (backoffs (ended c))
+read c = walked (ended c) (Whole (points c) (passed c) (kept c) (extended c)) (c .walked .given .1)
 
 points-fits : (c : tie.After-known-told2 Inv-loop μ-loop) → SFits w32 (points (c .before))
 points-fits c = sfits-of (c .known-told2 .given .0 .1)
@@ -204,13 +217,13 @@ points-fits c = sfits-of (c .known-told2 .given .0 .1)
 scored-requires : tie.Need-scored-requires Inv-loop μ-loop
 scored-requires c κs =
     let m = c .before in
-    let t = begun (walk m) in
+    let t = begun (walk (ended m)) in
     let l = turn (first t) in
     let s = entry l in
     let a = s .args in
     let k = held (a .base .now) (a .check .now) (l .loop .inv) in (
-      word-is-word (a .base .now) (a .check .now) (s .pre .0) (l .loop .carried) (l .loop .backoffs) k (word t) (slot t) (child-is t) (points m) (passed m) (kept m) (extended m) (backoffs (walk m)) (read m),
-      passed-few (a .base .now) (a .check .now) (s .pre .0) (l .loop .carried) (l .loop .backoffs) k (word t) (slot t) (child-is t) (points m) (passed m) (kept m) (extended m) (backoffs (walk m)) (read m),
+      word-is-word (a .base .now) (a .check .now) (s .pre .0) (l .loop .carried) (l .loop .backoffs) k (word t) (slot t) (child-is t) (points m) (passed m) (kept m) (extended m) (backoffs (ended m)) (read m),
+      passed-few (a .base .now) (a .check .now) (s .pre .0) (l .loop .carried) (l .loop .backoffs) k (word t) (slot t) (child-is t) (points m) (passed m) (kept m) (extended m) (backoffs (ended m)) (read m),
     )
 
 cast-total : tie.Need-cast-total Inv-loop μ-loop
@@ -221,25 +234,25 @@ points-wide : (c : tie.After-scored Inv-loop μ-loop) → toZ w64 (ofZ w64 (toZ 
 points-wide c = cc (toZ-ofZ (cast-total c), toZ-ofZ (points-fits (c .before)))
 
 -- the word's answer
-answer : (c : tie.After-scored Inv-loop μ-loop) → ScoredAs (turn (first (begun (walk (c .before .before)))) .loop .carried .words) (word (begun (walk (c .before .before)))) (points (c .before .before)) (passed (c .before .before)) (kept (c .before .before)) (extended (c .before .before)) (c .scored .result)
+answer : (c : tie.After-scored Inv-loop μ-loop) → ScoredAs (turn (first (begun (walk (ended (c .before .before))))) .loop .carried .words) (word (begun (walk (ended (c .before .before))))) (points (c .before .before)) (passed (c .before .before)) (kept (c .before .before)) (extended (c .before .before)) (c .scored .result)
 answer c =
     let m = c .before .before in
-    let t = begun (walk m) in
+    let t = begun (walk (ended m)) in
     subst (λ (x : ℤ). ScoredAs (turn (first t) .loop .carried .words) (word t) x (passed m) (kept m) (extended m) (c .scored .result)) (toZ-ofZ (points-fits (c .before))) (c .scored .ensures)
 
 small : (c : tie.After-scored Inv-loop μ-loop) → natAbs (points (c .before .before)) ≤ orderLimit * largestBackoff
 small c =
     let m = c .before .before in
-    let t = begun (walk m) in
+    let t = begun (walk (ended m)) in
     let l = turn (first t) in
     let s = entry l in
-    points-small (s .args .base .now) (s .args .check .now) (s .pre .0) _ (words l) (l .loop .carried) (l .loop .backoffs) (toZ w64 (l .loop .total)) (l .loop .i) (l .loop .inv) (more (first t .before)) (slot t) (word t) (first-is t) (child-is t) (points m) (passed m) (kept m) (extended m) (backoffs (walk m)) (read m) (c .scored .result) (answer c)
+    points-small (s .args .base .now) (s .args .check .now) (s .pre .0) _ (words l) (l .loop .carried) (l .loop .backoffs) (toZ w64 (l .loop .total)) (l .loop .i) (l .loop .inv) (more (first t .before)) (slot t) (word t) (first-is t) (child-is t) (points m) (passed m) (kept m) (extended m) (backoffs (ended m)) (read m) (c .scored .result) (answer c)
 
 add-total : tie.Need-add-total Inv-loop μ-loop
 add-total c =
     let m = c .before .before in
-    let l = turn (first (begun (walk m))) in
-    omega (zarith, points-wide c, small c, l .loop .inv .small, abs (points m), abs (toZ w64 (l .loop .total)), more (first (begun (walk m)) .before))
+    let l = turn (first (begun (walk (ended m)))) in
+    omega (zarith, points-wide c, small c, l .loop .inv .small, abs (points m), abs (toZ w64 (l .loop .total)), more (first (begun (walk (ended m))) .before))
 
 add-i : tie.Need-add-i Inv-loop μ-loop
 add-i c = omega arith
@@ -250,11 +263,11 @@ loop-less c = omega arith
 loop-again : tie.Need-loop-again Inv-loop μ-loop
 loop-again c =
     let m = c .before .before .before in
-    let t = begun (walk m) in
+    let t = begun (walk (ended m)) in
     let l = turn (first t) in
     let s = entry l in
     rw (toZ-ofZ (add-total (c .before)), points-wide (c .before))
-    (closing-on (s .args .base .now) (s .args .check .now) (s .pre .0) _ (words l) (l .loop .carried) (l .loop .backoffs) (toZ w64 (l .loop .total)) (l .loop .i) (l .loop .inv) (more (first t .before)) (slot t) (word t) (first-is t) (child-is t) (points m) (passed m) (kept m) (extended m) (backoffs (walk m)) (read m) (c .before .scored .result) (answer (c .before)))
+    (closing-on (s .args .base .now) (s .args .check .now) (s .pre .0) _ (words l) (l .loop .carried) (l .loop .backoffs) (toZ w64 (l .loop .total)) (l .loop .i) (l .loop .inv) (more (first t .before)) (slot t) (word t) (first-is t) (child-is t) (points m) (passed m) (kept m) (extended m) (backoffs (ended m)) (read m) (c .before .scored .result) (answer (c .before)))
 
 returns-3 : tie.Need-returns-3 Inv-loop μ-loop
 returns-3 c =
@@ -279,6 +292,7 @@ sum-closed-spec =
     enum-told
     returns
     walk-requires
+    last-node-requires
     enum-known-walked
     enum-told-2
     returns-2

@@ -28,7 +28,7 @@ const HEAD_NUMBERS: usize = 6;
 const HEAD_BYTES: usize = FIRST_LINE.len() + HEAD_NUMBERS * NUMBER_BYTES;
 
 /// What the arrays of earlier versions have as `check[0]` beside their order, and the version.
-const EARLIER_HEADS: [(i32, u32); 2] = [(8, 1), (40, 2)];
+const EARLIER_HEADS: [(i32, u32); 3] = [(8, 1), (40, 2), (16, 3)];
 
 /// The sizes that the head gives.
 struct Head {

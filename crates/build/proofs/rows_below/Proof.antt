@@ -1,20 +1,19 @@
--- Invariant: the rows passed have one word.
-use mathlib.Core.Path.{_≡_, sym, _∙_}
+-- Invariant: the rows passed have fewer than m words.
 use Prim.Native.Nat.{ℕ, _-_, _≤_, _<_}
 use native.Mathlib.Nat.{not-suc-le-zero}
 use native.Mathlib.Omega.{arith}
 use borrow.Author.Count.{below-more}
 use borrow.Author.Needs.{needs}
 use Rattle.list.specs.Table.{rowsOf, lengthOf}
-use Rattle.build.proofs.OneWord.{one-word-rows}
-use Rattle.build.proofs.one_word_rows.Statement.{statement}
-use Rattle.build.proofs.one_word_rows.Tie as tie
+use Rattle.build.proofs.RowLengths.{rows-below}
+use Rattle.build.proofs.rows_below.Statement.{statement}
+use Rattle.build.proofs.rows_below.Tie as tie
 
 abbrev Inv-loop : tie.InvT-loop
-Inv-loop table count k₀ k = (k ≤ count) × ((j : ℕ) → j < k → lengthOf table j ≡ 1)
+Inv-loop table m count k₀ k = (k ≤ count) × ((j : ℕ) → j < k → lengthOf table j < m)
 
 abbrev μ-loop : tie.MeasureT-loop
-μ-loop table count k₀ k = count - k
+μ-loop table m count k₀ k = count - k
 
 loop-holds : tie.Need-loop-holds Inv-loop μ-loop
 loop-holds c = (omega arith, λ j l. absurd (not-suc-le-zero l))
@@ -26,7 +25,7 @@ returns : tie.Need-returns Inv-loop μ-loop
 unfolding rowsOf
 returns c =
     let l = c .before .before .before in
-    one-word-rows _ (l .before .pre) _ (l .loop .inv .0) (l .loop .inv .1) (λ h e. c .if1 .taken (c .before .length-of .ensures .0 ∙ e))
+    rows-below _ (l .before .pre) _ _ (l .loop .inv .0) (l .loop .inv .1) (λ h. omega (arith, c .if1 .taken, c .before .length-of .ensures .0))
 
 add-k : tie.Need-add-k Inv-loop μ-loop
 add-k c = search needs
@@ -37,16 +36,16 @@ loop-less c = search needs
 loop-again : tie.Need-loop-again Inv-loop μ-loop
 loop-again c =
     let l = c .before .before .before in
-    (omega arith, below-more _ _ (l .loop .inv .1) (sym (c .before .length-of .ensures .0) ∙ c .if1 .left))
+    (omega arith, below-more _ _ (l .loop .inv .1) (omega (arith, c .before .length-of .ensures .0, c .if1 .left)))
 
 returns-2 : tie.Need-returns-2 Inv-loop μ-loop
 unfolding rowsOf
 returns-2 c =
     let l = c .before in
-    one-word-rows _ (l .before .pre) _ (l .loop .inv .0) (l .loop .inv .1) (λ h e. absurd (omega (arith, c .loop-test .left)))
+    rows-below _ (l .before .pre) _ _ (l .loop .inv .0) (l .loop .inv .1) (λ h. absurd (omega (arith, c .loop-test .left)))
 
-pub one-word-rows-spec : {M : Type 1} → statement M
-one-word-rows-spec =
+pub rows-below-spec : {M : Type 1} → statement M
+rows-below-spec =
     tie.close
     (tie.spec
     Inv-loop
