@@ -34,6 +34,10 @@ pub const SENTENCE_LIMIT: usize = 4;
 pub const USABLE_LIMIT: usize = 16;
 /// The most sentences of a listing.
 pub const LISTING_LIMIT: usize = 65_536;
+/// The word that stands for every word without a row of one word.
+pub const UNKNOWN_WORD: u32 = 1;
+/// `<s>`, after which a sentence begins.
+pub const START_WORD: u32 = 2;
 /// `</s>`, which ends a sentence.
 pub const END_WORD: u32 = 3;
 /// Added to the length byte of an unknown word.

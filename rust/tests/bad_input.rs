@@ -17,7 +17,16 @@ use tests::random::Random;
 
 /// Every subcommand over a file that may be no model ends well.
 fn try_all(folder: &Folder) {
-    for arguments in ["check m", "check m --fill", "dump m", "query m text", "query m text --threads 3 --left --fill"] {
+    let arguments = [
+        "check m",
+        "check m --fill",
+        "dump m",
+        "query m text",
+        "query m text --threads 3 --left --fill",
+        "explain m text",
+        "explain m text --fill",
+    ];
+    for arguments in arguments {
         folder.run(arguments).ended_well();
     }
 }
@@ -44,6 +53,7 @@ fn random_bytes_as_model_and_text() {
         try_all(&folder);
         folder.put("m", SAMPLE);
         folder.run("query m text").printed();
+        folder.run("explain m text").printed();
     }
 }
 
@@ -119,6 +129,7 @@ fn wrong_arguments() {
         ("check a b", "check: 2 files are given, not 1: see backoff check --help"),
         ("build a", "build: 1 file is given, not 2: see backoff build --help"),
         ("query a b c", "query: 3 files are given, not 1 or 2: see backoff query --help"),
+        ("explain", "explain: 0 files are given, not 1 or 2: see backoff explain --help"),
         ("dump --fill a", "dump: there is no option '--fill': see backoff dump --help"),
         ("query -x", "query: there is no option '-x': see backoff query --help"),
         ("query a --points=1", "query: '--points' takes no value: see backoff query --help"),
@@ -139,7 +150,7 @@ fn help() {
     let folder = Folder::new();
     let help = folder.run("--help").text();
     assert_eq!((folder.run("-h").text(), folder.run("help").text()), (help.clone(), help.clone()));
-    for subcommand in ["check", "build", "dump", "query", "bench"] {
+    for subcommand in ["check", "build", "dump", "query", "explain", "bench"] {
         let own = folder.run(&format!("{subcommand} --help")).text();
         let usage = own.lines().next().and_then(|line| line.strip_prefix("usage: ")).expect("usage first");
         assert!(help.contains(usage), "{usage}");
@@ -155,7 +166,7 @@ fn outputs_that_take_nothing() {
     folder.put("m", SAMPLE);
     folder.run("build m array").printed();
     folder.put("text", "four five\n".repeat(100_000));
-    for command in ["check m", "dump array", "query m text", "--help", "bench m"] {
+    for command in ["check m", "dump array", "query m text", "explain m text", "--help", "bench m"] {
         let told = folder.shell(&format!("backoff {command} >/dev/full")).refused();
         assert_eq!(told, "backoff: standard output: No space left on device (os error 28)\n", "{command}");
     }

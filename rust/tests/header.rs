@@ -35,6 +35,8 @@ fn limits() {
         ("SENTENCE_LIMIT", SENTENCE_LIMIT),
         ("USABLE_LIMIT", USABLE_LIMIT),
         ("LISTING_LIMIT", LISTING_LIMIT),
+        ("UNKNOWN_WORD", UNKNOWN_WORD as usize),
+        ("START_WORD", START_WORD as usize),
         ("END_WORD", END_WORD as usize),
         ("UNKNOWN_LENGTH", UNKNOWN_LENGTH as usize),
         ("EXTENDED_LENGTH", EXTENDED_LENGTH as usize),

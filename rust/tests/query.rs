@@ -6,7 +6,7 @@ use std::io::{BufRead, BufReader, Write};
 use std::process::{Command, Stdio};
 use std::sync::mpsc::channel;
 use std::time::Duration;
-use support::{Folder, Texted, PROGRAM, SAMPLE};
+use support::{any_list, any_text, Folder, Texted, PROGRAM, SAMPLE};
 use tests::lists;
 use tests::random::Random;
 use tests::reference::rule::{Rule, Scored, SENTENCE_END, SENTENCE_START};
@@ -124,30 +124,6 @@ fn compare(printed: &[u8], sentences: &[Vec<Word>], form: Form) {
         true => assert!(summary.is_empty()),
         false => compare_summary(std::str::from_utf8(summary).unwrap(), sentences),
     }
-}
-
-/// A list and a text over it: words of its rows, in their order or alone, others, marks, and every kind of blanks.
-fn any_list(random: &mut Random) -> Texted {
-    let order = 1 + random.below(5);
-    let rows = lists::small(random, order);
-    Texted::new(random, &rows)
-}
-
-fn any_text(random: &mut Random, list: &Texted, sentences: usize) -> Vec<u8> {
-    let mut text = Vec::new();
-    for _ in 0..sentences {
-        let length = random.below(12);
-        for word in lists::text(random, &list.rows, length) {
-            let known = (1..=list.texts.len() as u32).contains(&word);
-            text.extend(if known { list.text(word).to_vec() } else { format!("other{word}\u{a0}").into_bytes() });
-            text.push(random.pick(b"  \t\r\x0B\x0C\0"));
-        }
-        text.push(b'\n');
-    }
-    if random.chance(50) {
-        text.extend(b"no line feed");
-    }
-    text
 }
 
 fn sample() -> Texted {

@@ -7,6 +7,7 @@ use std::path::{Path, PathBuf};
 use std::process::{Command, Output, Stdio};
 use std::sync::atomic::{AtomicUsize, Ordering};
 use tests::arpa;
+use tests::lists;
 use tests::random::Random;
 use tests::reference::list::Row;
 
@@ -144,4 +145,29 @@ impl Texted {
     pub fn text(&self, word: u32) -> &[u8] {
         &self.texts[word as usize - 1]
     }
+}
+
+/// A small list of any order.
+pub fn any_list(random: &mut Random) -> Texted {
+    let order = 1 + random.below(5);
+    let rows = lists::small(random, order);
+    Texted::new(random, &rows)
+}
+
+/// A text over a list: words of its rows, in their order or alone, others, marks, and every kind of blanks.
+pub fn any_text(random: &mut Random, list: &Texted, sentences: usize) -> Vec<u8> {
+    let mut text = Vec::new();
+    for _ in 0..sentences {
+        let length = random.below(12);
+        for word in lists::text(random, &list.rows, length) {
+            let known = (1..=list.texts.len() as u32).contains(&word);
+            text.extend(if known { list.text(word).to_vec() } else { format!("other{word}\u{a0}").into_bytes() });
+            text.push(random.pick(b"  \t\r\x0B\x0C\0"));
+        }
+        text.push(b'\n');
+    }
+    if random.chance(50) {
+        text.extend(b"no line feed");
+    }
+    text
 }

@@ -1,127 +1,46 @@
-//! The command line.
+//! The command line: files and options behind the name of a subcommand.
 
 use crate::failure::Failure;
-use std::ffi::OsString;
+use crate::subcommands::{Command, Subcommand, HELP, SUBCOMMANDS, VERSION};
+use std::ffi::{OsStr, OsString};
+use std::os::unix::ffi::OsStrExt;
 use std::path::PathBuf;
 
-/// Where a model comes from.
-pub struct Source {
-    pub path: PathBuf,
-    /// Whether rows that a pruned list lacks are added.
-    pub fill: bool,
-}
-
-/// How a text is scored and printed.
-pub struct Asked {
-    /// None: standard input.
-    pub text: Option<PathBuf>,
-    pub threads: usize,
-    pub form: Form,
-}
-
-/// What the lines of `query` look like.
-#[derive(Clone, Copy, Default)]
-pub struct Form {
-    /// Whole points, not base-10 logarithms.
-    pub points: bool,
-    /// A sentence's total alone.
-    pub totals: bool,
-    /// The left mark behind each word.
-    pub left: bool,
-}
-
-pub enum Command {
-    Help(&'static str),
-    Check(Source),
-    Build(Source, PathBuf),
-    Dump(PathBuf),
-    Query(Source, Asked),
-    Bench(Source, usize),
-}
-
-/// What a subcommand takes, and what it is then.
-struct Subcommand {
-    name: &'static str,
-    /// The fewest and the most files.
-    files: (usize, usize),
-    options: &'static [&'static str],
-    help: &'static str,
-    command: fn(Given) -> Command,
-}
-
-const SUBCOMMANDS: [Subcommand; 5] = [
-    Subcommand {
-        name: "check",
-        files: (1, 1),
-        options: &["--fill"],
-        help: include_str!("help/check.txt"),
-        command: |given| Command::Check(given.source()),
-    },
-    Subcommand {
-        name: "build",
-        files: (2, 2),
-        options: &["--fill"],
-        help: include_str!("help/build.txt"),
-        command: |given| Command::Build(given.source(), given.file(1)),
-    },
-    Subcommand {
-        name: "dump",
-        files: (1, 1),
-        options: &[],
-        help: include_str!("help/dump.txt"),
-        command: |given| Command::Dump(given.file(0)),
-    },
-    Subcommand {
-        name: "query",
-        files: (1, 2),
-        options: &["--fill", "--points", "--totals", "--left", "--threads"],
-        help: include_str!("help/query.txt"),
-        command: |given| Command::Query(given.source(), given.asked()),
-    },
-    Subcommand {
-        name: "bench",
-        files: (1, 1),
-        options: &["--fill", "--threads"],
-        help: include_str!("help/bench.txt"),
-        command: |given| Command::Bench(given.source(), given.threads()),
-    },
-];
-
-const HELP: &str = include_str!("help/backoff.txt");
-const VERSION: &str = concat!("backoff ", env!("CARGO_PKG_VERSION"), "\n");
-
-/// The most threads that may be asked for.
-const THREAD_LIMIT: usize = 256;
-
-/// The files and options behind the name of a subcommand.
+/// What stands behind the name of a subcommand.
 #[derive(Default)]
-struct Given {
+pub struct Given {
     files: Vec<PathBuf>,
     options: Vec<String>,
-    threads: Option<usize>,
+    values: Vec<(String, OsString)>,
     help: bool,
 }
 
 impl Given {
-    fn has(&self, option: &str) -> bool {
+    pub fn has(&self, option: &str) -> bool {
         self.options.iter().any(|given| given == option)
     }
 
-    fn file(&self, place: usize) -> PathBuf {
+    pub fn file(&self, place: usize) -> PathBuf {
         self.files.get(place).cloned().unwrap_or_default()
     }
 
-    fn source(&self) -> Source {
-        Source { path: self.file(0), fill: self.has("--fill") }
+    pub fn file_count(&self) -> usize {
+        self.files.len()
     }
 
-    fn threads(&self) -> usize {
-        self.threads.unwrap_or(1)
+    /// The last value of an option.
+    pub fn value(&self, option: &str) -> Option<&OsStr> {
+        self.values.iter().rev().find(|(name, _)| name == option).map(|(_, value)| value.as_os_str())
     }
 
-    fn asked(&self) -> Asked {
-        let form = Form { points: self.has("--points"), totals: self.has("--totals"), left: self.has("--left") };
-        Asked { text: self.files.get(1).filter(|text| text.as_os_str() != "-").cloned(), threads: self.threads(), form }
+    /// An option's number from 1 up to a limit, or what it is where the option is not given.
+    pub fn number(&self, option: &str, absent: usize, limit: usize) -> Result<usize, String> {
+        let Some(value) = self.value(option) else { return Ok(absent) };
+        let value = value.to_string_lossy();
+        match value.parse() {
+            Ok(number) if (1..=limit).contains(&number) => Ok(number),
+            _ => Err(format!("{option} takes a number from 1 to {limit}, not '{value}'")),
+        }
     }
 }
 
@@ -148,7 +67,7 @@ pub fn parse(mut arguments: impl Iterator<Item = OsString>) -> Result<Command, F
         let files = given.files.len();
         return Err(subcommand.wrong(&format!("{} given, not {}", counted(files), range(fewest, most))));
     }
-    Ok((subcommand.command)(given))
+    (subcommand.command)(&given).map_err(|what| subcommand.wrong(&what))
 }
 
 fn counted(files: usize) -> String {
@@ -163,45 +82,44 @@ fn range(fewest: usize, most: usize) -> String {
     }
 }
 
+/// An option and its value, if one stands behind `=`.
+fn split(argument: &OsStr) -> (String, Option<OsString>) {
+    let mut parts = argument.as_bytes().splitn(2, |&byte| byte == b'=');
+    let name = String::from_utf8_lossy(parts.next().unwrap_or_default()).into_owned();
+    (name, parts.next().map(|value| OsStr::from_bytes(value).to_os_string()))
+}
+
 impl Subcommand {
     fn given(&self, mut arguments: impl Iterator<Item = OsString>) -> Result<Given, Failure> {
         let mut given = Given::default();
         let mut options_end = false;
         while let Some(argument) = arguments.next() {
-            let text = argument.to_string_lossy().into_owned();
-            if options_end || text == "-" || !text.starts_with('-') {
+            if options_end || argument == "-" || !argument.as_bytes().starts_with(b"-") {
                 given.files.push(argument.into());
-            } else if text == "--" {
+            } else if argument == "--" {
                 options_end = true;
             } else {
-                self.option(&text, &mut given, &mut arguments)?;
+                self.option(&argument, &mut given, &mut arguments)?;
             }
         }
         Ok(given)
     }
 
-    fn option(&self, text: &str, given: &mut Given, rest: &mut impl Iterator<Item = OsString>) -> Result<(), Failure> {
-        let (name, value) = text.split_once('=').map_or((text, None), |(name, value)| (name, Some(value.to_string())));
+    fn option(&self, argument: &OsStr, given: &mut Given, rest: &mut impl Iterator<Item = OsString>) -> Result<(), Failure> {
+        let (name, value) = split(argument);
+        let takes_value = |option: &&str| option.split_once(' ').is_some_and(|(option, _)| option == name);
         if name == "--help" || name == "-h" {
             given.help = true;
-        } else if !self.options.contains(&name) {
+        } else if self.options.iter().any(takes_value) {
+            given.values.push((name, value.or_else(|| rest.next()).unwrap_or_default()));
+        } else if !self.options.contains(&&name[..]) {
             return Err(self.wrong(&format!("there is no option '{name}'")));
-        } else if name == "--threads" {
-            let value = value.or_else(|| rest.next().map(|value| value.to_string_lossy().into_owned()));
-            given.threads = Some(self.threads(&value.unwrap_or_default())?);
         } else if value.is_some() {
             return Err(self.wrong(&format!("'{name}' takes no value")));
         } else {
-            given.options.push(name.to_string());
+            given.options.push(name);
         }
         Ok(())
-    }
-
-    fn threads(&self, value: &str) -> Result<usize, Failure> {
-        match value.parse() {
-            Ok(threads) if (1..=THREAD_LIMIT).contains(&threads) => Ok(threads),
-            _ => Err(self.wrong(&format!("--threads takes a number from 1 to {THREAD_LIMIT}, not '{value}'"))),
-        }
     }
 
     fn wrong(&self, what: &str) -> Failure {

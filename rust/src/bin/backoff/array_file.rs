@@ -21,7 +21,7 @@ use backoff::limits::{ORDER_LIMIT, ROW_ITEMS, ROW_LIMIT, SLOT_LIMIT, TEXT_LIMIT,
 use backoff::number::{ACCEPTED, ARRAY_HEAD, SHORT_SLICE};
 use std::collections::HashSet;
 
-pub const FIRST_LINE: &[u8; 8] = b"backoff\n";
+const FIRST_LINE: &[u8; 8] = b"backoff\n";
 const VERSION: u32 = 1;
 const NUMBER_BYTES: usize = 4;
 const HEAD_NUMBERS: usize = 6;
@@ -37,6 +37,11 @@ struct Head {
     words: usize,
     slots: usize,
     text_bytes: usize,
+}
+
+/// Whether bytes begin as those of an array file.
+pub fn is_array_file(bytes: &[u8]) -> bool {
+    bytes.starts_with(FIRST_LINE)
 }
 
 pub fn encode(list: &List, array: &Array) -> Vec<u8> {
@@ -76,7 +81,7 @@ pub fn decode(bytes: &[u8]) -> Result<(List, Array), String> {
 
 impl Head {
     fn read(bytes: &[u8]) -> Result<Head, String> {
-        if !bytes.starts_with(FIRST_LINE) && !FIRST_LINE.starts_with(bytes) {
+        if !is_array_file(bytes) && !FIRST_LINE.starts_with(bytes) {
             return Err("not an array file: its first line is not `backoff`".to_string());
         }
         let Some(head) = bytes.get(FIRST_LINE.len()..HEAD_BYTES) else { return Err(cut_file(bytes.len(), HEAD_BYTES)) };

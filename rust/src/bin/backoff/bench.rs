@@ -1,6 +1,5 @@
 //! `backoff bench`: words a second on this machine.
 
-use crate::arguments::{Form, Source};
 use crate::decimal::thousands;
 use crate::failure::Failure;
 use crate::list::{List, RESERVED_TEXTS};
@@ -9,6 +8,7 @@ use crate::progress::Progress;
 use crate::query::PART_BYTES;
 use crate::score::Scorer;
 use crate::side_by_side::side_by_side;
+use crate::subcommands::{Form, Source};
 use crate::text::parts;
 use std::io::Write;
 use std::time::{Duration, Instant};
@@ -24,12 +24,16 @@ pub fn bench(source: &Source, threads: usize, out: &mut impl Write) -> Result<()
     let model = Model::load(source, &progress)?;
     progress.say("timing");
     let text = text(&model.list, threads * PART_BYTES);
-    let [lines, totals] = [false, true].map(|totals| Scorer::new(&model, Form { totals, ..Form::default() }));
-    let mut sentences: Vec<_> = parts(&text, threads).into_iter().map(|part| lines.sentences(part)).collect();
-    let words: usize = sentences.iter().map(|part| part.len()).sum();
-    let runs = rate(words, || side_by_side(sentences.iter_mut().collect(), |part| lines.run(part)).map(drop))?;
-    let query = |scorer: &Scorer| rate(words, || side_by_side(parts(&text, threads), |part| scorer.answer(part)).map(drop));
-    let rates = [("runs alone", runs), ("query --totals", query(&totals)?), ("query", query(&lines)?)];
+    let scorer = Scorer::new(&model);
+    let mut readings: Vec<_> = parts(&text, threads).into_iter().map(|part| scorer.reading(part)).collect();
+    let words: usize = readings.iter().map(|part| part.len()).sum();
+    let runs = rate(words, || side_by_side(readings.iter_mut().collect(), |part| scorer.run(part)).map(drop))?;
+    let query = |form: Form| {
+        let answer = |part| scorer.scored(part).map(|reading| form.answer(&reading));
+        rate(words, || side_by_side(parts(&text, threads), answer).map(drop))
+    };
+    let totals = query(Form { totals: true, ..Form::default() })?;
+    let rates = [("runs alone", runs), ("query --totals", totals), ("query", query(Form::default())?)];
     drop(progress);
     writeln!(out, "words a second, {threads} thread{}", if threads == 1 { "" } else { "s" }).map_err(Failure::output)?;
     for (name, rate) in rates {

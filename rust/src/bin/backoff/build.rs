@@ -1,11 +1,11 @@
 //! `backoff build`: an array file of a list.
 
-use crate::arguments::Source;
 use crate::array_file::encode;
 use crate::failure::Failure;
 use crate::files;
 use crate::model::Model;
 use crate::progress::Progress;
+use crate::subcommands::Source;
 use std::path::Path;
 
 pub fn build(source: &Source, path: &Path) -> Result<(), Failure> {

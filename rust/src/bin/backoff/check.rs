@@ -1,10 +1,10 @@
 //! `backoff check`: what a list has.
 
-use crate::arguments::Source;
 use crate::decimal::thousands;
 use crate::failure::Failure;
 use crate::model::Model;
 use crate::progress::Progress;
+use crate::subcommands::Source;
 use std::io::Write;
 
 pub fn check(source: &Source, out: &mut impl Write) -> Result<(), Failure> {

@@ -29,6 +29,13 @@ pub fn write_log10(out: &mut Vec<u8>, points: i64) {
     }
 }
 
+/// The same as a text.
+pub fn log10_text(points: i64) -> String {
+    let mut text = Vec::new();
+    write_log10(&mut text, points);
+    String::from_utf8_lossy(&text).into_owned()
+}
+
 /// A whole number.
 pub fn write_whole(out: &mut Vec<u8>, number: i64) {
     let mut digits = [0; 20];
@@ -82,7 +89,7 @@ pub fn thousands(number: u64) -> String {
 
 #[cfg(test)]
 mod tests {
-    use super::{six_digits, thousands, write_log10, write_whole};
+    use super::{log10_text, six_digits, thousands, write_whole};
 
     /// What `printf '%g'` prints.
     #[test]
@@ -113,11 +120,6 @@ mod tests {
     /// Six decimals, without the zeros behind the last digit.
     #[test]
     fn points_as_logarithms() {
-        let written = |points: i64| {
-            let mut text = Vec::new();
-            write_log10(&mut text, points);
-            String::from_utf8_lossy(&text).into_owned()
-        };
         let known = [
             (0, "0"),
             (1, "0.000001"),
@@ -129,10 +131,10 @@ mod tests {
             (-6_487_965_000_000, "-6487965"),
         ];
         for (points, text) in known {
-            assert_eq!(written(points), text);
+            assert_eq!(log10_text(points), text);
         }
         for points in (-2_000_050..=2_000_050).step_by(7).chain([i64::MIN + 1, i64::MAX]) {
-            let text = written(points);
+            let text = log10_text(points);
             let (whole, decimals) = text.split_once('.').unwrap_or((&text, ""));
             assert!(decimals.len() <= 6 && !decimals.ends_with('0') && text.contains('.') == !decimals.is_empty(), "{text}");
             assert_eq!(format!("{whole}{decimals:0<6}").parse(), Ok(points), "{text}");

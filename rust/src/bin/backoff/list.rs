@@ -1,6 +1,7 @@
 //! A list and the texts of its words.
 
 use backoff::limits::{ROW_ITEMS, TEXT_LIMIT};
+use std::collections::HashMap;
 
 /// The texts of words 1, 2 and 3.
 pub const RESERVED_TEXTS: [&[u8]; 3] = [b"<unk>", b"<s>", b"</s>"];
@@ -41,6 +42,11 @@ impl List {
             lengths[row.words.len() - 1] += 1;
         }
         lengths
+    }
+
+    /// The number of each text.
+    pub fn numbers(&self) -> HashMap<&[u8], u32> {
+        self.texts.iter().map(Vec::as_slice).zip(1..).collect()
     }
 
     /// The text of a word that the list has.

@@ -1,5 +1,6 @@
-//! The program `backoff`: ARPA models checked, built, dumped and queried, over the calls of `include/backoff.h`. The calls are proved; the program is not.
+//! The program `backoff`: ARPA models checked, built, dumped, queried and explained, over the calls of `include/backoff.h`. The calls are proved; the program is not.
 
+mod addition;
 mod arguments;
 mod arpa_file;
 mod array;
@@ -10,24 +11,33 @@ mod check;
 mod checksum;
 mod decimal;
 mod dump;
+mod explain;
+mod explained;
 mod failure;
 mod files;
 mod form;
+mod ledger;
+mod lines;
 mod list;
 mod model;
 mod progress;
 mod query;
+mod reading;
 mod refusal;
+mod row_names;
 mod score;
 mod side_by_side;
+mod subcommands;
+mod tally;
 mod text;
+mod text_file;
 mod text_rows;
 
-use arguments::Command;
 use failure::Failure;
 use std::env::args_os;
 use std::io::{stderr, stdout, BufWriter, Write};
 use std::process::ExitCode;
+use subcommands::Command;
 
 fn main() -> ExitCode {
     match arguments::parse(args_os().skip(1)).and_then(run) {
@@ -48,6 +58,7 @@ fn run(command: Command) -> Result<(), Failure> {
         Command::Build(source, path) => build::build(&source, &path)?,
         Command::Dump(path) => dump::dump(&path, &mut out)?,
         Command::Query(source, asked) => query::query(&source, &asked, &mut out)?,
+        Command::Explain(source, text) => explain::explain(&source, text.as_deref(), &mut out)?,
         Command::Bench(source, threads) => bench::bench(&source, threads, &mut out)?,
     }
     out.flush().map_err(Failure::output)

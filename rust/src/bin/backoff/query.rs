@@ -1,15 +1,15 @@
 //! `backoff query`: a text's scores.
 
-use crate::arguments::{Asked, Source};
 use crate::failure::Failure;
 use crate::model::Model;
 use crate::progress::Progress;
-use crate::score::{Scorer, Tally};
+use crate::score::Scorer;
 use crate::side_by_side::side_by_side;
-use crate::text::{parts, Pieces};
-use std::fs::File;
-use std::io::{stdin, Read, Write};
-use std::path::Path;
+use crate::subcommands::{Asked, Source};
+use crate::tally::Tally;
+use crate::text::parts;
+use crate::text_file::TextFile;
+use std::io::Write;
 
 /// About as many bytes of the text are scored by one thread at a time.
 pub const PART_BYTES: usize = 1 << 19;
@@ -17,13 +17,13 @@ pub const PART_BYTES: usize = 1 << 19;
 pub fn query(source: &Source, asked: &Asked, out: &mut impl Write) -> Result<(), Failure> {
     let progress = Progress::start(true);
     let model = Model::load(source, &progress)?;
-    let scorer = Scorer::new(&model, asked.form);
+    let scorer = Scorer::new(&model);
     progress.say("scoring");
-    let (name, reader) = open(asked.text.as_deref())?;
-    let mut pieces = Pieces::new(reader);
+    let mut text = TextFile::open(asked.text.as_deref())?;
     let mut tally = Tally::default();
-    while let Some(piece) = pieces.next(asked.threads * PART_BYTES).map_err(|error| Failure::file(name, error))? {
-        for answer in side_by_side(parts(&piece, asked.threads), |part| scorer.answer(part))? {
+    while let Some(piece) = text.next(asked.threads * PART_BYTES)? {
+        let answer = |part| scorer.scored(part).map(|reading| asked.form.answer(&reading));
+        for answer in side_by_side(parts(&piece, asked.threads), answer)? {
             out.write_all(&answer.lines).map_err(Failure::output)?;
             tally += answer.tally;
             progress.add_words(answer.tally.tokens);
@@ -34,12 +34,4 @@ pub fn query(source: &Source, asked: &Asked, out: &mut impl Write) -> Result<(),
         out.write_all(tally.summary().as_bytes()).map_err(Failure::output)?;
     }
     Ok(())
-}
-
-/// The text and what it is called.
-fn open(text: Option<&Path>) -> Result<(&Path, Box<dyn Read>), Failure> {
-    match text {
-        Some(path) => Ok((path, Box::new(File::open(path).map_err(|error| Failure::file(path, error))?))),
-        None => Ok((Path::new("standard input"), Box::new(stdin().lock()))),
-    }
 }

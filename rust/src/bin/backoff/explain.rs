@@ -1,0 +1,41 @@
+//! `backoff explain`: each word's points as the addition that the back-off rule makes.
+
+use crate::explained::explained;
+use crate::failure::Failure;
+use crate::files;
+use crate::ledger;
+use crate::model::Model;
+use crate::progress::Progress;
+use crate::query::PART_BYTES;
+use crate::row_names::RowNames;
+use crate::score::Scorer;
+use crate::subcommands::Source;
+use crate::text_file::TextFile;
+use std::io::Write;
+use std::path::Path;
+
+pub fn explain(source: &Source, text: Option<&Path>, out: &mut impl Write) -> Result<(), Failure> {
+    let progress = Progress::start(true);
+    progress.say("reading the model");
+    let bytes = files::read(&source.path)?;
+    let model = Model::of(&bytes, source, &progress)?;
+    let (scorer, names) = (Scorer::new(&model), RowNames::new(&model.list, &bytes));
+    let mut text = TextFile::open(text)?;
+    let (mut sentences, mut total) = (0, 0);
+    while let Some(piece) = text.next(PART_BYTES)? {
+        for sentence in explained(&model, &scorer, &piece).map_err(Failure::Told)? {
+            let mut lines = if sentences == 0 { Vec::new() } else { vec![b'\n'] };
+            sentences += 1;
+            total += sentence.total;
+            ledger::print(&sentence, sentences, &names, &mut lines);
+            out.write_all(&lines).map_err(Failure::output)?;
+        }
+        out.flush().map_err(Failure::output)?;
+    }
+    if sentences > 1 {
+        let mut line = vec![b'\n'];
+        ledger::print_total(sentences, total, &mut line);
+        out.write_all(&line).map_err(Failure::output)?;
+    }
+    Ok(())
+}
