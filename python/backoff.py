@@ -6,6 +6,11 @@
     -0.0065
     >>> model.points("four five")
     -6500
+    >>> print(model.explain("five", eos=False))
+    five
+      <s> five  not listed: b of "<s>" (line 8)  -3000
+      five      listed (line 11): p              -9000  -12000
+    total (log10 -0.012)                                -12000
 
 A point is 1/1,000,000 of a base-10 logarithm. `points` and its companions are exact whole numbers; `score` and its
 companions are the same numbers divided by 1,000,000, as KenLM gives them. docs/python.md is the page of this module.
@@ -22,12 +27,23 @@ import functools
 import os
 import struct
 import zlib
-from ctypes import c_bool, c_char_p, c_int64, c_size_t, c_uint32, c_uint64, c_void_p
+from ctypes import c_bool, c_char_p, c_int32, c_int64, c_size_t, c_uint32, c_uint64, c_void_p
 from dataclasses import dataclass
 from typing import Iterable, Iterator, NamedTuple, Optional, Union
 
 __version__ = "4.0.0"
-__all__ = ["FullScoreReturn", "LanguageModel", "Model", "Refused", "Sheet", "State"]
+__all__ = [
+    "ExplainedWord",
+    "Explanation",
+    "FullScoreReturn",
+    "LanguageModel",
+    "Model",
+    "Refused",
+    "Row",
+    "Sheet",
+    "State",
+    "Tried",
+]
 
 Text = Union[str, bytes]
 Path = Union[str, "os.PathLike[str]"]
@@ -45,6 +61,7 @@ TEXT_LIMIT = 63
 POINTS_PER_LOG = 1_000_000
 ORDER_HEAD = 24
 UNKNOWN_WORD = 1
+START_WORD = 2
 END_WORD = 3
 UNKNOWN_LENGTH = 8
 
@@ -72,7 +89,7 @@ _REFUSALS = {
     10: "the array of the list needs more than 1,048,576 slots",
     11: "the array's first two slots are not as this library builds them",
     12: "the array holds no list, or one of its slots was changed",
-    14: "there are more than 65,535 words or sentences",
+    14: "there are more than 65,535 words or sentences, or a lookup has no words or more than 5",
     15: "the list has more than 65,535 rows",
     16: "the state belongs to a model of another order",
     17: "the line of the ARPA text is not in form, or is missing",
@@ -124,6 +141,19 @@ class _Status(ctypes.Structure):
     _fields_ = [("number", c_uint32), ("place", c_uint32)]
 
 
+class _Found(ctypes.Structure):
+    """struct backoff_found"""
+
+    _fields_ = [
+        ("number", c_uint32),
+        ("place", c_uint32),
+        ("found", c_uint32),
+        ("p", c_int32),
+        ("b", c_int32),
+        ("left", c_uint32),
+    ]
+
+
 class _Total(ctypes.Structure):
     """struct backoff_total"""
 
@@ -158,9 +188,11 @@ _SIGNATURES = {
     "backoff_fill": (_Rows, 2 * _SLICE),
     "backoff_build": (_Status, 4 * _SLICE),
     "backoff_unload": (_Status, 4 * _SLICE),
+    "backoff_lookup": (_Found, 3 * _SLICE),
     "backoff_start": (_Status, 3 * _SLICE),
     "backoff_run": (_Total, 6 * _SLICE),
     "backoff_batch": (_Sheet, 6 * _SLICE),
+    "backoff_plain": (_Total, _SLICE + [c_bool] + 3 * _SLICE),
 }
 _LIBRARY = "libbackoff.so"
 
@@ -204,16 +236,29 @@ def _bytes(text: Text) -> bytes:
 
 
 class _Contents(NamedTuple):
-    """What a file holds: the array, and the texts of the words from 1 on."""
+    """What a file holds: the list, its array, the texts of the words from 1 on, and the ARPA text, if it is one."""
 
+    table: array.array
     base: array.array
     check: array.array
     texts: list[bytes]
+    arpa: Optional[bytes]
+
+
+def _shown(text: bytes) -> str:
+    """Bytes as a text, also where they are not UTF-8."""
+    return text.decode("utf-8", "backslashreplace")
+
+
+def _log10(points: int) -> str:
+    """Points as a base-10 logarithm, exactly."""
+    whole, fraction = divmod(abs(points), POINTS_PER_LOG)
+    return f"{'-' if points < 0 else ''}{whole}.{fraction:06}".rstrip("0").rstrip(".")
 
 
 def _line(text: bytes, number: int) -> str:
     """A line of a text, numbered from 1; what follows the last line feed is one too."""
-    return text.split(b"\n", number)[number - 1].decode("utf-8", "backslashreplace")
+    return _shown(text.split(b"\n", number)[number - 1])
 
 
 def _require(answer: ctypes.Structure, path: Optional[str] = None, text: bytes = b"") -> None:
@@ -246,7 +291,7 @@ def _read_arpa(path: str, text: bytes, fill: bool) -> _Contents:
         complete = _calls.backoff_fill(*table.buffer_info(), *filled.buffer_info())
         _require(complete, path)
         table = filled[: ROW_ITEMS * complete.rows]
-    return _Contents(*_build(path, table), list(_texts_of(store)))
+    return _Contents(table, *_build(path, table), list(_texts_of(store)), text)
 
 
 def _build(path: str, table: array.array) -> tuple[array.array, array.array]:
@@ -315,7 +360,7 @@ def _read_array_file(path: str, data: bytes) -> _Contents:
         *base.buffer_info(), *check.buffer_info(), *table.buffer_info(), *work.buffer_info()
     )
     _require(unloaded, path)
-    return _Contents(base, check, _texts_in(path, data[texts : -_CHECKSUM.size], words))
+    return _Contents(table, base, check, _texts_in(path, data[texts : -_CHECKSUM.size], words), None)
 
 
 @functools.total_ordering
@@ -387,6 +432,96 @@ class Sheet:
         )
 
 
+class Row(NamedTuple):
+    """The answer of `Model.lookup`.
+
+    p     the row's log-probability, in points
+    b     its back-off, in points
+    left  whether some row puts a further word in front of it
+    """
+
+    p: int
+    b: int
+    left: bool
+
+
+class Tried(NamedTuple):
+    """A row that was tried for a word.
+
+    row     its words, oldest first
+    added   "p", if the row is listed: its p, and nothing further is tried; "b", if it is not: the b of its words but the
+            last; "none", if these are not listed either
+    points  what is added; 0 for "none"
+    line    the line of the row whose p or b it is; 0 for a row that filling added; None for "none" and for array files
+    """
+
+    row: tuple[str, ...]
+    added: str
+    points: int
+    line: Optional[int]
+
+    def __str__(self) -> str:
+        """Whether the row is listed, and what is added."""
+        place = "" if self.line is None else f" (line {self.line})" if self.line else " (added)"
+        history = " ".join(self.row[:-1])
+        if self.added == "p":
+            return f"listed{place}: p"
+        return f'not listed: b of "{history}"{place}' if self.added == "b" else f'not listed, nor is "{history}": no b'
+
+
+@dataclass(frozen=True)
+class ExplainedWord:
+    """A word, and how its points are added up.
+
+    text     the word as it was given
+    tried    the rows that were tried, longest first
+    unknown  whether it is scored as <unk>
+    """
+
+    text: str
+    tried: tuple[Tried, ...]
+    unknown: bool
+
+    @property
+    def points(self) -> int:
+        """The sum of what is added."""
+        return sum(tried.points for tried in self.tried)
+
+    @property
+    def matched(self) -> int:
+        """The number of words in the row whose p was used."""
+        return len(self.tried[-1].row)
+
+    def __str__(self) -> str:
+        return f"{self.text}, scored as <unk>" if self.unknown and self.text != "<unk>" else self.text
+
+
+@dataclass(frozen=True)
+class Explanation:
+    """How the points of a sentence are added up, word by word. As a text it is what `backoff explain` prints."""
+
+    words: tuple[ExplainedWord, ...]
+
+    @property
+    def total(self) -> int:
+        """The points of the sentence."""
+        return sum(word.points for word in self.words)
+
+    def __str__(self) -> str:
+        rows = [(" ".join(tried.row), str(tried), str(tried.points)) for word in self.words for tried in word.tried]
+        row, note, added = (max((len(texts[i]) for texts in rows), default=0) for i in range(3))
+        sums = max(len(str(points)) for points in [self.total, *(word.points for word in self.words)])
+        lines = []
+        for word in self.words:
+            lines.append(str(word))
+            for tried in word.tried:
+                lines.append(f"  {' '.join(tried.row):<{row}}  {tried!s:<{note}}  {tried.points:>{added}}")
+            lines[-1] += f"  {word.points:>{sums}}"
+        total, points = f"total (log10 {_log10(self.total)})", str(self.total)
+        gap = max(2 + row + 2 + note + 2 + added + 2 + sums - len(total) - len(points), 2)
+        return "\n".join([*lines, total + gap * " " + points])
+
+
 class Model:
     """An n-gram list for scoring.
 
@@ -407,7 +542,7 @@ class Model:
             contents = _read_array_file(self.path, data)
         else:
             contents = _read_arpa(self.path, data, fill)
-        self._base, self._check, self._texts = contents
+        self._table, self._base, self._check, self._texts, self._arpa = contents
         self._slots = self._base.buffer_info() + self._check.buffer_info()
         # Where two words have one text, it is the first one's.
         self._numbers = {text: len(self._texts) - i for i, text in enumerate(reversed(self._texts))}
@@ -417,7 +552,7 @@ class Model:
     @property
     def order(self) -> int:
         """The most words that a row of the list has."""
-        return self._check[0] - ORDER_HEAD
+        return self._table[-ROW_ITEMS]
 
     def __contains__(self, word: Text) -> bool:
         """Whether the list has the word; <unk> itself counts as unknown, as in KenLM."""
@@ -474,6 +609,86 @@ class Model:
         for _, points, lengths in self._runs(self._words(sentence), bos, eos):
             for word_points, length in zip(points, lengths):
                 yield word_points, length & MATCHED_LENGTH, bool(length & UNKNOWN_LENGTH)
+
+    def plain_points(self, sentence: Text, bos: bool = True, eos: bool = True) -> int:
+        """`points` from the list alone, by backoff_plain. The list is checked again at each call."""
+        words = self._words(sentence)
+        if eos:
+            words.append(END_WORD)
+        total = done = 0
+        while done < len(words):
+            # Of the words before, as many are given again as count.
+            first = max(done - self.order + 1, 0)
+            part = words[first : first + RUN_LIMIT]
+            points, lengths = _zeros("i", len(part)), _zeros("B", len(part))
+            answer = _calls.backoff_plain(
+                *self._table.buffer_info(),
+                bos and first == 0,
+                *part.buffer_info(),
+                *points.buffer_info(),
+                *lengths.buffer_info(),
+            )
+            _require(answer)
+            total += sum(points[done - first :])
+            done = first + len(part)
+        return total
+
+    def _lookup(self, words: array.array) -> Optional[Row]:
+        """The row of these words, oldest first; None if the list has none."""
+        found = _calls.backoff_lookup(*self._slots, *words.buffer_info())
+        _require(found)
+        return Row(found.p, found.b, bool(found.left)) if found.found else None
+
+    def lookup(self, words: Text) -> Optional[Row]:
+        """The row of 1 to 5 words, oldest first and parted by white space; None if the list has no such row.
+
+        No word is replaced by <unk>.
+        """
+        return self._lookup(self._words(words))
+
+    @functools.cached_property
+    def _lines(self) -> Optional[dict[bytes, int]]:
+        """The line of each row in the ARPA text, by its words; None if the list comes from an array file."""
+        if self._arpa is None:
+            return None
+        fields = [line.split(b"\t") for line in self._arpa.split(b"\n")]
+        return {field[1]: number for number, field in enumerate(fields, 1) if len(field) > 1}
+
+    def _line_of(self, texts: list[bytes]) -> Optional[int]:
+        """The line of a listed row; 0 if filling added it, None if no lines are known."""
+        return None if self._lines is None else self._lines.get(b" ".join(texts), 0)
+
+    def _try(self, row: array.array) -> Tried:
+        """What a row adds: its p, or the b of its words but the last."""
+        texts = [self._texts[word - 1] for word in row]
+        shown = tuple(map(_shown, texts))
+        found = self._lookup(row)
+        if found is not None:
+            return Tried(shown, "p", found.p, self._line_of(texts))
+        before = self._lookup(row[:-1])
+        if before is not None:
+            return Tried(shown, "b", before.b, self._line_of(texts[:-1]))
+        return Tried(shown, "none", 0, None)
+
+    def explain(self, sentence: Text, bos: bool = True, eos: bool = True) -> Explanation:
+        """How the points of a sentence are added up: for each word, the rows that the back-off rule tries.
+
+        Every p and b is an answer of backoff_lookup, and the sums are compared with the answers of backoff_run.
+        """
+        texts = _bytes(sentence).split() + ([b"</s>"] if eos else [])
+        words, history = [], array.array("I", [START_WORD] if bos else [])
+        for text, scored in zip(texts, self.full_points(sentence, bos, eos)):
+            given = array.array("I", [self._number(text)])
+            word = given if self._lookup(given) else array.array("I", [UNKNOWN_WORD])
+            history = history[max(len(history) - self.order + 1, 0) :]
+            tried = []
+            while not tried or tried[-1].added != "p":
+                tried.append(self._try(history[len(tried) :] + word))
+            words.append(ExplainedWord(_shown(text), tuple(tried), word[0] == UNKNOWN_WORD))
+            if (words[-1].points, words[-1].matched, words[-1].unknown) != scored:
+                raise RuntimeError(f"a fault of this module: the run answered {scored} for {words[-1]!r}")
+            history = array.array("I", [START_WORD]) if given[0] == END_WORD else history + word
+        return Explanation(tuple(words))
 
     def score(self, sentence: Text, bos: bool = True, eos: bool = True) -> float:
         """The base-10 logarithm of a sentence's probability: its points divided by 1,000,000."""

@@ -20,6 +20,7 @@ HEADER = Path("include/backoff.h").read_text()
 LIBRARY = os.environ["BACKOFF_LIBRARY"]
 STRUCTURES = {
     "backoff_status": backoff._Status,
+    "backoff_found": backoff._Found,
     "backoff_total": backoff._Total,
     "backoff_sheet": backoff._Sheet,
     "backoff_rows": backoff._Rows,
@@ -37,6 +38,7 @@ LIMITS = [
     "POINTS_PER_LOG",
     "ORDER_HEAD",
     "UNKNOWN_WORD",
+    "START_WORD",
     "END_WORD",
     "UNKNOWN_LENGTH",
 ]
