@@ -23,6 +23,8 @@ fn try_all(folder: &Folder) {
         "dump m",
         "query m text",
         "query m text --threads 3 --left --fill",
+        "query m text --plain",
+        "query m text --both --no-bos --no-eos",
         "explain m text",
         "explain m text --fill",
     ];
@@ -134,6 +136,8 @@ fn wrong_arguments() {
         ("query -x", "query: there is no option '-x': see backoff query --help"),
         ("query a --points=1", "query: '--points' takes no value: see backoff query --help"),
         ("query a --threads", "query: --threads takes a number from 1 to 256, not '': see backoff query --help"),
+        ("query a --plain --both", "query: '--plain' and '--both' exclude each other: see backoff query --help"),
+        ("query a --summary --totals", "query: '--totals' and '--summary' exclude each other: see backoff query --help"),
         ("query a --threads 0", "query: --threads takes a number from 1 to 256, not '0': see backoff query --help"),
         ("bench a --threads=two", "bench: --threads takes a number from 1 to 256, not 'two': see backoff bench --help"),
         ("check -- --fill", "--fill: No such file or directory (os error 2)"),

@@ -3,6 +3,7 @@
 mod support;
 
 use std::collections::HashMap;
+use support::lines::{logarithm, Marks};
 use support::{any_list, any_text, Folder, Texted, SAMPLE};
 use tests::arpa;
 use tests::lists;
@@ -60,17 +61,12 @@ fn joined(texts: &[Vec<u8>], words: &[i32]) -> Vec<u8> {
     words.iter().map(|&word| &texts[word as usize - 1][..]).collect::<Vec<_>>().join(&b' ')
 }
 
-/// Points as a logarithm: six decimals without the zeros behind the last digit.
-fn logarithm(points: i64) -> String {
-    let digits = format!("{:.6}", points as f64 / 1e6);
-    digits.trim_end_matches('0').trim_end_matches('.').to_string()
-}
-
 /// The lines of a sentence; each has one space where the program has some.
-fn sentence(placed: &Placed, scorer: &Rule, number: usize, words: &[&[u8]], total: &mut i64) -> Vec<Vec<u8>> {
+fn sentence(placed: &Placed, scorer: &Rule, number: usize, words: &[&[u8]], marks: Marks, total: &mut i64) -> Vec<Vec<u8>> {
     let mut lines = vec![[format!("sentence {number}: ").as_bytes(), &words.join(&b' ')].concat()];
-    let (mut preceding, mut points) = (vec![SENTENCE_START], 0);
-    for &text in words.iter().chain([&&b"</s>"[..]]) {
+    let (mut preceding, mut points) = (if marks.bos { vec![SENTENCE_START] } else { vec![] }, 0);
+    let closing = marks.eos.then_some(&b"</s>"[..]);
+    for text in words.iter().copied().chain(closing) {
         let given = placed.texts.iter().position(|other| other == text).map_or(0, |place| place as u32 + 1);
         let word = if given == 0 { UNKNOWN } else { given as i32 };
         lines.push(if word == UNKNOWN && text != b"<unk>" { [text, b", scored as <unk>"].concat() } else { text.to_vec() });
@@ -93,7 +89,7 @@ fn sentence(placed: &Placed, scorer: &Rule, number: usize, words: &[&[u8]], tota
 }
 
 /// All lines of a text.
-fn ledger(placed: &Placed, list: &[Row], text: &[u8]) -> Vec<Vec<u8>> {
+fn ledger(placed: &Placed, list: &[Row], text: &[u8], marks: Marks) -> Vec<Vec<u8>> {
     let scorer = Rule::new(list);
     let mut texts: Vec<&[u8]> = text.split(|&byte| byte == b'\n').collect();
     if texts.last().is_some_and(|line| line.is_empty()) {
@@ -102,7 +98,7 @@ fn ledger(placed: &Placed, list: &[Row], text: &[u8]) -> Vec<Vec<u8>> {
     let (mut lines, mut total) = (Vec::new(), 0);
     for (number, line) in (1..).zip(&texts) {
         let words: Vec<&[u8]> = line.split(|byte| b" \t\r\x0B\x0C\0".contains(byte)).filter(|word| !word.is_empty()).collect();
-        lines.extend(sentence(placed, &scorer, number, &words, &mut total));
+        lines.extend(sentence(placed, &scorer, number, &words, marks, &mut total));
         lines.push(Vec::new());
     }
     match texts.len() {
@@ -178,12 +174,13 @@ fn random_lists_and_texts() {
         let lines = arpa::with_blanks(random, &printed.lines());
         folder.put("arpa", arpa::bytes(&lines));
         folder.put("text", &text);
-        let expected = ledger(&Placed::with_lines(&list, &lines), &list.rows, &text);
+        let expected = ledger(&Placed::with_lines(&list, &lines), &list.rows, &text, Marks::BOTH);
         compare(&folder.run("explain arpa text").printed(), expected.clone());
         compare(&folder.run_on("explain arpa -", &text).printed(), expected);
         folder.run("build arpa array").printed();
-        let expected = ledger(&Placed::new(&list, |_| String::new()), &list.rows, &text);
-        compare(&folder.run_on("explain array", &text).printed(), expected);
+        let marks = random.pick(&Marks::ALL);
+        let expected = ledger(&Placed::new(&list, |_| String::new()), &list.rows, &text, marks);
+        compare(&folder.run_on(&format!("explain array{}", marks.options()), &text).printed(), expected);
     }
 }
 
@@ -207,7 +204,7 @@ fn filled() {
         folder.put("arpa", arpa::bytes(&lines));
         let printed = folder.run_on("explain arpa --fill", &text).printed();
         added += String::from_utf8_lossy(&printed).matches("(added)").count();
-        compare(&printed, ledger(&Placed::with_lines(&list, &lines), &list.rows, &text));
+        compare(&printed, ledger(&Placed::with_lines(&list, &lines), &list.rows, &text, Marks::BOTH));
     }
     assert!(added > 20, "{added}");
 }

@@ -6,125 +6,10 @@ use std::io::{BufRead, BufReader, Write};
 use std::process::{Command, Stdio};
 use std::sync::mpsc::channel;
 use std::time::Duration;
+use support::lines::{compare, scored, Form, Marks, Shown, LINES};
 use support::{any_list, any_text, Folder, Texted, PROGRAM, SAMPLE};
 use tests::lists;
 use tests::random::Random;
-use tests::reference::rule::{Rule, Scored, SENTENCE_END, SENTENCE_START};
-
-/// Points as a logarithm: six decimals without the zeros behind the last digit.
-fn logarithm(points: i64) -> String {
-    let digits = format!("{:.6}", points as f64 / 1e6);
-    digits.trim_end_matches('0').trim_end_matches('.').to_string()
-}
-
-/// What is asked for.
-#[derive(Clone, Copy)]
-struct Form {
-    points: bool,
-    totals: bool,
-    left: bool,
-}
-
-const LINES: Form = Form { points: false, totals: false, left: false };
-
-impl Form {
-    fn all() -> impl Iterator<Item = Form> {
-        (0..8).map(|bits| Form { points: bits & 1 != 0, totals: bits & 2 != 0, left: bits & 4 != 0 })
-    }
-
-    fn options(self) -> String {
-        let given = [("--points", self.points), ("--totals", self.totals), ("--left", self.left)];
-        given.iter().filter(|(_, given)| *given).map(|(name, _)| format!(" {name}")).collect()
-    }
-
-    fn number(self, points: i64) -> String {
-        if self.points {
-            points.to_string()
-        } else {
-            logarithm(points)
-        }
-    }
-}
-
-/// A word with its answer.
-type Word = (Vec<u8>, u32, Scored);
-
-/// The sentences of a text: each line's words and the closing one, scored over the plain list.
-fn scored(list: &Texted, text: &[u8]) -> Vec<Vec<Word>> {
-    let rule = Rule::new(&list.rows);
-    let numbers: std::collections::HashMap<&[u8], u32> = list.texts.iter().map(Vec::as_slice).zip(1..).collect();
-    let mut lines: Vec<&[u8]> = text.split(|&byte| byte == b'\n').collect();
-    if lines.last().is_some_and(|line| line.is_empty()) {
-        lines.pop();
-    }
-    let sentence = |line: &[u8]| {
-        let blank = |byte: &u8| b" \t\r\x0B\x0C\0".contains(byte);
-        let words = line.split(blank).filter(|word| !word.is_empty()).map(|word| (word, numbers.get(word).copied().unwrap_or(0)));
-        let mut preceding = vec![SENTENCE_START];
-        let score = |(text, word): (&[u8], u32)| {
-            let scored = rule.score(&preceding[preceding.len().saturating_sub(5)..], word);
-            preceding.push(word);
-            (text.to_vec(), word, scored)
-        };
-        words.chain([(&b"</s>"[..], SENTENCE_END)]).map(score).collect()
-    };
-    lines.into_iter().map(sentence).collect()
-}
-
-/// The sentences' lines.
-fn lines(sentences: &[Vec<Word>], form: Form) -> Vec<u8> {
-    let mut lines = Vec::new();
-    for sentence in sentences {
-        let total = form.number(sentence.iter().map(|(_, _, scored)| scored.points as i64).sum());
-        if form.totals {
-            lines.extend(format!("{total}\n").into_bytes());
-            continue;
-        }
-        for (text, word, scored) in sentence {
-            let number = if scored.unknown { 0 } else { *word };
-            let left = if !form.left {
-                ""
-            } else if scored.extended {
-                " +"
-            } else {
-                " -"
-            };
-            lines.extend(text);
-            lines.extend(format!("={number} {} {}{left}\t", scored.matched, form.number(scored.points as i64)).into_bytes());
-        }
-        let unknown = sentence.iter().filter(|(_, _, scored)| scored.unknown).count();
-        lines.extend(format!("Total: {total} OOV: {unknown}\n").into_bytes());
-    }
-    lines
-}
-
-/// The last four lines are right: perplexity is e to the power of minus the mean of natural logarithms.
-fn compare_summary(summary: &str, sentences: &[Vec<Word>]) {
-    let words: Vec<&Scored> = sentences.iter().flatten().map(|(_, _, scored)| scored).collect();
-    let unknown = words.iter().filter(|scored| scored.unknown).count();
-    let numbers: Vec<&str> = summary.lines().map(|line| line.split_once('\t').unwrap().1).collect();
-    let names = ["Perplexity including OOVs:\t", "Perplexity excluding OOVs:\t", "OOVs:\t", "Tokens:\t"];
-    assert!(names.iter().zip(summary.lines()).all(|(name, line)| line.starts_with(name)) && numbers.len() == 4, "{summary}");
-    assert_eq!(numbers[2..], [unknown.to_string(), words.len().to_string()]);
-    for (printed, with_unknown) in [(numbers[0], true), (numbers[1], false)] {
-        let logs: Vec<f64> =
-            words.iter().filter(|scored| with_unknown || !scored.unknown).map(|scored| scored.points as f64 / 1e6 * 10f64.ln()).collect();
-        let expected = (-logs.iter().sum::<f64>() / logs.len() as f64).exp();
-        let printed: f64 = printed.parse().unwrap();
-        assert!(printed == expected || (printed / expected - 1.0).abs() < 1e-5, "{printed} {expected}");
-    }
-}
-
-/// The whole output is right.
-fn compare(printed: &[u8], sentences: &[Vec<Word>], form: Form) {
-    let expected = lines(sentences, form);
-    let (lines, summary) = printed.split_at(expected.len().min(printed.len()));
-    assert!(lines == expected, "{}\n\n{}", String::from_utf8_lossy(printed), String::from_utf8_lossy(&expected));
-    match form.totals {
-        true => assert!(summary.is_empty()),
-        false => compare_summary(std::str::from_utf8(summary).unwrap(), sentences),
-    }
-}
 
 fn sample() -> Texted {
     let texts = ["<unk>", "<s>", "</s>", "four", "five"].map(|text| text.as_bytes().to_vec()).to_vec();
@@ -155,10 +40,10 @@ fn random_lists_and_texts() {
         let random = &mut Random::new(seed);
         let list = any_list(random);
         let text = any_text(random, &list, 12);
-        let sentences = scored(&list, &text);
+        let sentences = scored(&list, &text, Marks::BOTH);
         let folder = Folder::new();
         folder.put("arpa", list.arpa());
-        for form in [LINES, Form::all().nth(seed as usize % 8).unwrap()] {
+        for form in [LINES, Form::all().nth(seed as usize % 12).unwrap()] {
             compare(&folder.run_on(&format!("query arpa{}", form.options()), &text).printed(), &sentences, form);
         }
     }
@@ -176,7 +61,7 @@ fn all_ways_to_ask() {
         folder.put("text", &text);
         folder.run("build arpa array").printed();
         let first = folder.run("query arpa text").printed();
-        compare(&first, &scored(&list, &text), LINES);
+        compare(&first, &scored(&list, &text, Marks::BOTH), LINES);
         for arguments in [
             "array text",
             "--threads 2 array text",
@@ -204,7 +89,7 @@ fn large_text() {
     let folder = Folder::new();
     folder.put("arpa", list.arpa());
     folder.put("text", &text);
-    let sentences = scored(&list, &text);
+    let sentences = scored(&list, &text, Marks::BOTH);
     compare(&folder.run("query arpa text").printed(), &sentences, LINES);
     for form in Form::all() {
         compare(&folder.run(&format!("query arpa text --threads 3 {}", form.options())).printed(), &sentences, form);
@@ -220,7 +105,7 @@ fn long_sentence() {
     let text = [words.join(" "), "four five".to_string()].join("\n").into_bytes();
     let folder = Folder::new();
     folder.put("sample", SAMPLE);
-    compare(&folder.run_on("query sample", &text).printed(), &scored(&list, &text), LINES);
+    compare(&folder.run_on("query sample", &text).printed(), &scored(&list, &text, Marks::BOTH), LINES);
 }
 
 /// Marks in a text: `<s>` and `<unk>` are words, the latter unknown; `</s>` is a word behind which the context is that of a beginning, and the line goes on.
@@ -285,6 +170,6 @@ fn pruned() {
     let folder = Folder::new();
     folder.put("arpa", list.arpa());
     assert!(folder.run_on("query arpa", &text).refused().contains("to mend it: run again with --fill"));
-    let totals = Form { points: true, totals: true, left: false };
-    compare(&folder.run_on("query arpa --fill --points --totals", &text).printed(), &scored(&list, &text), totals);
+    let totals = Form { points: true, left: false, shown: Shown::Totals };
+    compare(&folder.run_on("query arpa --fill --points --totals", &text).printed(), &scored(&list, &text, Marks::BOTH), totals);
 }

@@ -9,6 +9,7 @@ import random
 import tempfile
 import unittest
 from concurrent.futures import ThreadPoolExecutor
+from decimal import Decimal
 
 import backoff
 import lists
@@ -44,6 +45,15 @@ class Sentences(unittest.TestCase):
                     self.assertEqual(self.model.score(sentence, bos, eos), sum(p for p, _, _ in points) / 1_000_000)
                     logs = [(p / 1_000_000, length, unknown) for p, length, unknown in points]
                     self.assertEqual(list(self.model.full_scores(sentence, bos, eos)), logs)
+
+    def test_scores_have_all_digits(self) -> None:
+        rng = random.Random(6)
+        model = lists.model(lists.arpa(lists.random_rows(rng, 3, 30, 300)))
+        sentence = " ".join(rng.choices([f"w{i}" for i in range(31)], k=1_200))
+        points = model.points(sentence)
+        self.assertLess(points, -1_000_000_000)
+        self.assertNotEqual(points % 10, 0)
+        self.assertEqual(Decimal(str(model.score(sentence))) * 1_000_000, points)
 
     def test_perplexity(self) -> None:
         self.assertAlmostEqual(self.model.perplexity("four five"), 10 ** (0.0065 / 3), places=12)

@@ -1,6 +1,8 @@
 //! Runs of the program in a folder of their own.
 #![allow(dead_code, reason = "each file of tests uses a part")]
 
+pub mod lines;
+
 use std::fs;
 use std::io::Write;
 use std::path::{Path, PathBuf};

@@ -70,10 +70,12 @@ pub struct Rule<'a> {
 }
 
 impl<'a> Rule<'a> {
-    /// At the beginning of a sentence.
-    pub fn new(array: &'a Array, order: usize) -> Rule<'a> {
+    /// After `<s>`, or with no context.
+    pub fn new(array: &'a Array, order: usize, after_start: bool) -> Rule<'a> {
         let mut rule = Rule { array, order, history: Vec::new() };
-        rule.precede(START_WORD);
+        if after_start {
+            rule.precede(START_WORD);
+        }
         rule
     }
 

@@ -6,9 +6,9 @@ use crate::list::{List, RESERVED_TEXTS};
 use crate::model::Model;
 use crate::progress::Progress;
 use crate::query::PART_BYTES;
-use crate::score::Scorer;
+use crate::score::{Scorer, With};
 use crate::side_by_side::side_by_side;
-use crate::subcommands::{Form, Source};
+use crate::subcommands::{Form, Marks, Shown, Source};
 use crate::text::parts;
 use std::io::Write;
 use std::time::{Duration, Instant};
@@ -24,15 +24,15 @@ pub fn bench(source: &Source, threads: usize, out: &mut impl Write) -> Result<()
     let model = Model::load(source, &progress)?;
     progress.say("timing");
     let text = text(&model.list, threads * PART_BYTES);
-    let scorer = Scorer::new(&model);
+    let scorer = Scorer::new(&model.list, With::Array(&model.array), Marks { bos: true, eos: true });
     let mut readings: Vec<_> = parts(&text, threads).into_iter().map(|part| scorer.reading(part)).collect();
     let words: usize = readings.iter().map(|part| part.len()).sum();
-    let runs = rate(words, || side_by_side(readings.iter_mut().collect(), |part| scorer.run(part)).map(drop))?;
+    let runs = rate(words, || side_by_side(readings.iter_mut().collect(), |part| scorer.score(part)).map(drop))?;
     let query = |form: Form| {
         let answer = |part| scorer.scored(part).map(|reading| form.answer(&reading));
         rate(words, || side_by_side(parts(&text, threads), answer).map(drop))
     };
-    let totals = query(Form { totals: true, ..Form::default() })?;
+    let totals = query(Form { shown: Shown::Totals, ..Form::default() })?;
     let rates = [("runs alone", runs), ("query --totals", totals), ("query", query(Form::default())?)];
     drop(progress);
     writeln!(out, "words a second, {threads} thread{}", if threads == 1 { "" } else { "s" }).map_err(Failure::output)?;

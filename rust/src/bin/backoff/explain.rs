@@ -8,19 +8,19 @@ use crate::model::Model;
 use crate::progress::Progress;
 use crate::query::PART_BYTES;
 use crate::row_names::RowNames;
-use crate::score::Scorer;
-use crate::subcommands::Source;
+use crate::score::{Scorer, With};
+use crate::subcommands::{Source, Text};
 use crate::text_file::TextFile;
 use std::io::Write;
-use std::path::Path;
 
-pub fn explain(source: &Source, text: Option<&Path>, out: &mut impl Write) -> Result<(), Failure> {
+pub fn explain(source: &Source, text: &Text, out: &mut impl Write) -> Result<(), Failure> {
     let progress = Progress::start(true);
     progress.say("reading the model");
     let bytes = files::read(&source.path)?;
     let model = Model::of(&bytes, source, &progress)?;
-    let (scorer, names) = (Scorer::new(&model), RowNames::new(&model.list, &bytes));
-    let mut text = TextFile::open(text)?;
+    let names = RowNames::new(&model.list, &bytes);
+    let scorer = Scorer::new(&model.list, With::Array(&model.array), text.marks);
+    let mut text = TextFile::open(text.path.as_deref())?;
     let (mut sentences, mut total) = (0, 0);
     while let Some(piece) = text.next(PART_BYTES)? {
         for sentence in explained(&model, &scorer, &piece).map_err(Failure::Told)? {

@@ -4,6 +4,7 @@ use crate::addition::{Addition, Rule};
 use crate::model::Model;
 use crate::reading::Reading;
 use crate::score::Scorer;
+use std::ops::Range;
 
 /// A word of the text.
 pub struct Word<'t> {
@@ -12,32 +13,28 @@ pub struct Word<'t> {
 }
 
 pub struct Sentence<'t> {
+    /// With the closing `</s>`, where it is scored.
     pub words: Vec<Word<'t>>,
+    /// Without it.
+    pub text: Vec<u8>,
     /// The sum of all points, as the run has them.
     pub total: i64,
-}
-
-impl Sentence<'_> {
-    /// The words that were given, so without the closing `</s>`.
-    pub fn text(&self) -> Vec<u8> {
-        let given = &self.words[..self.words.len().saturating_sub(1)];
-        given.iter().map(|word| word.text).collect::<Vec<_>>().join(&b' ')
-    }
 }
 
 /// The sentences of a text; or a refusal, or a fault of this program, in words.
 pub fn explained<'t>(model: &Model, scorer: &Scorer, text: &'t [u8]) -> Result<Vec<Sentence<'t>>, String> {
     let reading = scorer.scored(text)?;
-    let order = model.list.order();
-    let sentence = |places: std::ops::Range<usize>| {
+    let (order, marks) = (model.list.order(), reading.marks());
+    let sentence = |places: Range<usize>| {
         let total = reading.points[places.clone()].iter().map(|&points| points as i64).sum();
-        let mut rule = Rule::new(&model.array, order);
+        let text = reading.texts[places.start..places.end - marks.eos as usize].join(&b' ');
+        let mut rule = Rule::new(&model.array, order, marks.bos);
         let word = |place: usize| {
             let addition = rule.add(reading.words[place])?;
             compare(&addition, &reading, place)?;
             Ok(Word { text: reading.texts[place], addition })
         };
-        Ok(Sentence { words: places.map(word).collect::<Result<_, String>>()?, total })
+        Ok(Sentence { words: places.map(word).collect::<Result<_, String>>()?, text, total })
     };
     reading.lines().map(sentence).collect()
 }
@@ -65,6 +62,7 @@ mod tests {
     use super::compare;
     use crate::addition::{Added, Addition, Tried};
     use crate::reading::Reading;
+    use crate::subcommands::Marks;
     use std::collections::HashMap;
 
     fn addition() -> Addition {
@@ -73,7 +71,7 @@ mod tests {
     }
 
     fn reading(points: i32, length: u8) -> Reading<'static> {
-        let mut reading = Reading::new(b"five", &HashMap::from([(&b"five"[..], 5)]));
+        let mut reading = Reading::new(b"five", &HashMap::from([(&b"five"[..], 5)]), Marks { bos: true, eos: true });
         reading.points[0] = points;
         reading.lengths[0] = length;
         reading

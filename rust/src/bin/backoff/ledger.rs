@@ -32,7 +32,7 @@ pub fn print(sentence: &Sentence, number: usize, names: &RowNames, out: &mut Vec
     let mut widths = Widths { sum: total.sum.len(), ..Widths::default() };
     words.iter().flatten().for_each(|line| widths.fit(line));
     out.extend(format!("sentence {number}: ").as_bytes());
-    out.extend(sentence.text());
+    out.extend(&sentence.text);
     out.push(b'\n');
     for (word, lines) in sentence.words.iter().zip(&words) {
         out.extend(heading(word));

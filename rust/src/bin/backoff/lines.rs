@@ -2,7 +2,7 @@
 
 use crate::decimal::{write_log10, write_whole};
 use crate::reading::Reading;
-use crate::subcommands::Form;
+use crate::subcommands::{Form, Shown};
 use crate::tally::Tally;
 use backoff::limits::EXTENDED_LENGTH;
 use std::ops::Range;
@@ -27,21 +27,26 @@ impl Form {
         let mut tally = Tally::default();
         for place in places {
             tally.count(reading.points[place], reading.is_unknown(place));
-            if !self.totals {
+            if self.shown == Shown::Words {
                 self.print_word(reading, place, &mut answer.lines);
             }
         }
-        let out = &mut answer.lines;
-        if self.totals {
-            self.print_points(out, tally.points);
-        } else {
-            out.extend(b"Total: ");
-            self.print_points(out, tally.points);
-            out.extend(b" OOV: ");
-            write_whole(out, tally.unknown as i64);
+        self.print_total(&tally, &mut answer.lines);
+        answer.tally += tally;
+    }
+
+    fn print_total(self, tally: &Tally, out: &mut Vec<u8>) {
+        match self.shown {
+            Shown::Words => {
+                out.extend(b"Total: ");
+                self.print_points(out, tally.points);
+                out.extend(b" OOV: ");
+                write_whole(out, tally.unknown as i64);
+            }
+            Shown::Totals => self.print_points(out, tally.points),
+            Shown::Summary => return,
         }
         out.push(b'\n');
-        answer.tally += tally;
     }
 
     /// `SURFACE=VOCAB LENGTH LOG10`, the left mark where asked, and a tab; VOCAB is 0 for an unknown word.

@@ -20,11 +20,13 @@ mod ledger;
 mod lines;
 mod list;
 mod model;
+mod plain;
 mod progress;
 mod query;
 mod reading;
 mod refusal;
 mod row_names;
+mod runs;
 mod score;
 mod side_by_side;
 mod subcommands;
@@ -58,7 +60,7 @@ fn run(command: Command) -> Result<(), Failure> {
         Command::Build(source, path) => build::build(&source, &path)?,
         Command::Dump(path) => dump::dump(&path, &mut out)?,
         Command::Query(source, asked) => query::query(&source, &asked, &mut out)?,
-        Command::Explain(source, text) => explain::explain(&source, text.as_deref(), &mut out)?,
+        Command::Explain(source, text) => explain::explain(&source, &text, &mut out)?,
         Command::Bench(source, threads) => bench::bench(&source, threads, &mut out)?,
     }
     out.flush().map_err(Failure::output)

@@ -17,22 +17,43 @@ pub struct Model {
     pub added: usize,
 }
 
+/// The list of a model's file, and its array if that is what the file has.
+pub struct ModelList {
+    pub list: List,
+    pub added: usize,
+    array: Option<Array>,
+}
+
+impl ModelList {
+    /// Reads bytes of a file: of an array file or of an ARPA text.
+    pub fn read(bytes: &[u8], source: &Source) -> Result<ModelList, Failure> {
+        let told = |text: String| Failure::file(&source.path, text);
+        if array_file::is_array_file(bytes) {
+            let (list, array) = array_file::decode(bytes).map_err(|wrong| told(refusal::of_array_file(&wrong)))?;
+            return Ok(ModelList { list, added: 0, array: Some(array) });
+        }
+        let (list, added) = arpa_file::read(bytes, source.fill).map_err(told)?;
+        Ok(ModelList { list, added, array: None })
+    }
+
+    /// The model, whose array is built if the file has none.
+    pub fn build(self, source: &Source) -> Result<Model, Failure> {
+        let built = || Array::build(&self.list.table).map_err(|status| Failure::file(&source.path, refusal::of_build(status.number)));
+        let array = self.array.map_or_else(built, Ok)?;
+        Ok(Model { list: self.list, array, added: self.added })
+    }
+}
+
 impl Model {
     pub fn load(source: &Source, progress: &Progress) -> Result<Model, Failure> {
         progress.say("reading the model");
         Model::of(&files::read(&source.path)?, source, progress)
     }
 
-    /// The model of a file with these bytes: those of an array file, or of an ARPA text, whose array is built.
+    /// The model of a file with these bytes.
     pub fn of(bytes: &[u8], source: &Source, progress: &Progress) -> Result<Model, Failure> {
-        let told = |text: String| Failure::file(&source.path, text);
-        if array_file::is_array_file(bytes) {
-            let (list, array) = array_file::decode(bytes).map_err(|wrong| told(refusal::of_array_file(&wrong)))?;
-            return Ok(Model { list, array, added: 0 });
-        }
-        let (list, added) = arpa_file::read(bytes, source.fill).map_err(told)?;
+        let read = ModelList::read(bytes, source)?;
         progress.say("building the array");
-        let array = Array::build(&list.table).map_err(|status| told(refusal::of_build(status.number)))?;
-        Ok(Model { list, array, added })
+        read.build(source)
     }
 }

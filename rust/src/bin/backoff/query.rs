@@ -1,11 +1,12 @@
 //! `backoff query`: a text's scores.
 
 use crate::failure::Failure;
-use crate::model::Model;
+use crate::files;
+use crate::model::{Model, ModelList};
 use crate::progress::Progress;
-use crate::score::Scorer;
+use crate::score::{Scorer, With};
 use crate::side_by_side::side_by_side;
-use crate::subcommands::{Asked, Source};
+use crate::subcommands::{Asked, Shown, Source, Way};
 use crate::tally::Tally;
 use crate::text::parts;
 use crate::text_file::TextFile;
@@ -16,10 +17,19 @@ pub const PART_BYTES: usize = 1 << 19;
 
 pub fn query(source: &Source, asked: &Asked, out: &mut impl Write) -> Result<(), Failure> {
     let progress = Progress::start(true);
+    if asked.way == Way::Plain {
+        progress.say("reading the model");
+        let read = ModelList::read(&files::read(&source.path)?, source)?;
+        return score(Scorer::new(&read.list, With::ListAlone, asked.text.marks), asked, &progress, out);
+    }
     let model = Model::load(source, &progress)?;
-    let scorer = Scorer::new(&model);
+    let with = if asked.way == Way::Both { With::Both(&model.array) } else { With::Array(&model.array) };
+    score(Scorer::new(&model.list, with, asked.text.marks), asked, &progress, out)
+}
+
+fn score(scorer: Scorer, asked: &Asked, progress: &Progress, out: &mut impl Write) -> Result<(), Failure> {
     progress.say("scoring");
-    let mut text = TextFile::open(asked.text.as_deref())?;
+    let mut text = TextFile::open(asked.text.path.as_deref())?;
     let mut tally = Tally::default();
     while let Some(piece) = text.next(asked.threads * PART_BYTES)? {
         let answer = |part| scorer.scored(part).map(|reading| asked.form.answer(&reading));
@@ -30,7 +40,7 @@ pub fn query(source: &Source, asked: &Asked, out: &mut impl Write) -> Result<(),
         }
         out.flush().map_err(Failure::output)?;
     }
-    if !asked.form.totals {
+    if asked.form.shown != Shown::Totals {
         out.write_all(tally.summary().as_bytes()).map_err(Failure::output)?;
     }
     Ok(())

@@ -1,5 +1,6 @@
 //! A text as numbers: the words of its lines, and what each scores.
 
+use crate::subcommands::Marks;
 use crate::text;
 use backoff::limits::{END_WORD, UNKNOWN_LENGTH};
 use std::collections::HashMap;
@@ -14,33 +15,33 @@ const END_TEXT: &[u8] = b"</s>";
 /// A word that no list has.
 const UNLISTED: u32 = 0;
 
-/// The words of all lines of a text, each line closed with `</s>`.
-#[derive(Default)]
+/// The words of all lines of a text. Each line is closed with `</s>`, also where that is not asked for: then it belongs to no line.
+#[derive(Clone)]
 pub struct Reading<'t> {
     pub texts: Vec<&'t [u8]>,
     pub words: Vec<u32>,
-    /// For each line, the number of words up to its end.
+    /// For each line, the number of words up to its end, the closing one too.
     ends: Vec<usize>,
+    marks: Marks,
     pub points: Vec<i32>,
     pub lengths: Vec<u8>,
 }
 
 impl<'t> Reading<'t> {
     /// The words of a text, not yet scored.
-    pub fn new(text: &'t [u8], numbers: &HashMap<&[u8], u32>) -> Reading<'t> {
-        let mut reading = Reading::default();
+    pub fn new(text: &'t [u8], numbers: &HashMap<&[u8], u32>, marks: Marks) -> Reading<'t> {
+        let (mut texts, mut words, mut ends) = (Vec::new(), Vec::new(), Vec::new());
         for line in text::lines(text) {
             for word in text::words(line) {
-                reading.texts.push(word);
-                reading.words.push(numbers.get(word).copied().unwrap_or(UNLISTED));
+                texts.push(word);
+                words.push(numbers.get(word).copied().unwrap_or(UNLISTED));
             }
-            reading.texts.push(END_TEXT);
-            reading.words.push(END_WORD);
-            reading.ends.push(reading.words.len());
+            texts.push(END_TEXT);
+            words.push(END_WORD);
+            ends.push(words.len());
         }
-        reading.points = vec![0; reading.words.len()];
-        reading.lengths = vec![0; reading.words.len()];
-        reading
+        let (points, lengths) = (vec![0; words.len()], vec![0; words.len()]);
+        Reading { texts, words, ends, marks, points, lengths }
     }
 
     /// How many words there are, the closing ones too.
@@ -48,8 +49,25 @@ impl<'t> Reading<'t> {
         self.words.len()
     }
 
+    pub fn marks(&self) -> Marks {
+        self.marks
+    }
+
     /// The places of each line's words.
     pub fn lines(&self) -> impl Iterator<Item = Range<usize>> + '_ {
+        let closing = if self.marks.eos { 0 } else { 1 };
+        self.closed_lines().map(move |line| line.start..line.end - closing)
+    }
+
+    /// The places that are scored from a beginning of their own: without `<s>` those of each line; with it all, since a 3 leads back to the beginning.
+    pub fn stretches(&self) -> Vec<Range<usize>> {
+        match self.marks.bos {
+            true => [0..self.len()].into(),
+            false => self.closed_lines().collect(),
+        }
+    }
+
+    fn closed_lines(&self) -> impl Iterator<Item = Range<usize>> + '_ {
         let starts = [0].into_iter().chain(self.ends.iter().copied());
         starts.zip(&self.ends).map(|(start, &end)| start..end)
     }

@@ -174,6 +174,11 @@ pub fn of_build(number: u32) -> String {
     told.of(number)
 }
 
+/// The refusal of a list that was accepted before.
+pub fn of_list(number: u32) -> String {
+    Told::default().of(number)
+}
+
 /// The refusal of an array that is not as a build writes it.
 pub fn of_array(number: u32) -> String {
     of_array_file(&Told::default().of(number))

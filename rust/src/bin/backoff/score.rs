@@ -1,50 +1,88 @@
-//! Texts scored by start and runs.
+//! Texts scored by runs over the array, from the list alone, or by both.
 
-use crate::model::Model;
+use crate::array::Array;
+use crate::list::List;
+use crate::plain;
 use crate::reading::Reading;
 use crate::refusal;
-use backoff::limits::{RUN_LIMIT, STATE_LENGTH};
-use backoff::number::ACCEPTED;
+use crate::runs;
+use crate::subcommands::Marks;
 use std::collections::HashMap;
 
-/// A model with what scoring needs.
+/// What a text is scored with.
+pub enum With<'a> {
+    Array(&'a Array),
+    ListAlone,
+    Both(&'a Array),
+}
+
 pub struct Scorer<'a> {
-    model: &'a Model,
+    list: &'a List,
+    with: With<'a>,
+    marks: Marks,
     numbers: HashMap<&'a [u8], u32>,
 }
 
 impl<'a> Scorer<'a> {
-    pub fn new(model: &'a Model) -> Scorer<'a> {
-        Scorer { model, numbers: model.list.numbers() }
+    pub fn new(list: &'a List, with: With<'a>, marks: Marks) -> Scorer<'a> {
+        Scorer { list, with, marks, numbers: list.numbers() }
     }
 
-    /// Scores the lines of a text, each as a sentence from `<s>`; or the refusal in words.
+    /// A text, not yet scored.
+    pub fn reading<'t>(&self, text: &'t [u8]) -> Reading<'t> {
+        Reading::new(text, &self.numbers, self.marks)
+    }
+
+    /// A text with the points of its words; or the refusal in words.
     pub fn scored<'t>(&self, text: &'t [u8]) -> Result<Reading<'t>, String> {
         let mut reading = self.reading(text);
-        self.run(&mut reading)?;
+        self.score(&mut reading)?;
         Ok(reading)
     }
 
-    pub fn reading<'t>(&self, text: &'t [u8]) -> Reading<'t> {
-        Reading::new(text, &self.numbers)
-    }
-
-    /// All sentences go through one run after another: behind a 3 the state is start's, and a sentence may go on in the next run.
-    pub fn run(&self, reading: &mut Reading) -> Result<(), String> {
-        let (base, check) = (&self.model.array.base, &self.model.array.check);
-        let mut state = [0; STATE_LENGTH];
-        let mut number = backoff::start(base, check, &mut state).number;
-        let words = reading.words.chunks(RUN_LIMIT);
-        let points = reading.points.chunks_mut(RUN_LIMIT);
-        let lengths = reading.lengths.chunks_mut(RUN_LIMIT);
-        for ((words, points), lengths) in words.zip(points).zip(lengths) {
-            if number == ACCEPTED {
-                number = backoff::run(base, check, &mut state, words, points, lengths).number;
+    pub fn score(&self, reading: &mut Reading) -> Result<(), String> {
+        match self.with {
+            With::Array(array) => runs::score(array, reading).map_err(refusal::of_array),
+            With::ListAlone => plain::score(self.list, reading).map_err(refusal::of_list),
+            With::Both(array) => {
+                let mut again = reading.clone();
+                runs::score(array, reading).map_err(refusal::of_array)?;
+                plain::score(self.list, &mut again).map_err(refusal::of_list)?;
+                agree(reading, &again)
             }
         }
-        match number {
-            ACCEPTED => Ok(()),
-            number => Err(refusal::of_array(number)),
-        }
+    }
+}
+
+/// Both ways give each word the same points and the same length byte.
+fn agree(by_runs: &Reading, plainly: &Reading) -> Result<(), String> {
+    let answer = |reading: &Reading, place: usize| (reading.points[place], reading.lengths[place]);
+    let Some(place) = (0..by_runs.len()).find(|&place| answer(by_runs, place) != answer(plainly, place)) else { return Ok(()) };
+    let [(points, length), (plain_points, plain_length)] = [by_runs, plainly].map(|reading| answer(reading, place));
+    Err(format!(
+        "the run and plain scoring differ at '{}': {points} and {plain_points} points, length bytes {length} and {plain_length}",
+        by_runs.texts[place].escape_ascii()
+    ))
+}
+
+#[cfg(test)]
+mod tests {
+    use super::agree;
+    use crate::reading::Reading;
+    use crate::subcommands::Marks;
+    use std::collections::HashMap;
+
+    #[test]
+    fn differences_are_told() {
+        let reading = Reading::new(b"four five", &HashMap::new(), Marks { bos: true, eos: true });
+        assert_eq!(agree(&reading, &reading), Ok(()));
+        let mut other = reading.clone();
+        other.points[1] = -7;
+        let told = "the run and plain scoring differ at 'five': 0 and -7 points, length bytes 0 and 0";
+        assert_eq!(agree(&reading, &other), Err(told.to_string()));
+        let mut other = reading.clone();
+        other.lengths[2] = 17;
+        let told = "the run and plain scoring differ at '</s>': 0 and 0 points, length bytes 17 and 0";
+        assert_eq!(agree(&other, &reading), Err(told.to_string()));
     }
 }

@@ -10,23 +10,57 @@ pub struct Source {
     pub fill: bool,
 }
 
+/// A text, and what stands around each of its lines.
+pub struct Text {
+    /// None: standard input.
+    pub path: Option<PathBuf>,
+    pub marks: Marks,
+}
+
+/// Whether a line is scored after `<s>`, and closed with `</s>`.
+#[derive(Clone, Copy)]
+pub struct Marks {
+    pub bos: bool,
+    pub eos: bool,
+}
+
 /// How a text is scored and printed.
 pub struct Asked {
-    /// None: standard input.
-    pub text: Option<PathBuf>,
+    pub text: Text,
     pub threads: usize,
+    pub way: Way,
     pub form: Form,
 }
 
-/// What the lines of `query` look like.
+#[derive(Clone, Copy, PartialEq)]
+pub enum Way {
+    /// By runs over the array.
+    Runs,
+    /// From the list alone.
+    Plain,
+    /// By both, which must agree.
+    Both,
+}
+
+/// What `query` prints.
 #[derive(Clone, Copy, Default)]
 pub struct Form {
     /// Whole points, not base-10 logarithms.
     pub points: bool,
-    /// A sentence's total alone.
-    pub totals: bool,
     /// The left mark behind each word.
     pub left: bool,
+    pub shown: Shown,
+}
+
+#[derive(Clone, Copy, Default, PartialEq)]
+pub enum Shown {
+    /// All words with their totals, and the summary.
+    #[default]
+    Words,
+    /// The total of each sentence, and nothing else.
+    Totals,
+    /// The summary, and nothing else.
+    Summary,
 }
 
 pub enum Command {
@@ -35,8 +69,7 @@ pub enum Command {
     Build(Source, PathBuf),
     Dump(PathBuf),
     Query(Source, Asked),
-    /// Without a text, standard input is explained.
-    Explain(Source, Option<PathBuf>),
+    Explain(Source, Text),
     Bench(Source, usize),
 }
 
@@ -79,14 +112,14 @@ pub const SUBCOMMANDS: [Subcommand; 6] = [
     Subcommand {
         name: "query",
         files: (1, 2),
-        options: &["--fill", "--points", "--totals", "--left", "--threads N"],
+        options: &["--plain", "--both", "--points", "--totals", "--summary", "--left", "--no-bos", "--no-eos", "--threads N", "--fill"],
         help: include_str!("help/query.txt"),
         command: |given| Ok(Command::Query(given.source(), given.asked()?)),
     },
     Subcommand {
         name: "explain",
         files: (1, 2),
-        options: &["--fill"],
+        options: &["--no-bos", "--no-eos", "--fill"],
         help: include_str!("help/explain.txt"),
         command: |given| Ok(Command::Explain(given.source(), given.text())),
     },
@@ -104,14 +137,26 @@ impl Given {
         Source { path: self.file(0), fill: self.has("--fill") }
     }
 
-    /// The text; none where it is standard input.
-    fn text(&self) -> Option<PathBuf> {
-        (self.file_count() > 1).then(|| self.file(1)).filter(|text| text.as_os_str() != "-")
+    fn text(&self) -> Text {
+        let path = (self.file_count() > 1).then(|| self.file(1)).filter(|text| text.as_os_str() != "-");
+        Text { path, marks: Marks { bos: !self.has("--no-bos"), eos: !self.has("--no-eos") } }
     }
 
     fn asked(&self) -> Result<Asked, String> {
-        let form = Form { points: self.has("--points"), totals: self.has("--totals"), left: self.has("--left") };
-        Ok(Asked { text: self.text(), threads: self.threads()?, form })
+        let way = self.one_of([("--plain", Way::Plain), ("--both", Way::Both)], Way::Runs)?;
+        let shown = self.one_of([("--totals", Shown::Totals), ("--summary", Shown::Summary)], Shown::Words)?;
+        let form = Form { points: self.has("--points"), left: self.has("--left"), shown };
+        Ok(Asked { text: self.text(), threads: self.threads()?, way, form })
+    }
+
+    /// What one of two options means, or what neither means; both are wrong.
+    fn one_of<T>(&self, [(one, first), (two, second)]: [(&str, T); 2], neither: T) -> Result<T, String> {
+        match (self.has(one), self.has(two)) {
+            (true, true) => Err(format!("'{one}' and '{two}' exclude each other")),
+            (true, false) => Ok(first),
+            (false, true) => Ok(second),
+            (false, false) => Ok(neither),
+        }
     }
 
     fn threads(&self) -> Result<usize, String> {
@@ -121,3 +166,19 @@ impl Given {
 
 /// The most threads that may be asked for.
 const THREAD_LIMIT: usize = 256;
+
+#[cfg(test)]
+mod tests {
+    use super::{HELP, SUBCOMMANDS};
+
+    /// The help of a subcommand names each of its options, and that of the program each subcommand.
+    #[test]
+    fn help_names_all() {
+        for subcommand in &SUBCOMMANDS {
+            assert!(HELP.contains(&format!("backoff {} ", subcommand.name)), "{}", subcommand.name);
+            for option in subcommand.options {
+                assert!(subcommand.help.contains(&format!("\n  {option}  ")), "{} {option}", subcommand.name);
+            }
+        }
+    }
+}
