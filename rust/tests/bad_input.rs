@@ -27,6 +27,7 @@ fn try_all(folder: &Folder) {
         "query m text --both --no-bos --no-eos",
         "explain m text",
         "explain m text --fill",
+        "compare m text other",
     ];
     for arguments in arguments {
         folder.run(arguments).ended_well();
@@ -52,6 +53,7 @@ fn random_bytes_as_model_and_text() {
         let length = random.below(2_000);
         folder.put("m", [start, &random_bytes(random, length)].concat());
         folder.put("text", random_bytes(random, 3_000));
+        folder.put("other", random_bytes(random, 3_000));
         try_all(&folder);
         folder.put("m", SAMPLE);
         folder.run("query m text").printed();
@@ -63,6 +65,7 @@ fn random_bytes_as_model_and_text() {
 fn damaged_arpa_texts() {
     let folder = Folder::new();
     folder.put("text", "a b c\n");
+    folder.put("other", "a x c\n");
     for seed in 0..60 {
         let random = &mut Random::new(seed);
         let list = tiny(random);
@@ -84,6 +87,7 @@ fn damaged_arpa_texts() {
 fn damaged_array_files() {
     let folder = Folder::new();
     folder.put("text", "a b c\n");
+    folder.put("other", "a x c\n");
     for seed in 0..40 {
         let random = &mut Random::new(seed);
         folder.put("arpa", tiny(random).arpa());
@@ -132,6 +136,7 @@ fn wrong_arguments() {
         ("build a", "build: 1 file is given, not 2: see backoff build --help"),
         ("query a b c", "query: 3 files are given, not 1 or 2: see backoff query --help"),
         ("explain", "explain: 0 files are given, not 1 or 2: see backoff explain --help"),
+        ("compare a b", "compare: 2 files are given, not 3: see backoff compare --help"),
         ("dump --fill a", "dump: there is no option '--fill': see backoff dump --help"),
         ("query -x", "query: there is no option '-x': see backoff query --help"),
         ("query a --points=1", "query: '--points' takes no value: see backoff query --help"),
@@ -154,7 +159,7 @@ fn help() {
     let folder = Folder::new();
     let help = folder.run("--help").text();
     assert_eq!((folder.run("-h").text(), folder.run("help").text()), (help.clone(), help.clone()));
-    for subcommand in ["check", "build", "dump", "query", "explain", "bench"] {
+    for subcommand in ["check", "build", "dump", "query", "explain", "compare", "bench"] {
         let own = folder.run(&format!("{subcommand} --help")).text();
         let usage = own.lines().next().and_then(|line| line.strip_prefix("usage: ")).expect("usage first");
         assert!(help.contains(usage), "{usage}");
@@ -170,7 +175,7 @@ fn outputs_that_take_nothing() {
     folder.put("m", SAMPLE);
     folder.run("build m array").printed();
     folder.put("text", "four five\n".repeat(100_000));
-    for command in ["check m", "dump array", "query m text", "explain m text", "--help", "bench m"] {
+    for command in ["check m", "dump array", "query m text", "explain m text", "compare m text text", "--help", "bench m"] {
         let told = folder.shell(&format!("backoff {command} >/dev/full")).refused();
         assert_eq!(told, "backoff: standard output: No space left on device (os error 28)\n", "{command}");
     }

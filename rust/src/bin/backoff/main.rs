@@ -1,6 +1,7 @@
-//! The program `backoff`: ARPA models checked, built, dumped, queried and explained, over the calls of `include/backoff.h`. The calls are proved; the program is not.
+//! The program `backoff`: ARPA models checked, built, dumped and queried, scores explained and compared, over the calls of `include/backoff.h`. The calls are proved; the program is not.
 
 mod addition;
+mod alignment;
 mod arguments;
 mod arpa_file;
 mod array;
@@ -9,6 +10,9 @@ mod bench;
 mod build;
 mod check;
 mod checksum;
+mod columns;
+mod compare;
+mod comparison;
 mod decimal;
 mod dump;
 mod explain;
@@ -61,6 +65,7 @@ fn run(command: Command) -> Result<(), Failure> {
         Command::Dump(path) => dump::dump(&path, &mut out)?,
         Command::Query(source, asked) => query::query(&source, &asked, &mut out)?,
         Command::Explain(source, text) => explain::explain(&source, &text, &mut out)?,
+        Command::Compare(source, texts) => compare::compare(&source, &texts, &mut out)?,
         Command::Bench(source, threads) => bench::bench(&source, threads, &mut out)?,
     }
     out.flush().map_err(Failure::output)

@@ -70,6 +70,7 @@ pub enum Command {
     Dump(PathBuf),
     Query(Source, Asked),
     Explain(Source, Text),
+    Compare(Source, [Text; 2]),
     Bench(Source, usize),
 }
 
@@ -87,7 +88,7 @@ pub struct Subcommand {
 pub const HELP: &str = include_str!("help/backoff.txt");
 pub const VERSION: &str = concat!("backoff ", env!("CARGO_PKG_VERSION"), "\n");
 
-pub const SUBCOMMANDS: [Subcommand; 6] = [
+pub const SUBCOMMANDS: [Subcommand; 7] = [
     Subcommand {
         name: "check",
         files: (1, 1),
@@ -121,7 +122,14 @@ pub const SUBCOMMANDS: [Subcommand; 6] = [
         files: (1, 2),
         options: &["--no-bos", "--no-eos", "--fill"],
         help: include_str!("help/explain.txt"),
-        command: |given| Ok(Command::Explain(given.source(), given.text())),
+        command: |given| Ok(Command::Explain(given.source(), given.text(1))),
+    },
+    Subcommand {
+        name: "compare",
+        files: (3, 3),
+        options: &["--no-bos", "--no-eos", "--fill"],
+        help: include_str!("help/compare.txt"),
+        command: |given| Ok(Command::Compare(given.source(), [given.text(1), given.text(2)])),
     },
     Subcommand {
         name: "bench",
@@ -137,8 +145,9 @@ impl Given {
         Source { path: self.file(0), fill: self.has("--fill") }
     }
 
-    fn text(&self) -> Text {
-        let path = (self.file_count() > 1).then(|| self.file(1)).filter(|text| text.as_os_str() != "-");
+    /// The text at a place; where there is none, and where it is `-`, standard input.
+    fn text(&self, place: usize) -> Text {
+        let path = (self.file_count() > place).then(|| self.file(place)).filter(|text| text.as_os_str() != "-");
         Text { path, marks: Marks { bos: !self.has("--no-bos"), eos: !self.has("--no-eos") } }
     }
 
@@ -146,7 +155,7 @@ impl Given {
         let way = self.one_of([("--plain", Way::Plain), ("--both", Way::Both)], Way::Runs)?;
         let shown = self.one_of([("--totals", Shown::Totals), ("--summary", Shown::Summary)], Shown::Words)?;
         let form = Form { points: self.has("--points"), left: self.has("--left"), shown };
-        Ok(Asked { text: self.text(), threads: self.threads()?, way, form })
+        Ok(Asked { text: self.text(1), threads: self.threads()?, way, form })
     }
 
     /// What one of two options means, or what neither means; both are wrong.

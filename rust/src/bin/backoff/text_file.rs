@@ -6,6 +6,9 @@ use std::fs::File;
 use std::io::{stdin, Read};
 use std::path::{Path, PathBuf};
 
+/// About as many bytes are read at once where all are wanted.
+const PIECE_BYTES: usize = 1 << 20;
+
 pub struct TextFile {
     /// What messages call it.
     name: PathBuf,
@@ -25,5 +28,14 @@ impl TextFile {
     /// The next whole lines, about as many bytes as wanted; none at the end.
     pub fn next(&mut self, wanted: usize) -> Result<Option<Vec<u8>>, Failure> {
         self.pieces.next(wanted).map_err(|error| Failure::file(&self.name, error))
+    }
+
+    /// All lines.
+    pub fn whole(mut self) -> Result<Vec<u8>, Failure> {
+        let mut text = Vec::new();
+        while let Some(piece) = self.next(PIECE_BYTES)? {
+            text.extend(piece);
+        }
+        Ok(text)
     }
 }
