@@ -92,12 +92,14 @@ _REFUSALS = {
     14: "there are more than 65,535 words or sentences, or a lookup has no words or more than 5",
     15: "the list has more than 65,535 rows",
     16: "the state belongs to a model of another order",
-    17: "the line of the ARPA text is not in form, or is missing",
+    17: "the line of the ARPA text is not in form, or is missing; `backoff in-form` puts what estimators write in form",
     18: "a word of the line has no row of one word",
     19: "the section before this line has not as many lines as the text announces",
     20: "the end of a sentence is below the one before it, or past the words",
 }
 ARRAY_HEAD = 11
+ARPA_LINE = 17
+_BYTE_ORDER_MARK = b"\xef\xbb\xbf"
 _ROW_REFUSALS = range(3, 9)
 _LINE_REFUSALS = (15, 17, 18, 19)
 
@@ -266,7 +268,12 @@ def _require(answer: ctypes.Structure, path: Optional[str] = None, text: bytes =
     number, place = answer.number, answer.place
     if number:
         line = _line(text, place) if number in _LINE_REFUSALS else None
-        raise Refused(_REFUSALS[number], number, place, path, line)
+        words = _REFUSALS[number]
+        if number == ARPA_LINE and place == 1 and text.startswith(_BYTE_ORDER_MARK):
+            words = "the text begins with a byte order mark; `backoff in-form` takes it away"
+        elif number == ARPA_LINE and line.endswith("\r"):
+            words = "the line ends with a carriage return; `backoff in-form` takes it away"
+        raise Refused(words, number, place, path, line)
 
 
 def _texts_of(store: array.array) -> Iterator[bytes]:
@@ -493,7 +500,9 @@ class ExplainedWord:
         return len(self.tried[-1].row)
 
     def __str__(self) -> str:
-        return f"{self.text}, scored as <unk>" if self.unknown and self.text != "<unk>" else self.text
+        marked = ", which begins with a byte order mark" if self.text.startswith("\ufeff") else ""
+        scored_as = ", scored as <unk>" if self.unknown and self.text != "<unk>" else ""
+        return self.text + marked + scored_as
 
 
 @dataclass(frozen=True)

@@ -28,6 +28,8 @@ fn try_all(folder: &Folder) {
         "explain m text",
         "explain m text --fill",
         "compare m text other",
+        "in-form m",
+        "query m text --in-form --fill",
     ];
     for arguments in arguments {
         folder.run(arguments).ended_well();
@@ -106,6 +108,7 @@ fn no_such_files() {
     let folder = Folder::new();
     folder.put("m", SAMPLE);
     assert_eq!(folder.run("check none").refused(), "backoff: none: No such file or directory (os error 2)\n");
+    assert_eq!(folder.run("in-form none").refused(), "backoff: none: No such file or directory (os error 2)\n");
     assert_eq!(folder.run("dump .").refused(), "backoff: .: Is a directory (os error 21)\n");
     assert_eq!(folder.run("query m none").refused(), "backoff: none: No such file or directory (os error 2)\n");
     assert_eq!(folder.run("query m .").refused(), "backoff: .: Is a directory (os error 21)\n");
@@ -122,6 +125,7 @@ fn beyond_the_limit() {
     let folder = Folder::new();
     let told = "backoff: /dev/zero: more than 67108864 bytes: no list of 65,535 rows, the most there may be, needs as many\n";
     assert_eq!(folder.run("check /dev/zero").refused(), told);
+    assert_eq!(folder.run("in-form /dev/zero").refused(), told);
     folder.put("m", SAMPLE);
     assert_eq!(folder.run("query m /dev/zero").refused(), "backoff: /dev/zero: a line has more than 67108864 bytes\n");
 }
@@ -136,6 +140,7 @@ fn wrong_arguments() {
         ("build a", "build: 1 file is given, not 2: see backoff build --help"),
         ("query a b c", "query: 3 files are given, not 1 or 2: see backoff query --help"),
         ("explain", "explain: 0 files are given, not 1 or 2: see backoff explain --help"),
+        ("in-form a b", "in-form: 2 files are given, not 0 or 1: see backoff in-form --help"),
         ("compare a b", "compare: 2 files are given, not 3: see backoff compare --help"),
         ("dump --fill a", "dump: there is no option '--fill': see backoff dump --help"),
         ("query -x", "query: there is no option '-x': see backoff query --help"),
@@ -159,7 +164,7 @@ fn help() {
     let folder = Folder::new();
     let help = folder.run("--help").text();
     assert_eq!((folder.run("-h").text(), folder.run("help").text()), (help.clone(), help.clone()));
-    for subcommand in ["check", "build", "dump", "query", "explain", "compare", "bench"] {
+    for subcommand in ["check", "build", "dump", "query", "explain", "compare", "in-form", "bench"] {
         let own = folder.run(&format!("{subcommand} --help")).text();
         let usage = own.lines().next().and_then(|line| line.strip_prefix("usage: ")).expect("usage first");
         assert!(help.contains(usage), "{usage}");
@@ -175,7 +180,7 @@ fn outputs_that_take_nothing() {
     folder.put("m", SAMPLE);
     folder.run("build m array").printed();
     folder.put("text", "four five\n".repeat(100_000));
-    for command in ["check m", "dump array", "query m text", "explain m text", "compare m text text", "--help", "bench m"] {
+    for command in ["check m", "dump array", "query m text", "explain m text", "compare m text text", "in-form m", "--help", "bench m"] {
         let told = folder.shell(&format!("backoff {command} >/dev/full")).refused();
         assert_eq!(told, "backoff: standard output: No space left on device (os error 28)\n", "{command}");
     }

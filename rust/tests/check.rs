@@ -123,10 +123,55 @@ fn lines_not_in_form() {
     }
 }
 
+/// Files that are no ARPA text as they are.
 #[test]
-fn compressed() {
-    let told = refused(b"\x1F\x8B\x08\0\n");
-    assert!(told.ends_with("  wrong: the file is compressed\n  to mend it: unpack it: gunzip <OLD >NEW\n"), "{told}");
+fn other_files() {
+    let utf_16 = "the file is UTF-16, which begins with a byte order mark";
+    let cases: [(&[u8], &str, &str); 4] = [
+        (b"\x1F\x8B\x08\0\n", "the file is compressed", "unpack it: gunzip <OLD >NEW"),
+        (b"\xFF\xFE\\\0d\0a\0t\0a\0\\\0\n\0", utf_16, "write it as UTF-8: iconv -f UTF-16 -t UTF-8 OLD >NEW"),
+        (b"\xFE\xFF\0\\\0d\0a\0t\0a\0\\\0\n", utf_16, "write it as UTF-8: iconv -f UTF-16 -t UTF-8 OLD >NEW"),
+        (
+            b"iARPA\n\n\\data\\\nngram 1=1\n",
+            "the file is irstlm's iARPA, whose numbers are not those of an ARPA text",
+            "have irstlm write one: compile-lm OLD NEW --text=yes",
+        ),
+    ];
+    for (file, wrong, mend) in cases {
+        let told = refused(file);
+        assert!(told.ends_with(&format!("  wrong: {wrong}\n  to mend it: {mend}\n")), "{told}");
+        let told = refused_with(file, "--in-form");
+        assert!(told.ends_with(&format!("  wrong: {wrong}\n  to mend it: {mend}\n")), "{told}");
+    }
+}
+
+/// A byte order mark and carriage returns are named, and what takes them away.
+#[test]
+fn marks_of_editors() {
+    let in_form = "\n  to mend it: run again with --in-form, or write the text anew: backoff in-form OLD >NEW\n";
+    let told = refused(format!("\u{feff}{SAMPLE}"));
+    assert!(told.contains("\n  line 1: ") && told.ends_with(&format!("wrong: the text begins with a byte order mark{in_form}")), "{told}");
+    let told = refused(SAMPLE.replace('\n', "\r\n"));
+    assert!(told.ends_with(&format!("line 1: \\data\\\\r\n  wrong: the line ends with a carriage return{in_form}")), "{told}");
+    let told = refused(sample_with("four five\n", "four five\r\n"));
+    assert!(told.contains("line 14: ") && told.ends_with(&format!("wrong: the line ends with a carriage return{in_form}")), "{told}");
+}
+
+/// `--in-form` is named where it helps, and not where it does not: then it is said how the line is written.
+#[test]
+fn in_form_where_it_helps() {
+    let told = refused(sample_with("-0.006\tfour", "-6e-3 four"));
+    assert!(told.ends_with("\n  to mend it: run again with --in-form, or write the text anew: backoff in-form OLD >NEW\n"), "{told}");
+    let write = "write a minus or none, one to three digits, and optionally a point with one to seven digits\n";
+    for log in ["-inf", "nan", "-6e3", "-0,6"] {
+        let text = sample_with("-0.006\tfour", &format!("{log}\tfour"));
+        for told in [refused(&text), refused_with(&text, "--in-form")] {
+            assert!(told.ends_with(&format!("wrong: `{log}` is no logarithm in form\n  to mend it: {write}")), "{told}");
+        }
+    }
+    // A second fault, in a later line, does not hide that the first can be mended.
+    let two = sample_with("-0.006\tfour", "-6e-3\tfour").replace("-0.003\tfour five", "-inf\tfour five");
+    assert!(refused(&two).contains("line 10: ") && refused(&two).contains("--in-form"));
 }
 
 /// What may stand in the place of a line that may not.

@@ -228,6 +228,15 @@ fn columns() {
     }
 }
 
+/// A byte order mark is part of the first word, and is named.
+#[test]
+fn byte_order_mark() {
+    let folder = Folder::new();
+    folder.put("sample", SAMPLE);
+    let printed = String::from_utf8(folder.run_on("explain sample", "\u{feff}four\n".as_bytes()).printed()).unwrap();
+    assert_eq!(printed.lines().nth(1), Some("\u{feff}four, which begins with a byte order mark, scored as <unk>"));
+}
+
 /// No text, no ledger; one empty line, one empty sentence.
 #[test]
 fn empty() {

@@ -2,7 +2,7 @@
 //!
 //! `train` and `unseen` print the two texts, one sentence a line. `drop` reads an ARPA file and prints it without some rows of two words. `compare FOLDER NAME..` reads FOLDER/unseen.txt and, of each list, NAME.arpa and what
 //! `compile-lm` printed of the text: NAME.eval by `--eval --debug=2`, with two decimals, and NAME.score by `--score`, with all digits. NAME.form is
-//! NAME.arpa as `tests/irstlm/in-form` prints it, for `backoff_arpa`, and NAME.query what `backoff query` prints of the text without marks.
+//! NAME.arpa as `backoff in-form` prints it, for `backoff_arpa`, and NAME.query what `backoff query` prints of the text without marks.
 
 mod arpa;
 mod direct;

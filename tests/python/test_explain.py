@@ -82,6 +82,8 @@ class Explain(unittest.TestCase):
 
     def test_words_that_are_no_text(self) -> None:
         self.assertEqual(self.model.explain(b"\xff").words[0].text, "\\xff")
+        marked = "\ufefffour, which begins with a byte order mark, scored as <unk>"
+        self.assertEqual(str(self.model.explain("\ufefffour").words[0]), marked)
         for wrong in (4, None, ["four"]):
             with self.assertRaises(TypeError):
                 self.model.explain(wrong)

@@ -46,6 +46,13 @@ class ArpaFiles(unittest.TestCase):
         self.assert_refused(SAMPLE[: SAMPLE.index(b"\n\n\\end")], 17, 19, "-0.001\t<s> four five")
         self.assert_refused(self.edited(b"\\end\\\n", b""), 17, 21, "")
 
+    def test_marks_of_editors(self) -> None:
+        self.assert_refused(b"\xef\xbb\xbf" + SAMPLE, 17, 1, "\ufeff\\data\\")
+        self.assertIn("begins with a byte order mark; `backoff in-form`", refusal(b"\xef\xbb\xbf" + SAMPLE).words)
+        self.assertIn("ends with a carriage return; `backoff in-form`", refusal(SAMPLE.replace(b"\n", b"\r\n")).words)
+        self.assertIn("ends with a carriage return", refusal(self.edited(b"four five\n-0.004", b"four five\r\n-0.004")).words)
+        self.assertIn("is not in form, or is missing; `backoff in-form`", refusal(self.edited(b"-0.02\t<unk>", b"-2e-2\t<unk>")).words)
+
     def test_words_and_counts(self) -> None:
         self.assert_refused(self.edited(b"four five\n-0.004", b"four six\n-0.004"), 18, 14, "-0.003\tfour six")
         self.assert_refused(self.edited(b"ngram 2=3", b"ngram 2=4"), 19, 18, "\\3-grams:")

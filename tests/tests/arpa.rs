@@ -78,13 +78,6 @@ fn pruned_texts() {
     assert_eq!((told(&without("</s>", 1), true), told(&without("</s>", 1), false)), (18, 18));
 }
 
-/// The line for irstlm's files that docs/lists.md shows is the one that the tests use.
-#[test]
-fn line_for_irstlm() {
-    let in_form = include_str!("../irstlm/in-form").lines().find_map(|line| line.strip_prefix("exec ")).unwrap();
-    assert!(include_str!("../../docs/lists.md").contains(&format!("\n{in_form} <irstlm.arpa ")));
-}
-
 /// A printed list reads back as that list and those texts, whatever the spelling, in buffers that just hold it or are larger.
 #[test]
 fn printed_reads_back() {

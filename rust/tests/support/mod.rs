@@ -119,11 +119,19 @@ impl Ran {
         self.error
     }
 
-    /// No panic: the run was refused with a message or went well without one.
+    /// What was printed, and what standard error was told, by a run that went well and put a text in form.
+    pub fn put_in_form(self) -> (Vec<u8>, String) {
+        assert_eq!(self.status, Some(0), "{}: {}", self.line, self.error);
+        (self.out, self.error)
+    }
+
+    /// No panic: the run was refused with a message, or went well without one but on what was put in form.
     pub fn ended_well(&self) {
         let told = self.error.starts_with("backoff: ") && !self.error.contains("panicked");
-        assert!(matches!((self.status, told), (Some(0), false) | (Some(1), true)), "{}: {:?} {}", self.line, self.status, self.error);
-        assert!(self.status == Some(1) || self.error.is_empty(), "{}: {}", self.line, self.error);
+        let put_in_form = self.error.lines().next().is_some_and(|line| line.ends_with(": put in form:"));
+        let well = matches!((self.status, told), (Some(0), false) | (Some(1), true)) || (self.status, put_in_form) == (Some(0), true);
+        assert!(well, "{}: {:?} {}", self.line, self.status, self.error);
+        assert!(self.status == Some(1) || put_in_form || self.error.is_empty(), "{}: {}", self.line, self.error);
     }
 }
 

@@ -2,9 +2,9 @@
 
 use crate::explained::explained;
 use crate::failure::Failure;
-use crate::files;
 use crate::ledger;
 use crate::model::Model;
+use crate::model_file::ModelFile;
 use crate::progress::Progress;
 use crate::query::PART_BYTES;
 use crate::row_names::RowNames;
@@ -16,9 +16,9 @@ use std::io::Write;
 pub fn explain(source: &Source, text: &Text, out: &mut impl Write) -> Result<(), Failure> {
     let progress = Progress::start(true);
     progress.say("reading the model");
-    let bytes = files::read(&source.path)?;
-    let model = Model::of(&bytes, source, &progress)?;
-    let names = RowNames::new(&model.list, &bytes);
+    let file = ModelFile::read(source)?;
+    let model = Model::of(&file, source, &progress)?;
+    let names = RowNames::new(&model.list, &file);
     let scorer = Scorer::new(&model.list, With::Array(&model.array), text.marks);
     let mut text = TextFile::open(text.path.as_deref())?;
     let (mut sentences, mut total) = (0, 0);

@@ -11,12 +11,16 @@ pub const BYTE_LIMIT: usize = 1 << 26;
 
 /// The bytes of a model's file.
 pub fn read(path: &Path) -> Result<Vec<u8>, Failure> {
+    File::open(path).map_err(|error| Failure::file(path, error)).and_then(|file| read_from(path, file))
+}
+
+/// All bytes of a model, which messages call by a name.
+pub fn read_from(name: &Path, reader: impl Read) -> Result<Vec<u8>, Failure> {
     let mut bytes = Vec::new();
-    let read = File::open(path).and_then(|file| file.take(BYTE_LIMIT as u64 + 1).read_to_end(&mut bytes));
-    match read {
-        Err(error) => Err(Failure::file(path, error)),
+    match reader.take(BYTE_LIMIT as u64 + 1).read_to_end(&mut bytes) {
+        Err(error) => Err(Failure::file(name, error)),
         Ok(_) if bytes.len() > BYTE_LIMIT => {
-            Err(Failure::file(path, format!("more than {BYTE_LIMIT} bytes: no list of 65,535 rows, the most there may be, needs as many")))
+            Err(Failure::file(name, format!("more than {BYTE_LIMIT} bytes: no list of 65,535 rows, the most there may be, needs as many")))
         }
         Ok(_) => Ok(bytes),
     }

@@ -1,12 +1,23 @@
 //! What is wrong with a line that an ARPA text may not have, and what mends it. The line was refused by the reader; this only says why.
 
 use crate::list::is_text;
+use crate::logarithm::is_in_form;
+use crate::put_in_form::{BYTE_ORDER_MARK, IARPA};
 use crate::refusal::shown;
 use crate::text_rows::{heading, lines};
 use backoff::limits::{ORDER_LIMIT, TEXT_LIMIT};
 
-/// The first bytes of a file that gzip wrote.
-const GZIP: &[u8] = b"\x1F\x8B";
+/// The first bytes of files that are no ARPA text as they are, with what is wrong and what mends it.
+const OTHER_FILES: [(&[u8], &str, &str); 4] = [
+    (b"\x1F\x8B", "the file is compressed", "unpack it: gunzip <OLD >NEW"),
+    (b"\xFF\xFE", "the file is UTF-16, which begins with a byte order mark", "write it as UTF-8: iconv -f UTF-16 -t UTF-8 OLD >NEW"),
+    (b"\xFE\xFF", "the file is UTF-16, which begins with a byte order mark", "write it as UTF-8: iconv -f UTF-16 -t UTF-8 OLD >NEW"),
+    (
+        IARPA,
+        "the file is irstlm's iARPA, whose numbers are not those of an ARPA text",
+        "have irstlm write one: compile-lm OLD NEW --text=yes",
+    ),
+];
 
 pub struct Fault {
     pub wrong: String,
@@ -54,13 +65,16 @@ impl Stage {
 
 /// The fault of a line, numbered from 1; one more than there are lines is a text that ends too early.
 pub fn of_line(text: &[u8], number: usize) -> Fault {
-    if text.starts_with(GZIP) {
-        return fault("the file is compressed", "unpack it: gunzip <OLD >NEW");
+    if let Some((_, wrong, mend)) = OTHER_FILES.iter().find(|(first, ..)| text.starts_with(first)) {
+        return fault(*wrong, *mend);
     }
     let stage = Stage::before(text, number);
     let Some(line) = lines(text).nth(number - 1) else {
         return fault("the text ends too early", format!("go on with {}", stage.next()));
     };
+    if number == 1 && text.starts_with(BYTE_ORDER_MARK) {
+        return fault("the text begins with a byte order mark", "take it away: tail -c +4 OLD >NEW");
+    }
     if line.ends_with(b"\r") {
         return fault("the line ends with a carriage return", "take carriage returns away: tr -d '\\r' <OLD >NEW");
     }
@@ -121,15 +135,8 @@ fn of_row(line: &[u8], length: usize) -> Option<Fault> {
 }
 
 fn of_log(field: &[u8]) -> Option<Fault> {
-    let digits = field.strip_prefix(b"-").unwrap_or(field);
-    let mut parts = digits.splitn(2, |&byte| byte == b'.');
-    let whole = parts.next().is_some_and(|whole| (1..=3).contains(&whole.len()) && whole.iter().all(u8::is_ascii_digit));
-    let decimals = parts.next().is_none_or(|decimals| (1..=7).contains(&decimals.len()) && decimals.iter().all(u8::is_ascii_digit));
-    if whole && decimals {
-        return None;
-    }
-    let mend = "write a minus or none, one to three digits, and optionally a point with one to seven digits; tests/irstlm/in-form does so";
-    Some(fault(format!("`{}` is no logarithm in form", shown(field)), mend))
+    let mend = "write a minus or none, one to three digits, and optionally a point with one to seven digits";
+    (!is_in_form(field)).then(|| fault(format!("`{}` is no logarithm in form", shown(field)), mend))
 }
 
 fn of_words(field: &[u8], length: usize) -> Option<Fault> {

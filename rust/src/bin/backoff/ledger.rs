@@ -5,6 +5,7 @@ use crate::columns::{letters, space, Columns, Side};
 use crate::decimal::log10_text;
 use crate::explained::{Sentence, Word};
 use crate::list::RESERVED_TEXTS;
+use crate::put_in_form::BYTE_ORDER_MARK;
 use crate::row_names::RowNames;
 
 /// What stands before the rows of a word, and at least before a total.
@@ -40,12 +41,13 @@ pub fn print_total(sentences: usize, total: i64, out: &mut Vec<u8>) {
     out.extend(format!("total of {sentences} sentences: {total} (log10 {})\n", log10_text(total)).as_bytes());
 }
 
-/// A word as it was given, and what it is scored as where that is another.
-fn heading(word: &Word) -> Vec<u8> {
+/// A word as it was given, and what it is scored as where that is another. A byte order mark, which nobody sees, is named.
+pub fn heading(word: &Word) -> Vec<u8> {
     let [unknown, ..] = RESERVED_TEXTS;
+    let marked: &[u8] = if word.text.starts_with(BYTE_ORDER_MARK) { b", which begins with a byte order mark" } else { b"" };
     match word.addition.is_unknown() && word.text != unknown {
-        true => [word.text, b", scored as ", unknown].concat(),
-        false => word.text.to_vec(),
+        true => [word.text, marked, b", scored as ", unknown].concat(),
+        false => [word.text, marked].concat(),
     }
 }
 

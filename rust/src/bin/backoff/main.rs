@@ -8,6 +8,7 @@ mod array;
 mod array_file;
 mod bench;
 mod build;
+mod changes;
 mod check;
 mod checksum;
 mod columns;
@@ -20,12 +21,16 @@ mod explained;
 mod failure;
 mod files;
 mod form;
+mod in_form;
 mod ledger;
 mod lines;
 mod list;
+mod logarithm;
 mod model;
+mod model_file;
 mod plain;
 mod progress;
+mod put_in_form;
 mod query;
 mod reading;
 mod refusal;
@@ -66,6 +71,7 @@ fn run(command: Command) -> Result<(), Failure> {
         Command::Query(source, asked) => query::query(&source, &asked, &mut out)?,
         Command::Explain(source, text) => explain::explain(&source, &text, &mut out)?,
         Command::Compare(source, texts) => compare::compare(&source, &texts, &mut out)?,
+        Command::InForm(path) => in_form::in_form(path.as_deref(), &mut out)?,
         Command::Bench(source, threads) => bench::bench(&source, threads, &mut out)?,
     }
     out.flush().map_err(Failure::output)

@@ -4,8 +4,8 @@ use crate::arpa_file;
 use crate::array::Array;
 use crate::array_file;
 use crate::failure::Failure;
-use crate::files;
 use crate::list::List;
+use crate::model_file::ModelFile;
 use crate::progress::Progress;
 use crate::refusal;
 use crate::subcommands::Source;
@@ -25,14 +25,14 @@ pub struct ModelList {
 }
 
 impl ModelList {
-    /// Reads bytes of a file: of an array file or of an ARPA text.
-    pub fn read(bytes: &[u8], source: &Source) -> Result<ModelList, Failure> {
+    /// Reads an array file or an ARPA text.
+    pub fn read(file: &ModelFile, source: &Source) -> Result<ModelList, Failure> {
         let told = |text: String| Failure::file(&source.path, text);
-        if array_file::is_array_file(bytes) {
-            let (list, array) = array_file::decode(bytes).map_err(|wrong| told(refusal::of_array_file(&wrong)))?;
+        if file.is_array_file() {
+            let (list, array) = array_file::decode(&file.bytes).map_err(|wrong| told(refusal::of_array_file(&wrong)))?;
             return Ok(ModelList { list, added: 0, array: Some(array) });
         }
-        let (list, added) = arpa_file::read(bytes, source.fill).map_err(told)?;
+        let (list, added) = arpa_file::read(file.text(), source.fill).map_err(told)?;
         Ok(ModelList { list, added, array: None })
     }
 
@@ -47,12 +47,12 @@ impl ModelList {
 impl Model {
     pub fn load(source: &Source, progress: &Progress) -> Result<Model, Failure> {
         progress.say("reading the model");
-        Model::of(&files::read(&source.path)?, source, progress)
+        Model::of(&ModelFile::read(source)?, source, progress)
     }
 
-    /// The model of a file with these bytes.
-    pub fn of(bytes: &[u8], source: &Source, progress: &Progress) -> Result<Model, Failure> {
-        let read = ModelList::read(bytes, source)?;
+    /// The model of a file that was read.
+    pub fn of(file: &ModelFile, source: &Source, progress: &Progress) -> Result<Model, Failure> {
+        let read = ModelList::read(file, source)?;
         progress.say("building the array");
         read.build(source)
     }

@@ -1,8 +1,8 @@
 //! `backoff query`: a text's scores.
 
 use crate::failure::Failure;
-use crate::files;
 use crate::model::{Model, ModelList};
+use crate::model_file::ModelFile;
 use crate::progress::Progress;
 use crate::score::{Scorer, With};
 use crate::side_by_side::side_by_side;
@@ -19,7 +19,7 @@ pub fn query(source: &Source, asked: &Asked, out: &mut impl Write) -> Result<(),
     let progress = Progress::start(true);
     if asked.way == Way::Plain {
         progress.say("reading the model");
-        let read = ModelList::read(&files::read(&source.path)?, source)?;
+        let read = ModelList::read(&ModelFile::read(source)?, source)?;
         return score(Scorer::new(&read.list, With::ListAlone, asked.text.marks), asked, &progress, out);
     }
     let model = Model::load(source, &progress)?;

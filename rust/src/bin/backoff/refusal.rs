@@ -3,6 +3,7 @@
 use crate::arpa_file;
 use crate::form;
 use crate::list::RESERVED_TEXTS;
+use crate::put_in_form::put_in_form;
 use crate::text_rows::{heading, in_list_order, lines, rows, words, TextRow};
 use backoff::number::*;
 use std::collections::HashSet;
@@ -65,11 +66,18 @@ fn of_line(text: &[u8], number: u32, place: usize) -> Told {
         SHORT_SLICE => ("there are more rows than the 65,535 that a list may have".to_string(), PRUNE.to_string()),
         _ => {
             let fault = form::of_line(text, place);
-            (fault.wrong, fault.mend)
+            (fault.wrong, if is_put_in_form(text, place) { IN_FORM.to_string() } else { fault.mend })
         }
     };
     Told { at, wrong, mend }
 }
+
+/// Whether a text that is put in form is not refused by this line, or one before it.
+fn is_put_in_form(text: &[u8], line: usize) -> bool {
+    arpa_file::line_not_in_form(&put_in_form(text).text).is_none_or(|other| other > line)
+}
+
+const IN_FORM: &str = "run again with --in-form, or write the text anew: backoff in-form OLD >NEW";
 
 const PRUNE: &str = "prune the model, or train one of a lower order";
 

@@ -1,7 +1,7 @@
 //! Rows as people find them: by the texts of their words, and by their line in the ARPA file.
 
-use crate::array_file;
 use crate::list::List;
+use crate::model_file::ModelFile;
 use crate::text_rows;
 use std::collections::HashMap;
 
@@ -12,14 +12,14 @@ pub struct RowNames<'a> {
 }
 
 impl<'a> RowNames<'a> {
-    /// The names of a list's rows; the list was read from a file with these bytes.
-    pub fn new(list: &'a List, bytes: &[u8]) -> RowNames<'a> {
+    /// The names of the rows of a file's list.
+    pub fn new(list: &'a List, file: &ModelFile) -> RowNames<'a> {
         let lines = || {
             let numbers = list.numbers();
             let words = |row: &text_rows::TextRow| row.words.iter().filter_map(|word| numbers.get(word).copied()).collect();
-            text_rows::rows(bytes).iter().map(|row| (words(row), row.line)).collect()
+            text_rows::rows(file.text()).iter().map(|row| (words(row), row.line)).collect()
         };
-        RowNames { list, lines: (!array_file::is_array_file(bytes)).then(lines) }
+        RowNames { list, lines: (!file.is_array_file()).then(lines) }
     }
 
     /// The texts of a row's words, parted by spaces.

@@ -6,6 +6,8 @@ use std::path::PathBuf;
 /// Where a model comes from.
 pub struct Source {
     pub path: PathBuf,
+    /// Whether its text is put in form.
+    pub in_form: bool,
     /// Whether rows that a pruned list lacks are added.
     pub fill: bool,
 }
@@ -71,6 +73,8 @@ pub enum Command {
     Query(Source, Asked),
     Explain(Source, Text),
     Compare(Source, [Text; 2]),
+    /// None: standard input.
+    InForm(Option<PathBuf>),
     Bench(Source, usize),
 }
 
@@ -88,18 +92,18 @@ pub struct Subcommand {
 pub const HELP: &str = include_str!("help/backoff.txt");
 pub const VERSION: &str = concat!("backoff ", env!("CARGO_PKG_VERSION"), "\n");
 
-pub const SUBCOMMANDS: [Subcommand; 7] = [
+pub const SUBCOMMANDS: [Subcommand; 8] = [
     Subcommand {
         name: "check",
         files: (1, 1),
-        options: &["--fill"],
+        options: &["--in-form", "--fill"],
         help: include_str!("help/check.txt"),
         command: |given| Ok(Command::Check(given.source())),
     },
     Subcommand {
         name: "build",
         files: (2, 2),
-        options: &["--fill"],
+        options: &["--in-form", "--fill"],
         help: include_str!("help/build.txt"),
         command: |given| Ok(Command::Build(given.source(), given.file(1))),
     },
@@ -113,28 +117,47 @@ pub const SUBCOMMANDS: [Subcommand; 7] = [
     Subcommand {
         name: "query",
         files: (1, 2),
-        options: &["--plain", "--both", "--points", "--totals", "--summary", "--left", "--no-bos", "--no-eos", "--threads N", "--fill"],
+        options: &[
+            "--plain",
+            "--both",
+            "--points",
+            "--totals",
+            "--summary",
+            "--left",
+            "--no-bos",
+            "--no-eos",
+            "--threads N",
+            "--in-form",
+            "--fill",
+        ],
         help: include_str!("help/query.txt"),
         command: |given| Ok(Command::Query(given.source(), given.asked()?)),
     },
     Subcommand {
         name: "explain",
         files: (1, 2),
-        options: &["--no-bos", "--no-eos", "--fill"],
+        options: &["--no-bos", "--no-eos", "--in-form", "--fill"],
         help: include_str!("help/explain.txt"),
         command: |given| Ok(Command::Explain(given.source(), given.text(1))),
     },
     Subcommand {
         name: "compare",
         files: (3, 3),
-        options: &["--no-bos", "--no-eos", "--fill"],
+        options: &["--no-bos", "--no-eos", "--in-form", "--fill"],
         help: include_str!("help/compare.txt"),
         command: |given| Ok(Command::Compare(given.source(), [given.text(1), given.text(2)])),
     },
     Subcommand {
+        name: "in-form",
+        files: (0, 1),
+        options: &[],
+        help: include_str!("help/in-form.txt"),
+        command: |given| Ok(Command::InForm(given.file_or_input(0))),
+    },
+    Subcommand {
         name: "bench",
         files: (1, 1),
-        options: &["--fill", "--threads N"],
+        options: &["--threads N", "--in-form", "--fill"],
         help: include_str!("help/bench.txt"),
         command: |given| Ok(Command::Bench(given.source(), given.threads()?)),
     },
@@ -142,13 +165,16 @@ pub const SUBCOMMANDS: [Subcommand; 7] = [
 
 impl Given {
     fn source(&self) -> Source {
-        Source { path: self.file(0), fill: self.has("--fill") }
+        Source { path: self.file(0), in_form: self.has("--in-form"), fill: self.has("--fill") }
     }
 
-    /// The text at a place; where there is none, and where it is `-`, standard input.
+    /// The file at a place; where there is none, and where it is `-`, standard input.
+    fn file_or_input(&self, place: usize) -> Option<PathBuf> {
+        (self.file_count() > place).then(|| self.file(place)).filter(|path| path.as_os_str() != "-")
+    }
+
     fn text(&self, place: usize) -> Text {
-        let path = (self.file_count() > place).then(|| self.file(place)).filter(|text| text.as_os_str() != "-");
-        Text { path, marks: Marks { bos: !self.has("--no-bos"), eos: !self.has("--no-eos") } }
+        Text { path: self.file_or_input(place), marks: Marks { bos: !self.has("--no-bos"), eos: !self.has("--no-eos") } }
     }
 
     fn asked(&self) -> Result<Asked, String> {
