@@ -26,6 +26,15 @@ pub fn read_from(name: &Path, reader: impl Read) -> Result<Vec<u8>, Failure> {
     }
 }
 
+/// A file that is to be written is not one that is read, which would be lost.
+pub fn require_another(written: &Path, read: &Path) -> Result<(), Failure> {
+    let is_file = fs::metadata(written).is_ok_and(|metadata| metadata.is_file());
+    match is_file && fs::canonicalize(written).ok() == fs::canonicalize(read).ok() {
+        true => Err(Failure::file(written, format!("it is read as {}, and would be lost: give another name", read.display()))),
+        false => Ok(()),
+    }
+}
+
 /// Writes a file under another name beside it and renames it, so that there is never half a file. What is no regular file, as a pipe or a device, is written as it is.
 pub fn write(path: &Path, bytes: &[u8]) -> Result<(), Failure> {
     let written = match fs::metadata(path) {

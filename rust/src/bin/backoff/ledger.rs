@@ -25,7 +25,8 @@ pub fn print(sentence: &Sentence, number: usize, names: &RowNames, out: &mut Vec
     out.extend(&sentence.text);
     out.push(b'\n');
     for (word, lines) in sentence.words.iter().zip(&words) {
-        out.extend(heading(word));
+        out.extend(word.text);
+        out.extend(remark(word));
         out.push(b'\n');
         lines.iter().for_each(|line| columns.print(INDENT, line, out));
     }
@@ -41,13 +42,13 @@ pub fn print_total(sentences: usize, total: i64, out: &mut Vec<u8>) {
     out.extend(format!("total of {sentences} sentences: {total} (log10 {})\n", log10_text(total)).as_bytes());
 }
 
-/// A word as it was given, and what it is scored as where that is another. A byte order mark, which nobody sees, is named.
-pub fn heading(word: &Word) -> Vec<u8> {
+/// What is said of a word behind its text: what it is scored as where that is another. A byte order mark, which nobody sees, is named.
+pub fn remark(word: &Word) -> Vec<u8> {
     let [unknown, ..] = RESERVED_TEXTS;
     let marked: &[u8] = if word.text.starts_with(BYTE_ORDER_MARK) { b", which begins with a byte order mark" } else { b"" };
     match word.addition.is_unknown() && word.text != unknown {
-        true => [word.text, marked, b", scored as ", unknown].concat(),
-        false => [word.text, marked].concat(),
+        true => [marked, b", scored as ", unknown].concat(),
+        false => marked.to_vec(),
     }
 }
 

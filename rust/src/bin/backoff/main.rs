@@ -1,5 +1,6 @@
 //! The program `backoff`: ARPA models checked, built, dumped and queried, scores explained and compared, over the calls of `include/backoff.h`. The calls are proved; the program is not.
 
+mod about;
 mod addition;
 mod alignment;
 mod arguments;
@@ -21,6 +22,7 @@ mod explained;
 mod failure;
 mod files;
 mod form;
+mod html;
 mod in_form;
 mod ledger;
 mod lines;
@@ -28,6 +30,8 @@ mod list;
 mod logarithm;
 mod model;
 mod model_file;
+mod page;
+mod page_sentence;
 mod plain;
 mod progress;
 mod put_in_form;
@@ -37,6 +41,7 @@ mod refusal;
 mod row_names;
 mod runs;
 mod score;
+mod sha256;
 mod side_by_side;
 mod subcommands;
 mod tally;
@@ -69,7 +74,7 @@ fn run(command: Command) -> Result<(), Failure> {
         Command::Build(source, path) => build::build(&source, &path)?,
         Command::Dump(path) => dump::dump(&path, &mut out)?,
         Command::Query(source, asked) => query::query(&source, &asked, &mut out)?,
-        Command::Explain(source, text) => explain::explain(&source, &text, &mut out)?,
+        Command::Explain(source, text, page) => explain::explain(&source, &text, page.as_deref(), &mut out)?,
         Command::Compare(source, texts) => compare::compare(&source, &texts, &mut out)?,
         Command::InForm(path) => in_form::in_form(path.as_deref(), &mut out)?,
         Command::Bench(source, threads) => bench::bench(&source, threads, &mut out)?,

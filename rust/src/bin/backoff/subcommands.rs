@@ -71,7 +71,8 @@ pub enum Command {
     Build(Source, PathBuf),
     Dump(PathBuf),
     Query(Source, Asked),
-    Explain(Source, Text),
+    /// With a file, a page is written to it.
+    Explain(Source, Text, Option<PathBuf>),
     Compare(Source, [Text; 2]),
     /// None: standard input.
     InForm(Option<PathBuf>),
@@ -136,9 +137,9 @@ pub const SUBCOMMANDS: [Subcommand; 8] = [
     Subcommand {
         name: "explain",
         files: (1, 2),
-        options: &["--no-bos", "--no-eos", "--in-form", "--fill"],
+        options: &["--html FILE", "--no-bos", "--no-eos", "--in-form", "--fill"],
         help: include_str!("help/explain.txt"),
-        command: |given| Ok(Command::Explain(given.source(), given.text(1))),
+        command: |given| Ok(Command::Explain(given.source(), given.text(1), given.page()?)),
     },
     Subcommand {
         name: "compare",
@@ -191,6 +192,13 @@ impl Given {
             (true, false) => Ok(first),
             (false, true) => Ok(second),
             (false, false) => Ok(neither),
+        }
+    }
+
+    fn page(&self) -> Result<Option<PathBuf>, String> {
+        match self.value("--html") {
+            Some(path) if path.is_empty() => Err("--html takes the name of a file".to_string()),
+            path => Ok(path.map(PathBuf::from)),
         }
     }
 
