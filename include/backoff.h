@@ -391,6 +391,31 @@ struct backoff_rows backoff_arpa(const uint8_t *text, size_t text_len, bool to_b
  * Refused: filled is untouched. */
 struct backoff_rows backoff_fill(const int32_t *table, size_t table_len, int32_t *filled, size_t filled_len);
 
+/* How many words a store has that backoff_arpa filled: they are 1 up to this number. Of other bytes it is the number of
+ * records from 1 on that have a text, up to the first that has none. */
+static inline uint32_t backoff_store_count(const uint8_t *store, size_t store_len) {
+    size_t records = store_len / BACKOFF_RECORD_BYTES, word = 1;
+    while (word < records && word <= BACKOFF_WORD_LIMIT && store[BACKOFF_RECORD_BYTES * word] != 0 &&
+           store[BACKOFF_RECORD_BYTES * word] <= BACKOFF_TEXT_LIMIT)
+        word++;
+    return (uint32_t)(word - 1);
+}
+
+/* The number of the word that has this text in a store, and 0 where none has; every call scores 0 as an unknown word. It
+ * looks at one record after another: for many texts make a map of your own. */
+static inline uint32_t backoff_store_find(const uint8_t *store, size_t store_len, const uint8_t *text, size_t text_len) {
+    uint32_t count = backoff_store_count(store, store_len);
+    for (uint32_t word = 1; word <= count; word++) {
+        const uint8_t *record = store + (size_t)BACKOFF_RECORD_BYTES * word;
+        size_t same = 0;
+        while (record[0] == text_len && same < text_len && record[1 + same] == text[same])
+            same++;
+        if (same > 0 && same == text_len)
+            return word;
+    }
+    return 0;
+}
+
 /* Base and check in one struct, so that they cannot be swapped. Each backoff_array_ form is the call of that name over
  * array->base and array->check, both of array->slots items; all that stands at the call holds. This program
  *

@@ -20,7 +20,8 @@ int main() {
     const backoff_array no_array{nullptr, nullptr, 0};
     const backoff_found not_found = backoff_array_lookup(&no_array, nullptr, 0);
     const bool formed = not_found.number == BACKOFF_ARRAY_HEAD && backoff_reason(not_found.number) != backoff_reason(0);
-    const bool holds = missing.number == BACKOFF_RESERVED_WORD && none.number == BACKOFF_ARRAY_HEAD && state[0] == 0;
+    const bool found = backoff_store_count(nullptr, 0) == 0 && backoff_store_find(nullptr, 0, nullptr, 0) == 0;
+    const bool holds = found && missing.number == BACKOFF_RESERVED_WORD && none.number == BACKOFF_ARRAY_HEAD && state[0] == 0;
     const bool refused = no_sheet.number == BACKOFF_ARRAY_HEAD && no_listing.number == BACKOFF_ARRAY_HEAD &&
                          no_move.number == BACKOFF_ARRAY_HEAD && no_fragment.number == BACKOFF_ARRAY_HEAD;
     return holds && refused && formed && no_text.number == BACKOFF_ARPA_LINE && no_list.number == BACKOFF_TABLE_LENGTH ? 0 : 1;
