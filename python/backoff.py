@@ -24,12 +24,13 @@ from __future__ import annotations
 import array
 import ctypes
 import functools
+import operator
 import os
 import struct
 import zlib
 from ctypes import c_bool, c_char_p, c_int32, c_int64, c_size_t, c_uint32, c_uint64, c_void_p
 from dataclasses import dataclass
-from typing import Iterable, Iterator, NamedTuple, Optional, Union
+from typing import Callable, Iterable, Iterator, NamedTuple, Optional, Union
 
 __version__ = "4.0.0"
 __all__ = [
@@ -37,7 +38,9 @@ __all__ = [
     "Explanation",
     "FullScoreReturn",
     "LanguageModel",
+    "ListedSentence",
     "Model",
+    "Move",
     "Refused",
     "Row",
     "Sheet",
@@ -58,6 +61,7 @@ RUN_LIMIT = 65_535
 SLOT_LIMIT = 1_048_576
 RECORD_BYTES = 64
 TEXT_LIMIT = 63
+LISTING_LIMIT = 65_536
 POINTS_PER_LOG = 1_000_000
 ORDER_HEAD = 24
 UNKNOWN_WORD = 1
@@ -96,6 +100,7 @@ _REFUSALS = {
     18: "a word of the line has no row of one word",
     19: "the section before this line has not as many lines as the text announces",
     20: "the end of a sentence is below the one before it, or past the words",
+    22: "sentences of 1 to 4 words are listed, over at most 16 words other than <s> and </s>",
 }
 ARRAY_HEAD = 11
 ARPA_LINE = 17
@@ -176,6 +181,24 @@ class _Sheet(ctypes.Structure):
     ]
 
 
+class _Listing(ctypes.Structure):
+    """struct backoff_listing"""
+
+    _fields_ = [("number", c_uint32), ("place", c_uint32), ("sentences", c_uint32)]
+
+
+class _Move(ctypes.Structure):
+    """struct backoff_move"""
+
+    _fields_ = [
+        ("number", c_uint32),
+        ("place", c_uint32),
+        ("distance", c_int64),
+        ("first", c_uint32),
+        ("second", c_uint32),
+    ]
+
+
 class _Rows(ctypes.Structure):
     """struct backoff_rows"""
 
@@ -194,6 +217,8 @@ _SIGNATURES = {
     "backoff_start": (_Status, 3 * _SLICE),
     "backoff_run": (_Total, 6 * _SLICE),
     "backoff_batch": (_Sheet, 6 * _SLICE),
+    "backoff_sentences": (_Listing, 2 * _SLICE + [c_uint32] + 2 * _SLICE),
+    "backoff_largest_move": (_Move, 2 * _SLICE + [c_uint32] + 2 * _SLICE),
     "backoff_plain": (_Total, _SLICE + [c_bool] + 3 * _SLICE),
 }
 _LIBRARY = "libbackoff.so"
@@ -224,7 +249,7 @@ _calls = _load(_library_path())
 
 
 def _zeros(kind: str, count: int) -> array.array:
-    """So many zeros, of a kind of array.array: i, I and B are int32_t, uint32_t and uint8_t."""
+    """So many zeros, of a kind of array.array: i, I, q and B are int32_t, uint32_t, int64_t and uint8_t."""
     return array.array(kind, [0]) * count
 
 
@@ -450,6 +475,22 @@ class Row(NamedTuple):
     p: int
     b: int
     left: bool
+
+
+class ListedSentence(NamedTuple):
+    """A sentence of `Model.sentences`: its number in the listing, from 1, its words, and its points."""
+
+    number: int
+    words: tuple[str, ...]
+    total: int
+
+
+class Move(NamedTuple):
+    """The answer of `Model.largest_move`: a distance in points, and the two sentences; None where there is no pair."""
+
+    distance: int
+    first: Optional[ListedSentence]
+    second: Optional[ListedSentence]
 
 
 class Tried(NamedTuple):
@@ -786,6 +827,39 @@ class Model:
         matched = [length & MATCHED_LENGTH for length in lengths]
         unknown = sum(length & UNKNOWN_LENGTH != 0 for length in lengths)
         return Sheet(1, len(words), unknown, total, tuple(map(matched.count, range(1, ORDER_LIMIT + 1))))
+
+    def _listing(
+        self, call: Callable[..., ctypes.Structure], k: int
+    ) -> tuple[ctypes.Structure, Callable[[int], ListedSentence]]:
+        """The answer of a call that lists sentences of k words, and the sentence of each number."""
+        k = operator.index(k)
+        words, totals = _zeros("I", LISTING_LIMIT * min(max(k, 0), ORDER_LIMIT)), _zeros("q", LISTING_LIMIT)
+        # A k that 32 bits do not hold is refused as 0 is.
+        answer = call(*self._slots, k if 0 < k < 2**32 else 0, *words.buffer_info(), *totals.buffer_info())
+        _require(answer)
+
+        def sentence(number: int) -> ListedSentence:
+            texts = (_shown(self._texts[word - 1]) for word in words[k * (number - 1) : k * number])
+            return ListedSentence(number, tuple(texts), totals[number - 1])
+
+        return answer, sentence
+
+    def sentences(self, k: int) -> list[ListedSentence]:
+        """Every sentence of k words, 1 to 4, over all words but <s> and </s>, of which there may be 16; <unk> is one.
+
+        Each is scored after <s> and closed with </s>. They ascend by the numbers of their words.
+        """
+        answer, sentence = self._listing(_calls.backoff_sentences, k)
+        return [sentence(number) for number in range(1, answer.sentences + 1)]
+
+    def largest_move(self, k: int) -> Move:
+        """How far one word can move a total: the largest distance between two of `sentences(k)` that differ at one place.
+
+        Of several such pairs it is the earliest. With fewer than two words there is none, and the distance is 0.
+        """
+        answer, sentence = self._listing(_calls.backoff_largest_move, k)
+        pair = [sentence(number) if number else None for number in (answer.first, answer.second)]
+        return Move(answer.distance, *pair)
 
     def save(self, path: Path) -> None:
         """Writes the array file, which `Model` reads without building anything."""

@@ -29,6 +29,8 @@ fn try_all(folder: &Folder) {
         "explain m text --fill",
         "explain m text --html page",
         "compare m text other",
+        "sentences m 1",
+        "largest-move m 2 --fill",
         "in-form m",
         "query m text --in-form --fill",
     ];
@@ -166,7 +168,7 @@ fn help() {
     let folder = Folder::new();
     let help = folder.run("--help").text();
     assert_eq!((folder.run("-h").text(), folder.run("help").text()), (help.clone(), help.clone()));
-    for subcommand in ["check", "build", "dump", "query", "explain", "compare", "in-form", "bench"] {
+    for subcommand in ["check", "build", "dump", "query", "explain", "compare", "sentences", "largest-move", "in-form", "bench"] {
         let own = folder.run(&format!("{subcommand} --help")).text();
         let usage = own.lines().next().and_then(|line| line.strip_prefix("usage: ")).expect("usage first");
         assert!(help.contains(usage), "{usage}");
@@ -182,7 +184,18 @@ fn outputs_that_take_nothing() {
     folder.put("m", SAMPLE);
     folder.run("build m array").printed();
     folder.put("text", "four five\n".repeat(100_000));
-    for command in ["check m", "dump array", "query m text", "explain m text", "compare m text text", "in-form m", "--help", "bench m"] {
+    for command in [
+        "check m",
+        "dump array",
+        "query m text",
+        "explain m text",
+        "compare m text text",
+        "in-form m",
+        "sentences m 4",
+        "largest-move m 2",
+        "--help",
+        "bench m",
+    ] {
         let told = folder.shell(&format!("backoff {command} >/dev/full")).refused();
         assert_eq!(told, "backoff: standard output: No space left on device (os error 28)\n", "{command}");
     }

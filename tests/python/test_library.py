@@ -23,6 +23,8 @@ STRUCTURES = {
     "backoff_found": backoff._Found,
     "backoff_total": backoff._Total,
     "backoff_sheet": backoff._Sheet,
+    "backoff_listing": backoff._Listing,
+    "backoff_move": backoff._Move,
     "backoff_rows": backoff._Rows,
 }
 LIMITS = [
@@ -35,6 +37,7 @@ LIMITS = [
     "SLOT_LIMIT",
     "RECORD_BYTES",
     "TEXT_LIMIT",
+    "LISTING_LIMIT",
     "POINTS_PER_LOG",
     "ORDER_HEAD",
     "UNKNOWN_WORD",
@@ -42,8 +45,8 @@ LIMITS = [
     "END_WORD",
     "UNKNOWN_LENGTH",
 ]
-# Numbers that no call of the module gives: acceptance, the totals program's, those of fragments and of listings.
-OTHER_NUMBERS = {0, 13, 21, 22}
+# Numbers that no call of the module gives: acceptance, the totals program's, and that of fragments.
+OTHER_NUMBERS = {0, 13, 21}
 
 
 def printed_by_c(expressions: list[str]) -> list[int]:
@@ -69,7 +72,8 @@ class Header(unittest.TestCase):
                 self.assertEqual(ours, printed_by_c(theirs))
 
     def test_items_of_slices(self) -> None:
-        self.assertEqual([array.array(kind).itemsize for kind in "iIB"], printed_by_c(["sizeof(int32_t)", "sizeof(uint32_t)", "sizeof(uint8_t)"]))
+        sizes = printed_by_c([f"sizeof({kind})" for kind in ("int32_t", "uint32_t", "int64_t", "uint8_t")])
+        self.assertEqual([array.array(kind).itemsize for kind in "iIqB"], sizes)
 
     def test_limits(self) -> None:
         self.assertEqual([getattr(backoff, name) for name in LIMITS], printed_by_c([f"BACKOFF_{name}" for name in LIMITS]))
@@ -82,7 +86,8 @@ class Header(unittest.TestCase):
     def test_arguments(self) -> None:
         for name, (_, arguments) in backoff._SIGNATURES.items():
             declared = re.search(rf"\b{name}\((.*?)\);", HEADER, re.DOTALL)[1].split(",")
-            kinds = ["c_bool" if "bool" in each else "c_void_p" if "*" in each else "c_size_t" for each in declared]
+            plain = {"bool": "c_bool", "uint32_t": "c_uint", "size_t": "c_size_t"}
+            kinds = ["c_void_p" if "*" in each else plain[each.split()[0]] for each in declared]
             ours = [each.__name__.replace("c_char_p", "c_void_p").replace("c_ulong", "c_size_t") for each in arguments]
             with self.subTest(call=name):
                 self.assertEqual(ours, kinds)

@@ -32,16 +32,6 @@ impl Given {
     pub fn value(&self, option: &str) -> Option<&OsStr> {
         self.values.iter().rev().find(|(name, _)| name == option).map(|(_, value)| value.as_os_str())
     }
-
-    /// An option's number from 1 up to a limit, or what it is where the option is not given.
-    pub fn number(&self, option: &str, absent: usize, limit: usize) -> Result<usize, String> {
-        let Some(value) = self.value(option) else { return Ok(absent) };
-        let value = value.to_string_lossy();
-        match value.parse() {
-            Ok(number) if (1..=limit).contains(&number) => Ok(number),
-            _ => Err(format!("{option} takes a number from 1 to {limit}, not '{value}'")),
-        }
-    }
 }
 
 pub fn parse(mut arguments: impl Iterator<Item = OsString>) -> Result<Command, Failure> {
@@ -64,14 +54,18 @@ pub fn parse(mut arguments: impl Iterator<Item = OsString>) -> Result<Command, F
     }
     let (fewest, most) = subcommand.files;
     if given.files.len() < fewest || given.files.len() > most {
-        let files = given.files.len();
-        return Err(subcommand.wrong(&format!("{} given, not {}", counted(files), range(fewest, most))));
+        let counted = counted(given.files.len(), subcommand.counted);
+        return Err(subcommand.wrong(&format!("{counted} given, not {}", range(fewest, most))));
     }
     (subcommand.command)(&given).map_err(|what| subcommand.wrong(&what))
 }
 
-fn counted(files: usize) -> String {
-    format!("{files} file{} {}", if files == 1 { "" } else { "s" }, if files == 1 { "is" } else { "are" })
+fn counted(number: usize, name: &str) -> String {
+    if number == 1 {
+        format!("1 {name} is")
+    } else {
+        format!("{number} {name}s are")
+    }
 }
 
 fn range(fewest: usize, most: usize) -> String {

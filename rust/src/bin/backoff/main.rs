@@ -24,9 +24,11 @@ mod files;
 mod form;
 mod html;
 mod in_form;
+mod largest_move;
 mod ledger;
 mod lines;
 mod list;
+mod listing;
 mod logarithm;
 mod model;
 mod model_file;
@@ -41,6 +43,7 @@ mod refusal;
 mod row_names;
 mod runs;
 mod score;
+mod sentences;
 mod sha256;
 mod side_by_side;
 mod subcommands;
@@ -76,6 +79,8 @@ fn run(command: Command) -> Result<(), Failure> {
         Command::Query(source, asked) => query::query(&source, &asked, &mut out)?,
         Command::Explain(source, text, page) => explain::explain(&source, &text, page.as_deref(), &mut out)?,
         Command::Compare(source, texts) => compare::compare(&source, &texts, &mut out)?,
+        Command::Sentences(source, words) => sentences::sentences(&source, words, &mut out)?,
+        Command::LargestMove(source, words) => largest_move::largest_move(&source, words, &mut out)?,
         Command::InForm(path) => in_form::in_form(path.as_deref(), &mut out)?,
         Command::Bench(source, threads) => bench::bench(&source, threads, &mut out)?,
     }

@@ -1,10 +1,12 @@
 //! Refusals in words: the number and what it says, where it is, what is wrong there, and what would mend it.
 
 use crate::arpa_file;
+use crate::decimal::thousands;
 use crate::form;
 use crate::list::RESERVED_TEXTS;
 use crate::put_in_form::put_in_form;
 use crate::text_rows::{heading, in_list_order, lines, rows, words, TextRow};
+use backoff::limits::USABLE_LIMIT;
 use backoff::number::*;
 use std::collections::HashSet;
 
@@ -185,6 +187,19 @@ pub fn of_build(number: u32) -> String {
 /// The refusal of a list that was accepted before.
 pub fn of_list(number: u32) -> String {
     Told::default().of(number)
+}
+
+/// The refusal of a listing of sentences over a list of so many words.
+pub fn of_listing(number: u32, words: usize) -> String {
+    let told = match number {
+        LISTING_SIZE => Told {
+            wrong: format!("the list has {} words, of which all but <s> and </s> are used", thousands(words as u64)),
+            mend: format!("take a list of {USABLE_LIMIT} such words at most"),
+            ..Told::default()
+        },
+        _ => return of_array(number),
+    };
+    told.of(number)
 }
 
 /// The refusal of an array that is not as a build writes it.

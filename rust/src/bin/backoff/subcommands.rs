@@ -1,6 +1,8 @@
 //! The subcommands: what each takes, and what it is then.
 
 use crate::arguments::Given;
+use backoff::limits::SENTENCE_LIMIT;
+use std::ffi::OsStr;
 use std::path::PathBuf;
 
 /// Where a model comes from.
@@ -74,6 +76,9 @@ pub enum Command {
     /// With a file, a page is written to it.
     Explain(Source, Text, Option<PathBuf>),
     Compare(Source, [Text; 2]),
+    /// Sentences of so many words.
+    Sentences(Source, u32),
+    LargestMove(Source, u32),
     /// None: standard input.
     InForm(Option<PathBuf>),
     Bench(Source, usize),
@@ -81,8 +86,9 @@ pub enum Command {
 
 pub struct Subcommand {
     pub name: &'static str,
-    /// The fewest and the most files.
+    /// The fewest and the most files; a number of words counts as one, and all are then called arguments.
     pub files: (usize, usize),
+    pub counted: &'static str,
     /// What is named behind an option is its value.
     pub options: &'static [&'static str],
     pub help: &'static str,
@@ -93,10 +99,11 @@ pub struct Subcommand {
 pub const HELP: &str = include_str!("help/backoff.txt");
 pub const VERSION: &str = concat!("backoff ", env!("CARGO_PKG_VERSION"), "\n");
 
-pub const SUBCOMMANDS: [Subcommand; 8] = [
+pub const SUBCOMMANDS: [Subcommand; 10] = [
     Subcommand {
         name: "check",
         files: (1, 1),
+        counted: "file",
         options: &["--in-form", "--fill"],
         help: include_str!("help/check.txt"),
         command: |given| Ok(Command::Check(given.source())),
@@ -104,6 +111,7 @@ pub const SUBCOMMANDS: [Subcommand; 8] = [
     Subcommand {
         name: "build",
         files: (2, 2),
+        counted: "file",
         options: &["--in-form", "--fill"],
         help: include_str!("help/build.txt"),
         command: |given| Ok(Command::Build(given.source(), given.file(1))),
@@ -111,6 +119,7 @@ pub const SUBCOMMANDS: [Subcommand; 8] = [
     Subcommand {
         name: "dump",
         files: (1, 1),
+        counted: "file",
         options: &[],
         help: include_str!("help/dump.txt"),
         command: |given| Ok(Command::Dump(given.file(0))),
@@ -118,6 +127,7 @@ pub const SUBCOMMANDS: [Subcommand; 8] = [
     Subcommand {
         name: "query",
         files: (1, 2),
+        counted: "file",
         options: &[
             "--plain",
             "--both",
@@ -137,6 +147,7 @@ pub const SUBCOMMANDS: [Subcommand; 8] = [
     Subcommand {
         name: "explain",
         files: (1, 2),
+        counted: "file",
         options: &["--html FILE", "--no-bos", "--no-eos", "--in-form", "--fill"],
         help: include_str!("help/explain.txt"),
         command: |given| Ok(Command::Explain(given.source(), given.text(1), given.page()?)),
@@ -144,13 +155,31 @@ pub const SUBCOMMANDS: [Subcommand; 8] = [
     Subcommand {
         name: "compare",
         files: (3, 3),
+        counted: "file",
         options: &["--no-bos", "--no-eos", "--in-form", "--fill"],
         help: include_str!("help/compare.txt"),
         command: |given| Ok(Command::Compare(given.source(), [given.text(1), given.text(2)])),
     },
     Subcommand {
+        name: "sentences",
+        files: (2, 2),
+        counted: "argument",
+        options: &["--in-form", "--fill"],
+        help: include_str!("help/sentences.txt"),
+        command: |given| Ok(Command::Sentences(given.source(), given.words(1)?)),
+    },
+    Subcommand {
+        name: "largest-move",
+        files: (2, 2),
+        counted: "argument",
+        options: &["--in-form", "--fill"],
+        help: include_str!("help/largest-move.txt"),
+        command: |given| Ok(Command::LargestMove(given.source(), given.words(1)?)),
+    },
+    Subcommand {
         name: "in-form",
         files: (0, 1),
+        counted: "file",
         options: &[],
         help: include_str!("help/in-form.txt"),
         command: |given| Ok(Command::InForm(given.file_or_input(0))),
@@ -158,6 +187,7 @@ pub const SUBCOMMANDS: [Subcommand; 8] = [
     Subcommand {
         name: "bench",
         files: (1, 1),
+        counted: "file",
         options: &["--threads N", "--in-form", "--fill"],
         help: include_str!("help/bench.txt"),
         command: |given| Ok(Command::Bench(given.source(), given.threads()?)),
@@ -203,7 +233,21 @@ impl Given {
     }
 
     fn threads(&self) -> Result<usize, String> {
-        self.number("--threads", 1, THREAD_LIMIT)
+        self.value("--threads").map_or(Ok(1), |value| number("--threads takes", value, THREAD_LIMIT))
+    }
+
+    /// How many words the sentences have.
+    fn words(&self, place: usize) -> Result<u32, String> {
+        number("K is", self.file(place).as_os_str(), SENTENCE_LIMIT).map(|words| words as u32)
+    }
+}
+
+/// A number from 1 up to a limit.
+fn number(name: &str, value: &OsStr, limit: usize) -> Result<usize, String> {
+    let value = value.to_string_lossy();
+    match value.parse() {
+        Ok(number) if (1..=limit).contains(&number) => Ok(number),
+        _ => Err(format!("{name} a number from 1 to {limit}, not '{value}'")),
     }
 }
 
