@@ -64,7 +64,7 @@ extern "C" {
  * other's lists and arrays. A higher minor number means further calls or numbers. Where a call or a struct changes, a
  * point becomes another part of a logarithm, or arrays get another head (check[0]), the major number changes. */
 #define BACKOFF_VERSION_MAJOR 4
-#define BACKOFF_VERSION_MINOR 0
+#define BACKOFF_VERSION_MINOR 1
 #define BACKOFF_VERSION_PATCH 0
 
 /* The numbers of refusals. The place is the row for 3 to 8, the word (from 1) for 12 in a run or a fragment, the

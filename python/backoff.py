@@ -32,7 +32,7 @@ from ctypes import c_bool, c_char_p, c_int32, c_int64, c_size_t, c_uint32, c_uin
 from dataclasses import dataclass
 from typing import Callable, Iterable, Iterator, NamedTuple, Optional, Union
 
-__version__ = "4.0.0"
+__version__ = "4.1.0"
 __all__ = [
     "ExplainedWord",
     "Explanation",
