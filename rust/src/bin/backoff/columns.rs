@@ -43,8 +43,6 @@ impl<const N: usize> Columns<N> {
                 space(out, spaces);
                 out.extend(cell);
                 spaces = 0;
-            } else {
-                spaces += letters(cell);
             }
             spaces += behind + GAP;
         }

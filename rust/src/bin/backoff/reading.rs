@@ -62,7 +62,7 @@ impl<'t> Reading<'t> {
     /// The places that are scored from a beginning of their own: without `<s>` those of each line; with it all, since a 3 leads back to the beginning.
     pub fn stretches(&self) -> Vec<Range<usize>> {
         match self.marks.bos {
-            true => [0..self.len()].into(),
+            true => std::iter::once(0..self.len()).collect(),
             false => self.closed_lines().collect(),
         }
     }
