@@ -22,10 +22,12 @@ interpreter's lock while they work.
 from __future__ import annotations
 
 import array
+import contextlib
 import ctypes
 import functools
 import operator
 import os
+import stat
 import struct
 import zlib
 from ctypes import c_bool, c_char_p, c_int32, c_int64, c_size_t, c_uint32, c_uint64, c_void_p
@@ -70,6 +72,8 @@ END_WORD = 3
 UNKNOWN_LENGTH = 8
 
 MATCHED_LENGTH = 7  # the bits of a length byte that hold the matched length
+RESERVED_TEXTS = (b"<unk>", b"<s>", b"</s>")  # the texts of words 1, 2 and 3
+FREE_CHECK = -(2**31)  # the check of a slot that is free; its base is 0
 UNLISTED_WORD = 0  # a number that no list has; it is scored as the unknown word
 EARLIER_HEADS = {8: 1, 40: 2, 16: 3}  # what the arrays of earlier versions have as ORDER_HEAD, and the version
 
@@ -103,6 +107,7 @@ _REFUSALS = {
     22: "sentences of 1 to 4 words are listed, over at most 16 words other than <s> and </s>",
 }
 ARRAY_HEAD = 11
+SHORT_SLICE = 15
 ARPA_LINE = 17
 _BYTE_ORDER_MARK = b"\xef\xbb\xbf"
 _ROW_REFUSALS = range(3, 9)
@@ -253,6 +258,11 @@ def _zeros(kind: str, count: int) -> array.array:
     return array.array(kind, [0]) * count
 
 
+def _split(sentence: Text) -> list[bytes]:
+    """The words of a sentence: what stands between blanks, which are those of the command line."""
+    return _bytes(sentence).replace(b"\0", b" ").split()
+
+
 def _bytes(text: Text) -> bytes:
     """A text as UTF-8; bytes are taken as they are."""
     if isinstance(text, str):
@@ -334,36 +344,79 @@ def _build(path: str, table: array.array) -> tuple[array.array, array.array]:
         *table.buffer_info(), *base.buffer_info(), *check.buffer_info(), *work.buffer_info()
     )
     _require(built, path)
-    # A free slot has the least number as its check. No other check has 0x80 as its highest byte.
-    used = len(check.tobytes()[3::4].rstrip(b"\x80"))
+    return _cut(base, check)
+
+
+def _cut(base: array.array, check: array.array) -> tuple[array.array, array.array]:
+    """An array without the free slots behind the last one in use."""
+    used, step = len(check), len(check)
+    while step:
+        free = array.array("i", [FREE_CHECK]) * step
+        if step <= used and check[used - step : used] == free and not any(base[used - step : used]):
+            used -= step
+        else:
+            step //= 2
     return base[:used], check[:used]
+
+
+def _texts_fault(texts: list[bytes], words: int) -> Optional[str]:
+    """What is wrong with the texts of an array file."""
+    met: set[bytes] = set()
+    for word, text in enumerate(texts, 1):
+        in_form = 1 <= len(text) <= TEXT_LIMIT and min(text) > 0x20
+        if not in_form or text in met or RESERVED_TEXTS[word - 1 : word] not in ((), (text,)):
+            return f"word {word} has a text that it may not have: {_shown(text)!r}"
+        met.add(text)
+    return None if len(texts) == words else f"the head says {words} words, but there are {len(texts)} texts"
 
 
 def _texts_in(path: str, data: bytes, words: int) -> list[bytes]:
     """The texts of an array file, each behind one byte with its length."""
-    texts, place = [], 0
-    while place < len(data) and 1 <= data[place] <= TEXT_LIMIT:
+    texts, place, fault = [], 0, None
+    while place < len(data):
         texts.append(data[place + 1 : place + 1 + data[place]])
+        if len(texts[-1]) < data[place]:
+            fault = f"the text of word {len(texts)} is cut"
+            del texts[-1]
+            break
         place += 1 + data[place]
-    if place != len(data) or len(texts) != words:
-        raise Refused("the texts of the words are not in form", path=path)
+    fault = _texts_fault(texts, len(texts) if fault else words) or fault
+    if fault:
+        raise Refused(fault, path=path)
     return texts
+
+
+def _size_fault(sizes: tuple[int, ...]) -> Optional[str]:
+    """What is wrong with the sizes in the head of an array file."""
+    order, rows, words, slots, text_bytes = sizes
+    limits = (
+        ("order", order, 1, ORDER_LIMIT),
+        ("number of rows", rows, len(RESERVED_TEXTS), ROW_LIMIT),
+        ("number of words", words, len(RESERVED_TEXTS), WORD_LIMIT),
+        ("number of slots", slots, 2, SLOT_LIMIT),
+        ("number of text bytes", text_bytes, 2 * words, (1 + TEXT_LIMIT) * words),
+    )
+    faults = (each for each in limits if not each[2] <= each[1] <= each[3])
+    return next((f"the head is broken: the {name} is {size}, not {low} to {high}" for name, size, low, high in faults), None)
 
 
 def _array_file_fault(data: bytes) -> Optional[str]:
     """What is wrong with an array file, but for its array and its texts."""
-    if len(data) < _HEAD.size + _CHECKSUM.size:
-        return "the array file is cut"
-    _, version, order, rows, words, slots, text_bytes = _HEAD.unpack_from(data)
+    if len(data) < _HEAD.size:
+        return f"the array file is cut: {len(data)} bytes are there, {_HEAD.size} are needed"
+    _, version, *sizes = _HEAD.unpack_from(data)
     if version != VERSION:
-        return f"the array file has version {version}; this module reads version {VERSION}"
-    if order > ORDER_LIMIT or rows > ROW_LIMIT or words > WORD_LIMIT or not 2 <= slots <= SLOT_LIMIT:
-        return "the array file has a size beyond the limits"
-    size = _HEAD.size + 8 * slots + text_bytes + _CHECKSUM.size
-    if len(data) != size:
-        return f"the array file has {len(data)} bytes where {size} belong: it is cut or longer"
+        return f"an array file of format version {version}: this module reads version {VERSION}"
+    fault = _size_fault(tuple(sizes))
+    if fault is not None:
+        return fault
+    size = _HEAD.size + 8 * sizes[3] + sizes[4] + _CHECKSUM.size
+    if len(data) < size:
+        return f"the array file is cut: {len(data)} bytes are there, {size} are needed"
+    if len(data) > size:
+        return f"the file is too long: {len(data)} bytes, where its head says {size}"
     if _CHECKSUM.pack(zlib.crc32(data[: -_CHECKSUM.size])) != data[-_CHECKSUM.size :]:
-        return "the array file's checksum is wrong"
+        return "the checksum is not that of the bytes: some of them were changed"
     return None
 
 
@@ -375,6 +428,30 @@ def _earlier(head: int) -> str:
     return ""
 
 
+def _unloaded(path: str, base: array.array, check: array.array, rows: int) -> array.array:
+    """The list that an array holds."""
+    table, work = _zeros("i", ROW_ITEMS * rows), _zeros("I", rows)
+    unloaded = _calls.backoff_unload(
+        *base.buffer_info(), *check.buffer_info(), *table.buffer_info(), *work.buffer_info()
+    )
+    if unloaded.number == ARRAY_HEAD:
+        raise Refused(_REFUSALS[ARRAY_HEAD] + _earlier(check[0]), ARRAY_HEAD, 0, path)
+    if unloaded.number == SHORT_SLICE or not unloaded.number and base[1] != rows:
+        raise Refused(f"the head says {rows} rows, but the array has {base[1]}", path=path)
+    _require(unloaded, path)
+    return table
+
+
+def _list_fault(table: array.array, order: int, words: int) -> Optional[str]:
+    """What the head of an array file says wrongly of the list."""
+    if table[-ROW_ITEMS] != order:
+        return f"the head says order {order}, but the array has order {table[-ROW_ITEMS]}"
+    listed = [word for m, word in zip(table[::ROW_ITEMS], table[1::ROW_ITEMS]) if m == 1]
+    if listed != list(range(1, words + 1)):
+        return f"the file has texts for {words} words, but the array has other words than 1 to {words}"
+    return None
+
+
 def _read_array_file(path: str, data: bytes) -> _Contents:
     """The contents of an array file; unloading the array tells whether it holds a list."""
     fault = _array_file_fault(data)
@@ -382,17 +459,43 @@ def _read_array_file(path: str, data: bytes) -> _Contents:
         raise Refused(fault, path=path)
     _, _, order, rows, words, slots, _ = _HEAD.unpack_from(data)
     base, check = array.array("i"), array.array("i")
-    checks, texts = _HEAD.size + 4 * slots, _HEAD.size + 8 * slots
+    checks, texts_start = _HEAD.size + 4 * slots, _HEAD.size + 8 * slots
     base.frombytes(data[_HEAD.size : checks])
-    check.frombytes(data[checks:texts])
-    if (check[0], base[1]) != (order + ORDER_HEAD, rows):
-        raise Refused(_REFUSALS[ARRAY_HEAD] + _earlier(check[0]), ARRAY_HEAD, 0, path)
-    table, work = _zeros("i", ROW_ITEMS * rows), _zeros("I", rows)
-    unloaded = _calls.backoff_unload(
-        *base.buffer_info(), *check.buffer_info(), *table.buffer_info(), *work.buffer_info()
-    )
-    _require(unloaded, path)
-    return _Contents(table, base, check, _texts_in(path, data[texts : -_CHECKSUM.size], words), None)
+    check.frombytes(data[checks:texts_start])
+    base, check = _cut(base, check)
+    texts = _texts_in(path, data[texts_start : -_CHECKSUM.size], words)
+    table = _unloaded(path, base, check, rows)
+    fault = _list_fault(table, order, words)
+    if fault is not None:
+        raise Refused(fault, path=path)
+    return _Contents(table, base, check, texts, None)
+
+
+def _write(path: Path, data: bytes) -> None:
+    """Writes a file under another name beside it and renames it, so that there is never half a file.
+
+    What is no regular file, as a pipe or a device, is written as it is. A file that is replaced hands its permissions on.
+    """
+    if os.path.exists(path) and not os.path.isfile(path):
+        with open(path, "wb") as file:
+            file.write(data)
+        return
+    target = os.path.realpath(path)
+    part = os.path.join(os.path.dirname(target), f".backoff.{os.urandom(8).hex()}.part")
+    try:
+        with open(part, "xb") as file:
+            if os.path.exists(target):
+                os.chmod(part, stat.S_IMODE(os.stat(target).st_mode))
+            file.write(data)
+            file.flush()
+            os.fsync(file.fileno())
+        os.replace(part, target)
+    except BaseException as error:
+        with contextlib.suppress(OSError):
+            os.unlink(part)
+        if isinstance(error, OSError):
+            error.filename, error.filename2 = os.fspath(path), None
+        raise
 
 
 @functools.total_ordering
@@ -578,7 +681,8 @@ class Model:
     `path` is an ARPA file, or an array file that `save` or the command `backoff build` wrote. With `fill`, an ARPA file
     may be a pruned one that lacks rows without their first words; they are added, and no word's points change.
 
-    A sentence is a str or bytes; its words are parted by white space. A word that the list lacks is scored as <unk>.
+    A sentence is a str or bytes; its words are parted by blanks: space, tab, line feed, carriage return, vertical tab,
+    form feed and the byte 0. A word that the list lacks is scored as <unk>.
     <s> within a sentence is a word as any other. </s> within a sentence ends it, and what follows is scored after <s>
     alone; in KenLM it is a word as any other.
     """
@@ -621,7 +725,7 @@ class Model:
     def _words(self, sentence: Text) -> array.array:
         """The numbers of a sentence's words."""
         number = self._numbers.get
-        return array.array("I", [number(word, UNLISTED_WORD) for word in _bytes(sentence).split()])
+        return array.array("I", [number(word, UNLISTED_WORD) for word in _split(sentence)])
 
     def _run(self, state: State, words: array.array) -> tuple[int, array.array, array.array]:
         """The total, points and length bytes of at most RUN_LIMIT words; `state` becomes the state after them."""
@@ -690,7 +794,7 @@ class Model:
         return Row(found.p, found.b, bool(found.left)) if found.found else None
 
     def lookup(self, words: Text) -> Optional[Row]:
-        """The row of 1 to 5 words, oldest first and parted by white space; None if the list has no such row.
+        """The row of 1 to 5 words, oldest first and parted by blanks; None if the list has no such row.
 
         No word is replaced by <unk>.
         """
@@ -725,7 +829,7 @@ class Model:
 
         Every p and b is an answer of backoff_lookup, and the sums are compared with the answers of backoff_run.
         """
-        texts = _bytes(sentence).split() + ([b"</s>"] if eos else [])
+        texts = _split(sentence) + ([b"</s>"] if eos else [])
         words, history = [], array.array("I", [START_WORD] if bos else [])
         for text, scored in zip(texts, self.full_points(sentence, bos, eos)):
             given = array.array("I", [self._number(text)])
@@ -751,7 +855,7 @@ class Model:
 
     def perplexity(self, sentence: Text) -> float:
         """10 to the power of minus the score divided by the number of words, </s> among them."""
-        words = len(_bytes(sentence).split()) + 1
+        words = len(_split(sentence)) + 1
         return 10.0 ** (-self.score(sentence) / words)
 
     def BeginSentenceWrite(self, state: State) -> None:
@@ -862,13 +966,17 @@ class Model:
         return Move(answer.distance, *pair)
 
     def save(self, path: Path) -> None:
-        """Writes the array file, which `Model` reads without building anything."""
+        """Writes the array file, which `Model` reads without building anything. It is there whole or not at all.
+
+        The file that the model was read from is not overwritten.
+        """
+        if os.path.exists(path) and os.path.exists(self.path) and os.path.samefile(path, self.path):
+            raise Refused("the array would take the place of the file that the model was read from", path=os.fspath(path))
         texts = b"".join(bytes([len(text)]) + text for text in self._texts)
         sizes = (self.order, self._base[1], len(self._texts), len(self._base), len(texts))
         head = _HEAD.pack(FIRST_LINE, VERSION, *sizes)
         data = head + self._base.tobytes() + self._check.tobytes() + texts
-        with open(path, "wb") as file:
-            file.write(data + _CHECKSUM.pack(zlib.crc32(data)))
+        _write(path, data + _CHECKSUM.pack(zlib.crc32(data)))
 
 
 LanguageModel = Model

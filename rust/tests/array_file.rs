@@ -207,42 +207,79 @@ fn flipped_bits() {
     }
 }
 
-/// Numbers of the head that are not those of the rest, under a right checksum.
-#[test]
-fn other_heads() {
-    let file = built(SAMPLE.as_bytes(), "");
-    let with = |place: usize, number: u32| {
-        let mut bytes = file[..file.len() - 4].to_vec();
-        bytes[8 + 4 * place..][..4].copy_from_slice(&number.to_le_bytes());
-        let told = refused(&closed(&bytes));
-        assert!(["check", "query", "bench"].iter().all(|subcommand| refused_by(&closed(&bytes), subcommand) == told));
-        told
-    };
-    assert_eq!(with(0, 2), "an array file of format version 2: this program reads version 1");
-    assert_eq!(with(1, 2), "the head says order 2, but the array has order 3");
-    assert_eq!(with(1, 6), "the head is broken: the order is 6, not 1 to 5");
-    assert_eq!(with(2, 8), "the head says 8 rows, but the array has 9");
-    assert_eq!(with(2, 10), "the head says 10 rows, but the array has 9");
-    assert_eq!(with(2, 65_536), "the head is broken: the number of rows is 65536, not 3 to 65535");
-    assert_eq!(with(3, 4), "the head says 4 words, but there are 5 texts");
-    assert_eq!(with(3, 6), "the head says 6 words, but there are 5 texts");
-    assert_eq!(with(3, u32::MAX), "the head is broken: the number of words is 4294967295, not 3 to 65535");
-    assert_eq!(with(4, 1_048_577), "the head is broken: the number of slots is 1048577, not 2 to 1048576");
-    assert_eq!(with(5, 321), "the head is broken: the number of text bytes is 321, not 10 to 320");
+/// Bytes of tests/array-files.txt: `\xNN` is a byte, and `\` alone is nothing.
+fn unescaped(text: &str) -> Vec<u8> {
+    let mut parts = text.split('\\');
+    let mut bytes = parts.next().unwrap().as_bytes().to_vec();
+    for part in parts.filter(|part| !part.is_empty()) {
+        bytes.push(u8::from_str_radix(&part[1..3], 16).unwrap());
+        bytes.extend(part[3..].as_bytes());
+    }
+    bytes
 }
 
-/// Texts that a word may not have, under a right checksum.
+/// An array file as a line of tests/array-files.txt has it.
+fn edited(file: &[u8], edits: &str) -> Vec<u8> {
+    let mut numbers: Vec<u32> = file[8..].as_chunks().0.iter().map(|&number| u32::from_le_bytes(number)).collect();
+    let slots = numbers[4] as usize;
+    let mut head: Vec<u32> = numbers.drain(..6).collect();
+    numbers.truncate(2 * slots);
+    let mut check = numbers.split_off(slots);
+    let (mut base, mut texts, mut end) = (numbers, file[HEAD + 8 * slots..file.len() - 4].to_vec(), Vec::new());
+    for edit in edits.split(", ") {
+        let (name, values) = edit.split_once(' ').unwrap();
+        let values: Vec<&str> = values.split(' ').collect();
+        let number = |place: usize| values[place].parse::<i64>().unwrap();
+        match name {
+            "head" => head[number(0) as usize] = number(1) as u32,
+            "texts" => {
+                texts = arpa::replace(&texts, &unescaped(values[0]), &unescaped(values[1]));
+                head[5] = texts.len() as u32;
+            }
+            "base" => base[number(0) as usize] = number(1) as u32,
+            "check" => check[number(0) as usize] = number(1) as u32,
+            "free" => {
+                base.resize(slots + number(0) as usize, 0);
+                check.resize(base.len(), 1 << 31);
+                head[4] = base.len() as u32;
+            }
+            _ => end.push((name, number(0) as usize)),
+        }
+    }
+    let numbers = head.iter().chain(&base).chain(&check).flat_map(|number| number.to_le_bytes());
+    let mut bytes = closed(&b"backoff\n".iter().copied().chain(numbers).chain(texts).collect::<Vec<u8>>());
+    for (name, count) in end {
+        let length = bytes.len();
+        match name {
+            "flip" => bytes[length - count] ^= 1,
+            "shorten" => bytes.truncate(length - count),
+            "lengthen" => bytes.resize(length + count, 0),
+            _ => panic!("{edits}"),
+        }
+    }
+    bytes
+}
+
+/// The files that the Python module takes and refuses too.
 #[test]
-fn other_texts() {
+fn files_of_both() {
+    let cases = std::fs::read_to_string(support::repository().join("tests/array-files.txt")).unwrap();
+    let cases: Vec<_> = cases.lines().filter(|line| !line.starts_with('#')).map(|line| line.split_once(": ").unwrap()).collect();
+    assert!(cases.len() > 40);
     let file = built(SAMPLE.as_bytes(), "");
-    let with = |from: &[u8], to: &[u8]| refused(&closed(&arpa::replace(&file[..file.len() - 4], from, to)));
-    assert_eq!(with(b"five", b"four"), "word 5 has a text that it may not have: 'four'");
-    assert_eq!(with(b"five", b"fi e"), "word 5 has a text that it may not have: 'fi e'");
-    assert_eq!(with(b"five", b"fiv\n"), "word 5 has a text that it may not have: 'fiv\\n'");
-    assert_eq!(with(b"<unk>", b"<UNK>"), "word 1 has a text that it may not have: '<UNK>'");
-    assert_eq!(with(b"\x04five", b"\x05five"), "the text of word 5 is cut");
-    assert_eq!(with(b"\x04five", b"\x00five"), "word 5 has a text that it may not have: ''");
-    assert_eq!(with(b"\x04four\x04five", b"\x09four+five"), "the head says 5 words, but there are 4 texts");
+    for (edits, told) in cases {
+        let edited = edited(&file, edits);
+        if told.starts_with("accepted") {
+            let folder = Folder::new();
+            folder.put("array", &edited);
+            let words = if told.contains("other texts") { "four six" } else { "four five" };
+            assert_eq!(folder.run_on("query array --totals --points", words.as_bytes()).printed(), b"-6500\n", "{edits}");
+            continue;
+        }
+        let answer = refused(&edited);
+        assert!(answer.starts_with(told), "{edits}: {answer}");
+        assert!(["check", "query", "explain"].iter().all(|subcommand| refused_by(&edited, subcommand) == answer), "{edits}");
+    }
 }
 
 /// Arrays over other words than those that have texts.
@@ -323,6 +360,38 @@ fn failed_builds_leave_nothing() {
     let told = folder.shell("trap '' XFSZ; ulimit -f 1; backoff build arpa old").refused();
     assert_eq!(told, "backoff: old: File too large (os error 27)\n");
     assert_eq!((folder.get("old"), folder.names()), (b"what was there".to_vec(), vec!["arpa".to_string(), "old".to_string()]));
+}
+
+/// The model's file is not replaced by its array, under whatever name.
+#[test]
+fn own_model() {
+    let folder = Folder::new();
+    folder.put("arpa", SAMPLE);
+    symlink("arpa", folder.path("link")).unwrap();
+    std::fs::hard_link(folder.path("arpa"), folder.path("hard")).unwrap();
+    for (model, array) in [("arpa", "arpa"), ("arpa", "./link"), ("link", "arpa"), ("arpa", "hard")] {
+        let told = format!("backoff: {array}: the array would take the place of the model: name another file for it\n");
+        assert_eq!(folder.run(&format!("build {model} {array}")).refused(), told);
+    }
+    assert_eq!((folder.get("arpa"), folder.names().len()), (SAMPLE.as_bytes().to_vec(), 3));
+    folder.run("build arpa array").printed();
+    assert!(folder.run("build array array").refused().contains("take the place of the model"));
+}
+
+/// Names as long as names can be, and a file that a killed build left.
+#[test]
+fn long_names() {
+    let folder = Folder::new();
+    folder.put("arpa", SAMPLE);
+    for length in [240, 250, 255] {
+        let name = "a".repeat(length);
+        folder.run(&format!("build arpa {name}")).printed();
+        assert!(folder.get(&name) == built(SAMPLE.as_bytes(), ""));
+    }
+    assert_eq!(folder.names().len(), 4);
+    let ran = folder.shell("touch .backoff.$$.0.part; exec backoff build arpa array");
+    assert_eq!(ran.text(), "");
+    assert!(folder.get("array") == built(SAMPLE.as_bytes(), ""));
 }
 
 /// Devices and pipes are written as they are.

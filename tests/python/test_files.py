@@ -3,18 +3,23 @@
 from __future__ import annotations
 
 import array
+import os
 import pickle
 import random
 import struct
+import subprocess
+import sys
 import tempfile
 import unittest
 import zlib
+from concurrent.futures import ThreadPoolExecutor
 from pathlib import Path
 
 import backoff
 import lists
 
 SAMPLE = lists.SAMPLE.read_bytes()
+CASES = Path("tests/array-files.txt")
 
 
 def refusal(data: bytes, fill: bool = False) -> backoff.Refused:
@@ -113,11 +118,51 @@ def with_checksum(data: bytes) -> bytes:
     return data + struct.pack("<I", zlib.crc32(data))
 
 
+def saved(model: backoff.Model) -> bytes:
+    """The array file of a model."""
+    with tempfile.TemporaryDirectory() as folder:
+        model.save(Path(folder, "array"))
+        return Path(folder, "array").read_bytes()
+
+
+def unescaped(text: str) -> bytes:
+    r"""Bytes of tests/array-files.txt: \xNN is a byte, and \ alone is nothing."""
+    return text.encode("latin-1").decode("unicode_escape").encode("latin-1") if text != "\\" else b""
+
+
+def edited_file(file: bytes, edits: str) -> bytes:
+    """An array file as a line of tests/array-files.txt has it."""
+    slots = struct.unpack_from("<I", file, 24)[0]
+    head, numbers, texts, end = list(struct.unpack_from("<6I", file, 8)), array.array("i"), file[32 + 8 * slots : -4], []
+    numbers.frombytes(file[32 : 32 + 8 * slots])
+    base, check = numbers[:slots], numbers[slots:]
+    for name, *values in map(str.split, edits.split(", ")):
+        if name == "head":
+            head[int(values[0])] = int(values[1])
+        elif name == "texts":
+            assert texts.count(unescaped(values[0])) == 1
+            texts = texts.replace(*map(unescaped, values))
+            head[5] = len(texts)
+        elif name in ("base", "check"):
+            (base if name == "base" else check)[int(values[0])] = int(values[1])
+        elif name == "free":
+            base += array.array("i", [0]) * int(values[0])
+            check += array.array("i", [-(2**31)]) * int(values[0])
+            head[4] = len(base)
+        else:
+            end.append((name, int(values[0])))
+    data = with_checksum(b"backoff\n" + struct.pack("<6I", *head) + base.tobytes() + check.tobytes() + texts)
+    for name, count in end:
+        if name == "flip":
+            data = data[:-count] + bytes([data[-count] ^ 1]) + data[len(data) - count + 1 :]
+        else:
+            data = data[:-count] if name == "shorten" else data + bytes(count)
+    return data
+
+
 class ArrayFiles(unittest.TestCase):
     def setUp(self) -> None:
-        with tempfile.NamedTemporaryFile() as file:
-            backoff.Model(lists.SAMPLE).save(file.name)
-            self.data = Path(file.name).read_bytes()
+        self.data = saved(backoff.Model(lists.SAMPLE))
 
     def assert_refused(self, data: bytes, words: str, number: int = 0) -> None:
         refused = refusal(data)
@@ -160,45 +205,27 @@ class ArrayFiles(unittest.TestCase):
         refused = refusal(b"backofg\n" + self.data[8:])
         self.assertEqual((refused.number, refused.place, refused.line), (17, 1, "backofg"))
 
-    def test_another_version(self) -> None:
-        self.assert_refused(self.changed(8, 2), "version 2")
+    def test_files_of_both(self) -> None:
+        cases = [line.split(": ", 1) for line in CASES.read_text().splitlines() if not line.startswith("#")]
+        self.assertGreater(len(cases), 40)
+        for edits, told in cases:
+            data = edited_file(self.data, edits)
+            with self.subTest(edits=edits):
+                if told.startswith("accepted"):
+                    words = "four six" if "other texts" in told else "four five"
+                    self.assertEqual((lists.model(data).points(words), saved(lists.model(data))[:32]), (-6_500, self.sizes(edits)))
+                else:
+                    answer = str(refusal(data)).split(": ", 1)[1]
+                    self.assertTrue(answer.removeprefix("refused: ").startswith(told), answer)
+
+    def sizes(self, edits: str) -> bytes:
+        """The head that a model of this file is saved with: in the fewest slots."""
+        return edited_file(self.data, edits.replace("free 7", "free 0"))[:32]
 
     def test_cut_or_longer(self) -> None:
         for length in range(8, len(self.data)):
-            self.assert_refused(self.data[:length], "cut")
-        self.assert_refused(self.data + b"\0", "longer")
-
-    def test_checksum(self) -> None:
-        for place in (40, len(self.data) - 10, len(self.data) - 1):
-            data = bytearray(self.data)
-            data[place] ^= 1
-            self.assert_refused(bytes(data), "checksum")
-
-    def test_sizes_beyond_the_limits(self) -> None:
-        for place, value in ((12, 6), (16, 65_536), (20, 65_536), (24, 1), (24, 1_048_577), (24, -1)):
-            self.assert_refused(self.changed(place, value), "limits")
-
-    def test_texts_not_in_form(self) -> None:
-        self.assert_refused(self.changed(20, 4), "texts")
-        first = 32 + 8 * struct.unpack_from("<I", self.data, 24)[0]
-        for length in (0, 4, 6, 64, 255):
-            data = bytearray(self.data[:-4])
-            data[first] = length
-            self.assert_refused(with_checksum(bytes(data)), "texts")
-        for length, words in ((63, 1), (64, 1), (63, 2)):
-            head = self.data[:20] + struct.pack("<I", words) + self.data[24:28] + struct.pack("<I", length + 1)
-            data = with_checksum(head + self.data[32:first] + bytes([length]) + length * b"x")
-            if (length, words) == (63, 1):
-                self.assertEqual(lists.model(data).points(length * "x", False, False), -20_000)
-            else:
-                self.assert_refused(data, "texts")
-
-    def test_arrays(self) -> None:
-        slots = struct.unpack_from("<I", self.data, 24)[0]
-        self.assert_refused(self.changed(12, 2), "first two slots", 11)
-        self.assert_refused(self.changed(16, 8), "first two slots", 11)
-        self.assert_refused(self.changed(32 + 4 * slots + 4, 5), "first two slots", 11)
-        self.assert_refused(self.changed(32 + 8 * slots - 4, -5), "was changed", 12)
+            needed = 32 if length < 32 else len(self.data)
+            self.assert_refused(self.data[:length], f"the array file is cut: {length} bytes are there, {needed} are needed")
 
     def test_heads_of_earlier_versions(self) -> None:
         head = 32 + 4 * struct.unpack_from("<I", self.data, 24)[0]
@@ -222,10 +249,66 @@ class ArrayFiles(unittest.TestCase):
         self.assertEqual(numbers, {0, 11, 12})
         self.assertGreater(accepted, 0)
 
-    def test_texts_that_come_twice(self) -> None:
-        model = lists.model(with_checksum(self.data[:-4].replace(b"\x04five", b"\x04four")))
-        self.assertEqual(model.points("four", False, False), -6_000)
-        self.assertNotIn("five", model)
+
+class Saving(unittest.TestCase):
+    def setUp(self) -> None:
+        folder = tempfile.TemporaryDirectory()
+        self.addCleanup(folder.cleanup)
+        self.folder = Path(folder.name)
+        self.model = backoff.Model(lists.SAMPLE)
+        self.bytes = saved(self.model)
+
+    def names(self) -> list[str]:
+        return sorted(os.listdir(self.folder))
+
+    def test_own_source(self) -> None:
+        source, link = self.folder / "source.arpa", self.folder / "link"
+        source.write_bytes(SAMPLE)
+        link.symlink_to(source)
+        for path in (source, link):
+            with self.assertRaises(backoff.Refused) as caught:
+                backoff.Model(path).save(source)
+            self.assertIn("take the place of the file that the model was read from", str(caught.exception))
+        self.assertEqual((source.read_bytes(), self.names()), (SAMPLE, ["link", "source.arpa"]))
+        source.unlink()
+        self.model.save(source)
+        self.assertEqual(source.read_bytes(), self.bytes)
+
+    def test_full_disk(self) -> None:
+        path = self.folder / "array"
+        path.write_bytes(b"what was there")
+        code = "import backoff, sys; backoff.Model(sys.argv[1]).save(sys.argv[2])"
+        # As on a full disk: no file may grow.
+        line = 'trap "" XFSZ; ulimit -f 0; exec "$@"'
+        command = ["sh", "-c", line, "sh", sys.executable, "-c", code, str(lists.SAMPLE), str(path)]
+        done = subprocess.run(command, text=True, capture_output=True)
+        self.assertIn("File too large", done.stderr)
+        self.assertIn(str(path), done.stderr)
+        self.assertEqual((path.read_bytes(), self.names()), (b"what was there", ["array"]))
+
+    def test_names_and_permissions(self) -> None:
+        old, link = self.folder / "old", self.folder / "link"
+        old.touch(0o600)
+        link.symlink_to("old")
+        self.model.save(link)
+        self.assertEqual((old.read_bytes(), link.is_symlink(), old.stat().st_mode & 0o777), (self.bytes, True, 0o600))
+        long_name = self.folder / ("a" * 255)
+        self.model.save(long_name)
+        self.assertEqual(long_name.read_bytes(), self.bytes)
+        with self.assertRaises(FileNotFoundError):
+            self.model.save(self.folder / "no folder" / "array")
+        with self.assertRaises(IsADirectoryError):
+            self.model.save(self.folder)
+        self.assertEqual(len(self.names()), 3)
+
+    def test_pipes(self) -> None:
+        pipe = self.folder / "pipe"
+        os.mkfifo(pipe)
+        with ThreadPoolExecutor(1) as thread:
+            read = thread.submit(pipe.read_bytes)
+            self.model.save(pipe)
+            self.assertEqual(read.result(), self.bytes)
+        self.assertEqual(self.names(), ["pipe"])
 
 
 if __name__ == "__main__":

@@ -66,8 +66,11 @@ class Sentences(unittest.TestCase):
 
     def test_text_or_bytes(self) -> None:
         self.assertEqual(self.model.points(b"four five"), -6_500)
-        self.assertEqual(self.model.points(" four\t\r\nfive\v\f "), -6_500)
-        self.assertEqual(self.model.points(b"four\xff\x00 five"), self.model.points("nine five"))
+        for blanks in (" ", "\t", "\r\n", "\v\f", "\0", "\0\0 "):
+            sentence = f"{blanks}four{blanks}five{blanks}"
+            self.assertEqual((self.model.points(sentence), self.model.explain(sentence).total), (-6_500, -6_500))
+            self.assertEqual(self.model.perplexity(sentence), self.model.perplexity("four five"))
+        self.assertEqual(self.model.points(b"four\xff five"), self.model.points("nine five"))
         self.assertEqual(self.model.points("four\u00a0five"), self.model.points("nine"))
         for wrong in (4, None, ["four"]):
             with self.assertRaises(TypeError):

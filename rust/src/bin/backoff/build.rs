@@ -9,6 +9,9 @@ use crate::subcommands::Source;
 use std::path::Path;
 
 pub fn build(source: &Source, path: &Path) -> Result<(), Failure> {
+    if files::are_one(&source.path, path) {
+        return Err(Failure::file(path, "the array would take the place of the model: name another file for it"));
+    }
     let progress = Progress::start(false);
     let model = Model::load(source, &progress)?;
     progress.say("writing the array");

@@ -1,13 +1,16 @@
 //! Files read whole, and written whole or not at all.
 
 use crate::failure::Failure;
-use std::ffi::OsString;
 use std::fs::{self, File, OpenOptions};
 use std::io::{self, ErrorKind, Read, Write};
+use std::os::unix::fs::MetadataExt;
 use std::path::{Path, PathBuf};
 
 /// The most bytes that are held of a model or of one line of a text. An accepted list fits in less than half of it.
 pub const BYTE_LIMIT: usize = 1 << 26;
+
+/// So many names beside a file are tried.
+const MOST_TAKEN: usize = 1_000;
 
 /// The bytes of a model's file.
 pub fn read(path: &Path) -> Result<Vec<u8>, Failure> {
@@ -26,10 +29,15 @@ pub fn read_from(name: &Path, reader: impl Read) -> Result<Vec<u8>, Failure> {
     }
 }
 
+/// Whether both names are those of one regular file.
+pub fn are_one(one: &Path, two: &Path) -> bool {
+    let file = |path: &Path| fs::metadata(path).ok().filter(|file| file.is_file()).map(|file| (file.dev(), file.ino()));
+    file(one).is_some() && file(one) == file(two)
+}
+
 /// A file that is to be written is not one that is read, which would be lost.
 pub fn require_another(written: &Path, read: &Path) -> Result<(), Failure> {
-    let is_file = fs::metadata(written).is_ok_and(|metadata| metadata.is_file());
-    match is_file && fs::canonicalize(written).ok() == fs::canonicalize(read).ok() {
+    match are_one(written, read) {
         true => Err(Failure::file(written, format!("it is read as {}, and would be lost: give another name", read.display()))),
         false => Ok(()),
     }
@@ -47,8 +55,8 @@ pub fn write(path: &Path, bytes: &[u8]) -> Result<(), Failure> {
 }
 
 fn replace(path: &Path, bytes: &[u8]) -> io::Result<()> {
-    let part = part_name(path);
-    let written = write_part(&part, path, bytes).and_then(|()| fs::rename(&part, path));
+    let (part, file) = create_part(path)?;
+    let written = write_part(file, path, bytes).and_then(|()| fs::rename(&part, path));
     if written.is_err() {
         // The first error is the one to tell.
         let _ = fs::remove_file(&part);
@@ -56,16 +64,20 @@ fn replace(path: &Path, bytes: &[u8]) -> io::Result<()> {
     written
 }
 
-/// The file's name with this process's number and `part`.
-fn part_name(path: &Path) -> PathBuf {
-    let mut name = OsString::from(path);
-    name.push(format!(".{}.part", std::process::id()));
-    name.into()
+/// A new file beside another one. Its name is not made of the other's, which may be as long as a name can be; one that a killed process left is passed over.
+fn create_part(path: &Path) -> io::Result<(PathBuf, File)> {
+    let mut taken = 0;
+    loop {
+        let part = path.with_file_name(format!(".backoff.{}.{taken}.part", std::process::id()));
+        match OpenOptions::new().write(true).create_new(true).open(&part) {
+            Err(error) if error.kind() == ErrorKind::AlreadyExists && taken < MOST_TAKEN => taken += 1,
+            opened => return opened.map(|file| (part, file)),
+        }
+    }
 }
 
 /// A file that is replaced hands its permissions on.
-fn write_part(part: &Path, path: &Path, bytes: &[u8]) -> io::Result<()> {
-    let mut file = OpenOptions::new().write(true).create_new(true).open(part)?;
+fn write_part(mut file: File, path: &Path, bytes: &[u8]) -> io::Result<()> {
     if let Ok(replaced) = fs::metadata(path) {
         file.set_permissions(replaced.permissions())?;
     }
