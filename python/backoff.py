@@ -73,6 +73,7 @@ UNKNOWN_LENGTH = 8
 
 MATCHED_LENGTH = 7  # the bits of a length byte that hold the matched length
 RESERVED_TEXTS = (b"<unk>", b"<s>", b"</s>")  # the texts of words 1, 2 and 3
+BYTE_LIMIT = 1 << 26  # the most bytes of a model's file; an accepted list fits in less than half of it
 FREE_CHECK = -(2**31)  # the check of a slot that is free; its base is 0
 UNLISTED_WORD = 0  # a number that no list has; it is scored as the unknown word
 EARLIER_HEADS = {8: 1, 40: 2, 16: 3}  # what the arrays of earlier versions have as ORDER_HEAD, and the version
@@ -260,16 +261,16 @@ def _zeros(kind: str, count: int) -> array.array:
 
 def _split(sentence: Text) -> list[bytes]:
     """The words of a sentence: what stands between blanks, which are those of the command line."""
-    return _bytes(sentence).replace(b"\0", b" ").split()
+    return _bytes("sentence", sentence).replace(b"\0", b" ").split()
 
 
-def _bytes(text: Text) -> bytes:
-    """A text as UTF-8; bytes are taken as they are."""
+def _bytes(name: str, text: Text) -> bytes:
+    """An argument as UTF-8; bytes are taken as they are."""
     if isinstance(text, str):
         return text.encode("utf-8")
     if isinstance(text, bytes):
         return text
-    raise TypeError(f"a text is str or bytes, not {type(text).__name__}")
+    raise TypeError(f"{name} is a str or bytes, not {type(text).__name__}")
 
 
 class _Contents(NamedTuple):
@@ -471,6 +472,16 @@ def _read_array_file(path: str, data: bytes) -> _Contents:
     return _Contents(table, base, check, texts, None)
 
 
+def _read(path: str) -> bytes:
+    """The bytes of a model's file."""
+    with open(path, "rb") as file:
+        data = file.read(BYTE_LIMIT + 1)
+    if len(data) > BYTE_LIMIT:
+        words = f"more than {BYTE_LIMIT} bytes: no list of 65,535 rows, the most there may be, needs as many"
+        raise Refused(words, path=path)
+    return data
+
+
 def _write(path: Path, data: bytes) -> None:
     """Writes a file under another name beside it and renames it, so that there is never half a file.
 
@@ -528,6 +539,16 @@ class State:
         state = State()
         state._numbers = self._numbers[:]
         return state
+
+    def __reduce_ex__(self, protocol: int) -> tuple:
+        """The earlier protocols know no __slots__."""
+        return super().__reduce_ex__(max(protocol, 2))
+
+
+def _require_state(name: str, state: object) -> None:
+    """Raises where an argument is no State."""
+    if not isinstance(state, State):
+        raise TypeError(f"{name} is a State, not {type(state).__name__}")
 
 
 class FullScoreReturn(NamedTuple):
@@ -689,9 +710,7 @@ class Model:
 
     def __init__(self, path: Path, *, fill: bool = False) -> None:
         self.path = os.path.abspath(os.fspath(path))
-        self._fill = fill
-        with open(self.path, "rb") as file:
-            data = file.read()
+        data = _read(self.path)
         if data.startswith(FIRST_LINE):
             contents = _read_array_file(self.path, data)
         else:
@@ -715,12 +734,17 @@ class Model:
     def __repr__(self) -> str:
         return f"<Model from {os.path.basename(self.path)}>"
 
-    def __reduce__(self) -> tuple:
-        return functools.partial(Model, fill=self._fill), (self.path,)
+    def __getstate__(self) -> dict[str, object]:
+        """What a copy has, also one that is pickled: the model itself, so that no file is read again."""
+        return {name: value for name, value in self.__dict__.items() if name not in ("_slots", "_lines")}
+
+    def __setstate__(self, state: dict[str, object]) -> None:
+        self.__dict__.update(state)
+        self._slots = self._base.buffer_info() + self._check.buffer_info()
 
     def _number(self, word: Text) -> int:
         """The number of a word's text."""
-        return self._numbers.get(_bytes(word), UNLISTED_WORD)
+        return self._numbers.get(_bytes("word", word), UNLISTED_WORD)
 
     def _words(self, sentence: Text) -> array.array:
         """The numbers of a sentence's words."""
@@ -860,14 +884,18 @@ class Model:
 
     def BeginSentenceWrite(self, state: State) -> None:
         """Makes `state` the one after <s>."""
+        _require_state("state", state)
         state._numbers = self._start._numbers[:]
 
     def NullContextWrite(self, state: State) -> None:
         """Makes `state` the one without context."""
+        _require_state("state", state)
         state._numbers = _zeros("i", STATE_LENGTH)
 
     def _step(self, in_state: State, word: Text, out_state: State) -> tuple[int, int]:
         """Points and length byte of a word; `out_state` may be `in_state` itself."""
+        _require_state("in_state", in_state)
+        _require_state("out_state", out_state)
         state = in_state.__copy__()
         total, _, lengths = self._run(state, array.array("I", [self._number(word)]))
         out_state._numbers = state._numbers

@@ -130,7 +130,9 @@ fn beyond_the_limit() {
     assert_eq!(folder.run("check /dev/zero").refused(), told);
     assert_eq!(folder.run("in-form /dev/zero").refused(), told);
     folder.put("m", SAMPLE);
-    assert_eq!(folder.run("query m /dev/zero").refused(), "backoff: /dev/zero: a line has more than 67108864 bytes\n");
+    assert_eq!(folder.run("query m /dev/zero").refused(), "backoff: /dev/zero: line 1 has more than 67108864 bytes\n");
+    let ran = folder.shell("{ yes four | head -n 300000; printf 'five\\n\\n'; cat /dev/zero; } | backoff query m --summary");
+    assert_eq!((ran.status, &ran.error[..]), (Some(1), "backoff: standard input: line 300003 has more than 67108864 bytes\n"));
 }
 
 #[test]

@@ -94,6 +94,12 @@ class ArpaFiles(unittest.TestCase):
         with self.assertRaises(IsADirectoryError):
             backoff.Model("tests")
 
+    def test_file_without_an_end(self) -> None:
+        told = "/dev/zero: refused: more than 67108864 bytes: no list of 65,535 rows, the most there may be, needs as many"
+        with self.assertRaises(backoff.Refused) as caught:
+            backoff.Model("/dev/zero")
+        self.assertEqual(str(caught.exception), told)
+
     def test_refusals_are_pickled(self) -> None:
         refused = refusal(self.edited(b"ngram 2=3", b"ngram 2=x"))
         again = pickle.loads(pickle.dumps(refused))

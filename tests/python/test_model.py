@@ -3,6 +3,8 @@
 from __future__ import annotations
 
 import copy
+import gc
+import multiprocessing
 import os
 import pickle
 import random
@@ -10,11 +12,25 @@ import tempfile
 import unittest
 from concurrent.futures import ThreadPoolExecutor
 from decimal import Decimal
+from pathlib import Path
+from typing import Iterator
 
 import backoff
 import lists
 
 SENTENCES = ["four five", "five four", "nine", "", "four nine five four"]
+
+
+class Named(backoff.Model):
+    """A class that is made of Model."""
+
+
+def copies(thing: object) -> Iterator:
+    """What copying and pickling make of it."""
+    yield copy.copy(thing)
+    yield copy.deepcopy(thing)
+    for protocol in range(pickle.HIGHEST_PROTOCOL + 1):
+        yield pickle.loads(pickle.dumps(thing, protocol))
 
 
 class Sentences(unittest.TestCase):
@@ -119,14 +135,44 @@ class ModelItself(unittest.TestCase):
         self.assertEqual(repr(self.model), "<Model from sample.arpa>")
         self.assertIs(backoff.LanguageModel, backoff.Model)
 
-    def test_pickled(self) -> None:
-        again = pickle.loads(pickle.dumps(self.model))
-        self.assertEqual((again.path, again.points("four five")), (self.model.path, -6_500))
-        with tempfile.NamedTemporaryFile() as file:
-            file.write(lists.SAMPLE.read_bytes().replace(b"-0.003\tfour five\n", b"").replace(b"ngram 2=3", b"ngram 2=2"))
-            file.flush()
-            filled = backoff.Model(file.name, fill=True)
-            self.assertEqual(pickle.loads(pickle.dumps(filled)).points("four four five"), filled.points("four four five"))
+    def test_copies_come_from_memory(self) -> None:
+        with tempfile.TemporaryDirectory() as folder:
+            path = os.path.join(folder, "pruned.arpa")
+            pruned = lists.SAMPLE.read_bytes().replace(b"-0.003\tfour five\n", b"").replace(b"ngram 2=3", b"ngram 2=2")
+            for replaced in (None, lists.arpa(lists.random_rows(random.Random(1), 2, 5, 20))):
+                Path(path).write_bytes(pruned)
+                model = Named(path, fill=True)
+                model.name, expected = ["mine"], str(model.explain("four four five nine"))
+                os.unlink(path)
+                if replaced:
+                    Path(path).write_bytes(replaced)
+                for twin in copies(model):
+                    self.assertIsInstance(twin, Named)
+                    self.assertEqual((twin.name, twin.path), (["mine"], path))
+                    self.assertEqual(str(twin.explain("four four five nine")), expected)
+                    self.assertEqual(twin.sheet(["four five"]), model.sheet(["four five"]))
+
+    def test_copies_outlive_the_model(self) -> None:
+        twins = list(copies(lists.model(lists.SAMPLE.read_bytes())))
+        gc.collect()
+        filler = [bytes(1 << 16) for _ in range(50)]
+        self.assertEqual([twin.points("four five") for twin in twins], [-6_500] * len(twins))
+        self.assertEqual(len(filler), 50)
+
+    def test_model_of_a_pipe(self) -> None:
+        with tempfile.TemporaryDirectory() as folder:
+            path = os.path.join(folder, "pipe")
+            os.mkfifo(path)
+            with ThreadPoolExecutor(1) as thread:
+                written = thread.submit(Path(path).write_bytes, lists.SAMPLE.read_bytes())
+                model = backoff.Model(path)
+                written.result()
+            self.assertEqual({twin.points("four five") for twin in copies(model)}, {-6_500})
+
+    def test_forked(self) -> None:
+        for method in ("fork", "spawn"):
+            with multiprocessing.get_context(method).Pool(1) as pool:
+                self.assertEqual(pool.map(self.model.points, ["four five", "nine"]), [-6_500, -33_000])
 
     def test_configuration_is_not_taken_for_filling(self) -> None:
         with self.assertRaises(TypeError):
@@ -182,6 +228,23 @@ class States(unittest.TestCase):
         low, high = min(states), max(states)
         self.assertTrue(low < high and low <= high and high > low and not high < low)
 
+    def test_which_argument_is_wrong(self) -> None:
+        state, model = self.after("four"), self.model
+        calls = [
+            (lambda: model.BaseScore(None, "four", state), "in_state is a State, not NoneType"),
+            (lambda: model.BaseScore(state, 4, state), "word is a str or bytes, not int"),
+            (lambda: model.BasePoints(state, "four", (0,) * 9), "out_state is a State, not tuple"),
+            (lambda: model.BaseFullScore(state, ["four"], state), "word is a str or bytes, not list"),
+            (lambda: model.BeginSentenceWrite(model), "state is a State, not Model"),
+            (lambda: model.NullContextWrite("state"), "state is a State, not str"),
+            (lambda: model.score(None), "sentence is a str or bytes, not NoneType"),
+        ]
+        for call, told in calls:
+            with self.assertRaises(TypeError) as caught:
+                call()
+            self.assertEqual(str(caught.exception), told)
+        self.assertEqual(state, self.after("four"))
+
     def test_other_types(self) -> None:
         self.assertNotEqual(backoff.State(), (0,) * 9)
         with self.assertRaises(TypeError):
@@ -189,7 +252,7 @@ class States(unittest.TestCase):
 
     def test_copies_are_apart(self) -> None:
         state = self.after("four")
-        for twin in (copy.copy(state), copy.deepcopy(state), pickle.loads(pickle.dumps(state))):
+        for twin in copies(state):
             self.assertEqual(twin, state)
             self.model.BaseScore(twin, "five", twin)
             self.assertEqual(state, self.after("four"))

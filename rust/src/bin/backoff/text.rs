@@ -12,11 +12,13 @@ pub struct Pieces<R> {
     /// Bytes behind the last piece: the beginning of a line.
     held: Vec<u8>,
     ended: bool,
+    /// The lines of the pieces so far.
+    lines: usize,
 }
 
 impl<R: Read> Pieces<R> {
     pub fn new(reader: R) -> Pieces<R> {
-        Pieces { reader, held: Vec::new(), ended: false }
+        Pieces { reader, held: Vec::new(), ended: false, lines: 0 }
     }
 
     /// The next whole lines: about as many bytes as wanted, or fewer where the reader has no more at hand, so that somebody who types lines is answered. None at the end.
@@ -30,11 +32,12 @@ impl<R: Read> Pieces<R> {
                 break;
             }
             if lines_end.is_none() && self.held.len() > BYTE_LIMIT {
-                return Err(io::Error::new(ErrorKind::InvalidData, format!("a line has more than {BYTE_LIMIT} bytes")));
+                return Err(io::Error::new(ErrorKind::InvalidData, format!("line {} has more than {BYTE_LIMIT} bytes", self.lines + 1)));
             }
         }
         let rest = self.held.split_off(lines_end.filter(|_| !self.ended).unwrap_or(self.held.len()));
         let piece = std::mem::replace(&mut self.held, rest);
+        self.lines += piece.iter().filter(|&&byte| byte == b'\n').count();
         Ok(if piece.is_empty() { None } else { Some(piece) })
     }
 
