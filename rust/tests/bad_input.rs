@@ -156,6 +156,12 @@ fn wrong_arguments() {
         ("query a --summary --totals", "query: '--totals' and '--summary' exclude each other: see backoff query --help"),
         ("query a --threads 0", "query: --threads takes a number from 1 to 256, not '0': see backoff query --help"),
         ("bench a --threads=two", "bench: --threads takes a number from 1 to 256, not 'two': see backoff bench --help"),
+        ("query -", "query: standard input can be read once: name a file for the model or for the text: see backoff query --help"),
+        ("explain - -", "explain: standard input can be read once: name a file for the model or for the text: see backoff explain --help"),
+        (
+            "compare m - -",
+            "compare: standard input can be read once: name a file for the model or for the text: see backoff compare --help",
+        ),
         ("check -- --fill", "--fill: No such file or directory (os error 2)"),
     ];
     for (arguments, told) in cases {
@@ -204,6 +210,21 @@ fn outputs_that_take_nothing() {
     let first = folder.shell("{ backoff query m text; echo $? >status; } | head -n 1").text();
     assert_eq!(first, "four=4 2 -0.004\tfive=5 3 -0.001\t</s>=3 2 -0.0015\tTotal: -0.0065 OOV: 0\n");
     assert_eq!(folder.get("status"), b"0\n");
+    // A closed one is told too, also where it was only opened for reading.
+    for command in
+        ["check m", "dump array", "query m text", "explain m text", "compare m text text", "in-form m", "--help", "bench m", "build m -"]
+    {
+        for closed in [">&-", "1<text"] {
+            let told = folder.shell(&format!("backoff {command} {closed}")).refused();
+            assert_eq!(told, "backoff: standard output: Bad file descriptor (os error 9)\n", "{command} {closed}");
+        }
+    }
+    assert_eq!(folder.shell("backoff build m other >&-").text(), "");
+    for command in ["query m", "in-form", "check -"] {
+        let told = folder.shell(&format!("backoff {command} <&-")).refused();
+        assert_eq!(told, "backoff: standard input: Bad file descriptor (os error 9)\n", "{command}");
+    }
+    assert_eq!(folder.shell("backoff query m text >/dev/null 2>&1; backoff query m text --summary <&-").status, Some(0));
     // Without standard output and error there is still the status.
     assert_eq!(folder.shell("backoff check none 2>/dev/full").status, Some(1));
     assert_eq!(folder.shell("backoff check none >&- 2>&-").status, Some(1));
@@ -216,7 +237,9 @@ fn bench() {
     folder.put("m", SAMPLE);
     // Words that are all reserved make a text of empty lines.
     folder.put("marks", "\\data\\\nngram 1=3\n\\1-grams:\n-1\t<unk>\n-1\t<s>\n-1\t</s>\n\\end\\\n");
-    for (arguments, threads) in [("m", "1 thread"), ("marks --threads 2", "2 threads")] {
+    let processors = std::thread::available_parallelism().unwrap().get();
+    let all = format!("{processors} thread{}", if processors == 1 { "" } else { "s" });
+    for (arguments, threads) in [("m", "1 thread"), ("marks --threads 256", &all)] {
         let printed = folder.run(&format!("bench {arguments}")).text();
         let (first, rates) = printed.split_once('\n').unwrap();
         assert_eq!(first, format!("words a second, {threads}"));

@@ -5,7 +5,7 @@ mod support;
 use std::io::{BufRead, BufReader, Write};
 use std::process::{Command, Stdio};
 use std::sync::mpsc::channel;
-use std::time::Duration;
+use std::time::{Duration, Instant};
 use support::lines::{compare, scored, Form, Marks, Shown, LINES};
 use support::{any_list, any_text, Folder, Texted, PROGRAM, SAMPLE};
 use tests::lists;
@@ -47,6 +47,50 @@ fn random_lists_and_texts() {
             compare(&folder.run_on(&format!("query arpa{}", form.options()), &text).printed(), &sentences, form);
         }
     }
+}
+
+/// Every file may be standard input, and what `build` writes standard output.
+#[test]
+fn standard_input_and_output() {
+    let folder = Folder::new();
+    folder.put("arpa", SAMPLE);
+    folder.put("text", "four five\nnine\n");
+    folder.run("build arpa array").printed();
+    let array = folder.get("array");
+    assert!(folder.run_on("build - -", SAMPLE.as_bytes()).printed() == array);
+    assert!(folder.run("build arpa -").printed() == array);
+    assert_eq!(folder.names(), ["arpa", "array", "text"]);
+    for arguments in ["query FILE text", "explain FILE text", "check FILE", "compare FILE text text", "in-form FILE"] {
+        let named = folder.run(&arguments.replace("FILE", "arpa")).printed();
+        assert!(folder.run_on(&arguments.replace("FILE", "-"), SAMPLE.as_bytes()).printed() == named, "{arguments}");
+    }
+    assert!(folder.run_on("dump -", &array).printed() == folder.run("dump array").printed());
+    assert!(folder.run_on("compare arpa - text", b"four five\nnine\n").printed() == folder.run("compare arpa text text").printed());
+    let told = folder.run_on("check -", b"text\n").refused();
+    assert!(told.starts_with("backoff: standard input: refused by 17: "), "{told}");
+    let told = folder.shell("backoff build - arpa <arpa").refused();
+    assert!(told.starts_with("backoff: arpa: the array would take the place of the model"), "{told}");
+}
+
+/// More threads than processors are not begun, and small pieces have none of their own: from a pipe, 256 take no longer than one.
+#[test]
+fn many_threads_from_a_pipe() {
+    let folder = Folder::new();
+    folder.put("arpa", SAMPLE);
+    folder.run("build arpa array").printed();
+    folder.put("text", "four five nine four five four four nine five\n".repeat(200_000));
+    let mut took = [Duration::MAX; 2];
+    for _ in 0..3 {
+        for (least, threads) in took.iter_mut().zip([1, 256]) {
+            let begun = Instant::now();
+            folder.shell(&format!("cat text | backoff query array --summary --threads {threads}")).printed();
+            *least = begun.elapsed().min(*least);
+        }
+    }
+    assert!(took[1] < 2 * took[0], "{took:?}");
+    let one = folder.run("query array text").printed();
+    assert!(folder.shell("cat text | backoff query array --threads 256").printed() == one);
+    assert!(folder.run("query array text --threads 2").printed() == one);
 }
 
 /// The model as a text or as an array file, the text as a file or on standard input, threads or none: one output.

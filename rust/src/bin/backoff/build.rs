@@ -5,15 +5,21 @@ use crate::failure::Failure;
 use crate::files;
 use crate::model::Model;
 use crate::progress::Progress;
+use crate::standard;
 use crate::subcommands::Source;
+use std::io::Write;
 use std::path::Path;
 
-pub fn build(source: &Source, path: &Path) -> Result<(), Failure> {
+pub fn build(source: &Source, path: &Path, out: &mut impl Write) -> Result<(), Failure> {
     if files::are_one(&source.path, path) {
         return Err(Failure::file(path, "the array would take the place of the model: name another file for it"));
     }
     let progress = Progress::start(false);
     let model = Model::load(source, &progress)?;
     progress.say("writing the array");
-    files::write(path, &encode(&model.list, &model.array))
+    let bytes = encode(&model.list, &model.array);
+    match path.as_os_str() == standard::NAME {
+        true => out.write_all(&bytes).map_err(Failure::output),
+        false => files::write(path, &bytes),
+    }
 }

@@ -1,6 +1,7 @@
 //! What is changed where a text is put in form, and how often.
 
 use crate::decimal::thousands;
+use crate::failure::shown;
 use std::io::{stderr, Write};
 use std::ops::AddAssign;
 use std::path::Path;
@@ -51,11 +52,11 @@ impl Changes {
     }
 
     /// Tells standard error what was changed of a file.
-    pub fn tell(&self, name: &Path) {
+    pub fn tell(&self, path: &Path) {
         let said = self.said();
         if !said.is_empty() {
             // A closed standard error is no reason to end.
-            let _ = writeln!(stderr(), "backoff: {}: put in form:{said}", name.display());
+            let _ = writeln!(stderr(), "backoff: {}: put in form:{said}", shown(path));
         }
     }
 }

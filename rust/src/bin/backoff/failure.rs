@@ -1,7 +1,13 @@
 //! Why a command ends early.
 
+use crate::standard;
 use std::io::{Error, ErrorKind};
-use std::path::Path;
+use std::path::{Display, Path};
+
+/// How messages call a file that is read.
+pub fn shown(path: &Path) -> Display<'_> {
+    if path.as_os_str() == standard::NAME { Path::new("standard input") } else { path }.display()
+}
 
 #[derive(Debug)]
 pub enum Failure {
@@ -14,7 +20,7 @@ pub enum Failure {
 impl Failure {
     /// A file that cannot be used, and why.
     pub fn file(path: &Path, reason: impl std::fmt::Display) -> Failure {
-        Failure::Told(format!("{}: {reason}", path.display()))
+        Failure::Told(format!("{}: {reason}", shown(path)))
     }
 
     /// Standard output that takes no more.

@@ -1,6 +1,7 @@
 //! Files read whole, and written whole or not at all.
 
 use crate::failure::Failure;
+use crate::standard;
 use std::fs::{self, File, OpenOptions};
 use std::io::{self, ErrorKind, Read, Write};
 use std::os::unix::fs::MetadataExt;
@@ -12,27 +13,26 @@ pub const BYTE_LIMIT: usize = 1 << 26;
 /// So many names beside a file are tried.
 const MOST_TAKEN: usize = 1_000;
 
-/// The bytes of a model's file.
+/// The bytes of a model's file, or of standard input.
 pub fn read(path: &Path) -> Result<Vec<u8>, Failure> {
-    File::open(path).map_err(|error| Failure::file(path, error)).and_then(|file| read_from(path, file))
-}
-
-/// All bytes of a model, which messages call by a name.
-pub fn read_from(name: &Path, reader: impl Read) -> Result<Vec<u8>, Failure> {
     let mut bytes = Vec::new();
-    match reader.take(BYTE_LIMIT as u64 + 1).read_to_end(&mut bytes) {
-        Err(error) => Err(Failure::file(name, error)),
+    match standard::open(path)?.take(BYTE_LIMIT as u64 + 1).read_to_end(&mut bytes) {
+        Err(error) => Err(Failure::file(path, error)),
         Ok(_) if bytes.len() > BYTE_LIMIT => {
-            Err(Failure::file(name, format!("more than {BYTE_LIMIT} bytes: no list of 65,535 rows, the most there may be, needs as many")))
+            Err(Failure::file(path, format!("more than {BYTE_LIMIT} bytes: no list of 65,535 rows, the most there may be, needs as many")))
         }
         Ok(_) => Ok(bytes),
     }
 }
 
-/// Whether both names are those of one regular file.
-pub fn are_one(one: &Path, two: &Path) -> bool {
-    let file = |path: &Path| fs::metadata(path).ok().filter(|file| file.is_file()).map(|file| (file.dev(), file.ino()));
-    file(one).is_some() && file(one) == file(two)
+/// Whether a file that is read and one that is written are one regular file.
+pub fn are_one(read: &Path, written: &Path) -> bool {
+    let file = |path: &Path, standard: &str| {
+        let path = if path.as_os_str() == standard::NAME { Path::new(standard) } else { path };
+        fs::metadata(path).ok().filter(|file| file.is_file()).map(|file| (file.dev(), file.ino()))
+    };
+    let read = file(read, "/dev/stdin");
+    read.is_some() && read == file(written, "/dev/stdout")
 }
 
 /// A file that is to be written is not one that is read, which would be lost.

@@ -46,6 +46,7 @@ mod score;
 mod sentences;
 mod sha256;
 mod side_by_side;
+mod standard;
 mod subcommands;
 mod tally;
 mod text;
@@ -54,7 +55,7 @@ mod text_rows;
 
 use failure::Failure;
 use std::env::args_os;
-use std::io::{stderr, stdout, BufWriter, Write};
+use std::io::{stderr, BufWriter, Write};
 use std::process::ExitCode;
 use subcommands::Command;
 
@@ -70,11 +71,11 @@ fn main() -> ExitCode {
 }
 
 fn run(command: Command) -> Result<(), Failure> {
-    let mut out = BufWriter::new(stdout().lock());
+    let mut out = BufWriter::new(standard::output());
     match command {
         Command::Help(text) => out.write_all(text.as_bytes()).map_err(Failure::output)?,
         Command::Check(source) => check::check(&source, &mut out)?,
-        Command::Build(source, path) => build::build(&source, &path)?,
+        Command::Build(source, path) => build::build(&source, &path, &mut out)?,
         Command::Dump(path) => dump::dump(&path, &mut out)?,
         Command::Query(source, asked) => query::query(&source, &asked, &mut out)?,
         Command::Explain(source, text, page) => explain::explain(&source, &text, page.as_deref(), &mut out)?,

@@ -1,9 +1,11 @@
 //! The subcommands: what each takes, and what it is then.
 
 use crate::arguments::Given;
+use crate::standard;
 use backoff::limits::SENTENCE_LIMIT;
 use std::ffi::OsStr;
 use std::path::PathBuf;
+use std::thread::available_parallelism;
 
 /// Where a model comes from.
 pub struct Source {
@@ -142,7 +144,10 @@ pub const SUBCOMMANDS: [Subcommand; 10] = [
             "--fill",
         ],
         help: include_str!("help/query.txt"),
-        command: |given| Ok(Command::Query(given.source(), given.asked()?)),
+        command: |given| {
+            given.read_input_once(2)?;
+            Ok(Command::Query(given.source(), given.asked()?))
+        },
     },
     Subcommand {
         name: "explain",
@@ -150,7 +155,10 @@ pub const SUBCOMMANDS: [Subcommand; 10] = [
         counted: "file",
         options: &["--html FILE", "--no-bos", "--no-eos", "--in-form", "--fill"],
         help: include_str!("help/explain.txt"),
-        command: |given| Ok(Command::Explain(given.source(), given.text(1), given.page()?)),
+        command: |given| {
+            given.read_input_once(2)?;
+            Ok(Command::Explain(given.source(), given.text(1), given.page()?))
+        },
     },
     Subcommand {
         name: "compare",
@@ -158,7 +166,10 @@ pub const SUBCOMMANDS: [Subcommand; 10] = [
         counted: "file",
         options: &["--no-bos", "--no-eos", "--in-form", "--fill"],
         help: include_str!("help/compare.txt"),
-        command: |given| Ok(Command::Compare(given.source(), [given.text(1), given.text(2)])),
+        command: |given| {
+            given.read_input_once(3)?;
+            Ok(Command::Compare(given.source(), [given.text(1), given.text(2)]))
+        },
     },
     Subcommand {
         name: "sentences",
@@ -201,7 +212,15 @@ impl Given {
 
     /// The file at a place; where there is none, and where it is `-`, standard input.
     fn file_or_input(&self, place: usize) -> Option<PathBuf> {
-        (self.file_count() > place).then(|| self.file(place)).filter(|path| path.as_os_str() != "-")
+        (self.file_count() > place).then(|| self.file(place)).filter(|path| path.as_os_str() != standard::NAME)
+    }
+
+    /// Of so many files that are read, standard input is one at most.
+    fn read_input_once(&self, files: usize) -> Result<(), String> {
+        match (0..files).filter(|&place| self.file_or_input(place).is_none()).count() {
+            0 | 1 => Ok(()),
+            _ => Err("standard input can be read once: name a file for the model or for the text".to_string()),
+        }
     }
 
     fn text(&self, place: usize) -> Text {
@@ -233,7 +252,9 @@ impl Given {
     }
 
     fn threads(&self) -> Result<usize, String> {
-        self.value("--threads").map_or(Ok(1), |value| number("--threads takes", value, THREAD_LIMIT))
+        let processors = available_parallelism().map_or(1, usize::from);
+        let asked = self.value("--threads").map_or(Ok(1), |value| number("--threads takes", value, THREAD_LIMIT))?;
+        Ok(asked.min(processors))
     }
 
     /// How many words the sentences have.

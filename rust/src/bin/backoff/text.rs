@@ -6,6 +6,9 @@ use std::io::{self, ErrorKind, Read};
 /// The bytes that are asked for at once.
 const READ_BYTES: usize = 1 << 18;
 
+/// A part of fewer bytes is scored faster than a thread begins.
+const FEWEST_BYTES: usize = 1 << 14;
+
 /// A text, read piece by piece.
 pub struct Pieces<R> {
     reader: R,
@@ -57,6 +60,11 @@ impl<R: Read> Pieces<R> {
     }
 }
 
+/// How many parts of so many bytes are worth a thread each.
+pub fn worthwhile(bytes: usize, threads: usize) -> usize {
+    threads.min(bytes / FEWEST_BYTES).max(1)
+}
+
 /// A text cut at line ends into parts of about one size, so many at most; none is empty.
 pub fn parts(text: &[u8], count: usize) -> Vec<&[u8]> {
     let mut parts = Vec::with_capacity(count);
@@ -87,7 +95,7 @@ pub fn words(line: &[u8]) -> impl Iterator<Item = &[u8]> {
 
 #[cfg(test)]
 mod tests {
-    use super::{parts, words, Pieces};
+    use super::{parts, words, worthwhile, Pieces};
     use std::io::Read;
 
     /// Gives a few bytes at a time.
@@ -127,6 +135,12 @@ mod tests {
             assert!(parts.len() <= count && (parts.len() > 1) == (count > 1), "{count}");
             assert!(parts.iter().rev().skip(1).all(|part| part.ends_with(b"\n")), "{count}");
         }
+    }
+
+    #[test]
+    fn small_parts_have_no_threads() {
+        assert_eq!([0, 1, 20_000, 65_000, 1 << 20].map(|bytes| worthwhile(bytes, 8)), [1, 1, 1, 3, 8]);
+        assert_eq!(worthwhile(1 << 20, 1), 1);
     }
 
     #[test]

@@ -1,9 +1,8 @@
 //! The text that is scored: a file or standard input, piece by piece.
 
 use crate::failure::Failure;
+use crate::standard::{self, Input};
 use crate::text::Pieces;
-use std::fs::File;
-use std::io::{stdin, Read};
 use std::path::{Path, PathBuf};
 
 /// About as many bytes are read at once where all are wanted.
@@ -12,17 +11,14 @@ const PIECE_BYTES: usize = 1 << 20;
 pub struct TextFile {
     /// What messages call it.
     name: PathBuf,
-    pieces: Pieces<Box<dyn Read>>,
+    pieces: Pieces<Input>,
 }
 
 impl TextFile {
     /// Without a path it is standard input.
     pub fn open(path: Option<&Path>) -> Result<TextFile, Failure> {
-        let (name, reader): (_, Box<dyn Read>) = match path {
-            Some(path) => (path, Box::new(File::open(path).map_err(|error| Failure::file(path, error))?)),
-            None => (Path::new("standard input"), Box::new(stdin().lock())),
-        };
-        Ok(TextFile { name: name.to_path_buf(), pieces: Pieces::new(reader) })
+        let path = path.unwrap_or(Path::new(standard::NAME));
+        Ok(TextFile { name: path.to_path_buf(), pieces: Pieces::new(standard::open(path)?) })
     }
 
     /// The next whole lines, about as many bytes as wanted; none at the end.
