@@ -1,5 +1,5 @@
 """The sheets of many centres, graded on a cluster of dask.distributed (Debian's python3-distributed). A centre is a file
-with a sentence on each line. Each worker loads the array file once. Parts of the sheets go out as tasks, their sheets
+with a sentence on each line; it is named by its path, and one that is named twice is counted once. Each worker loads the array file once. Parts of the sheets go out as tasks, their sheets
 come back and add up. A part whose worker dies is graded by another one.
 
     PYTHONPATH=python /usr/bin/python3 examples/dask_batch.py ARRAY_FILE CENTRE.. [--scheduler ADDRESS]
@@ -12,6 +12,7 @@ from __future__ import annotations
 
 import argparse
 import os
+import sys
 from itertools import islice
 from typing import Iterable, Iterator, Sequence
 
@@ -62,6 +63,15 @@ def graded(client: Client, grader: Grader, centres: Iterable[str]) -> Iterator[t
         submit(1)
 
 
+def apart(centres: Sequence[str]) -> list[str]:
+    """The centres without those whose file was named before, perhaps by another path."""
+    files = {}
+    for centre in centres:
+        status = os.stat(centre)
+        files.setdefault((status.st_dev, status.st_ino), centre)
+    return list(files.values())
+
+
 def sheets_of(client: Client, grader: Grader, centres: Sequence[str]) -> dict[str, backoff.Sheet]:
     """The sheet of each centre."""
     client.register_worker_plugin(grader)
@@ -73,11 +83,11 @@ def sheets_of(client: Client, grader: Grader, centres: Sequence[str]) -> dict[st
 
 def print_sheets(sheets: dict[str, backoff.Sheet]) -> None:
     """A line for each centre, and one for all of them."""
-    rows = [(os.path.basename(centre), sheet) for centre, sheet in sheets.items()]
-    rows.append(("all", sum(sheets.values(), backoff.Sheet())))
-    print(f"{'centre':12} {'sentences':>10} {'words':>10} {'unknown':>10} {'points':>14}")
+    rows = [*sheets.items(), ("all", sum(sheets.values(), backoff.Sheet()))]
+    width = max(len("centre"), *(len(centre) for centre in sheets))
+    print(f"{'centre':{width}} {'sentences':>10} {'words':>10} {'unknown':>10} {'points':>14}")
     for name, sheet in rows:
-        print(f"{name:12} {sheet.sentences:10} {sheet.words:10} {sheet.unknown:10} {sheet.total:14}")
+        print(f"{name:{width}} {sheet.sentences:10} {sheet.words:10} {sheet.unknown:10} {sheet.total:14}")
 
 
 def main(arguments: Sequence[str] | None = None) -> None:
@@ -86,9 +96,15 @@ def main(arguments: Sequence[str] | None = None) -> None:
     parser.add_argument("centres", nargs="+", metavar="CENTRE")
     parser.add_argument("--scheduler", metavar="ADDRESS")
     given = parser.parse_args(arguments)
+    try:
+        for path in [*given.centres] if given.scheduler else [given.array_file, *given.centres]:
+            open(path, "rb").close()
+        centres = apart(given.centres)
+    except OSError as error:
+        sys.exit(f"dask_batch.py: {error.filename}: {error.strerror}")
     local = {} if given.scheduler else {"n_workers": 2, "threads_per_worker": 1, "dashboard_address": None}
     with Client(given.scheduler, **local) as client:
-        print_sheets(sheets_of(client, Grader(given.array_file), given.centres))
+        print_sheets(sheets_of(client, Grader(given.array_file), centres))
 
 
 if __name__ == "__main__":

@@ -104,6 +104,12 @@ static const char *load(const struct file *file, struct backoff_array *array) {
     return number == BACKOFF_ACCEPTED ? NULL : backoff_reason(number);
 }
 
+/* Says what failed, with the system's reason. */
+static int failed(const char *what) {
+    perror(what);
+    return EXIT_FAILURE;
+}
+
 /* Loads the array and scores a sentence, or says why not. */
 static void show(const struct file *file) {
     int32_t base[SLOTS], check[SLOTS], state[BACKOFF_STATE_LENGTH], points[3];
@@ -130,18 +136,26 @@ int main(int count, char **arguments) {
     array.slots = backoff_array_fewest_slots(&array);
     save(&array, &file);
 
+    /* A full disk may be told by the write, by the flush or by the close. */
     FILE *kept = count > 1 ? fopen(arguments[1], "w+b") : tmpfile();
-    if (kept == NULL || fwrite(file.bytes, 1, file.count, kept) != file.count)
-        return EXIT_FAILURE;
+    if (kept == NULL)
+        return failed(count > 1 ? arguments[1] : "a temporary file");
+    if (fwrite(file.bytes, 1, file.count, kept) != file.count || fflush(kept) != 0)
+        return failed("writing the array file");
     printf("saved %zu slots in %zu bytes\n", array.slots, file.count);
     rewind(kept);
     file.count = fread(file.bytes, 1, sizeof file.bytes, kept);
-    fclose(kept);
+    if (ferror(kept))
+        return failed("reading the array file");
+    if (fclose(kept) != 0)
+        return failed("closing the array file");
 
     show(&file);
     file.bytes[HEAD_BYTES + 40]++;
     show(&file);
     file.count--;
     show(&file);
+    if (fflush(stdout) != 0 || ferror(stdout))
+        return failed("standard output");
     return EXIT_SUCCESS;
 }

@@ -141,10 +141,10 @@ class Cluster(unittest.TestCase):
     def test_program(self) -> None:
         printed = io.StringIO()
         with redirect_stdout(printed):
-            dask_batch.main([self.array_file, *self.sentences, "--scheduler", self.cluster.scheduler_address])
+            dask_batch.main([self.array_file, *self.sentences, *self.sentences, "--scheduler", self.cluster.scheduler_address])
         rows = [line.split() for line in printed.getvalue().splitlines()]
         whole = backoff.Model(self.array_file).sheet(line for lines in self.sentences.values() for line in lines)
-        sheets = {**{os.path.basename(centre): sheet for centre, sheet in self.expected.items()}, "all": whole}
+        sheets = {**self.expected, "all": whole}
         expected = [[name, sheet.sentences, sheet.words, sheet.unknown, sheet.total] for name, sheet in sheets.items()]
         self.assertEqual(rows, [["centre", "sentences", "words", "unknown", "points"]] + [list(map(str, row)) for row in expected])
 

@@ -2,7 +2,7 @@
 
 use std::fs;
 use std::path::{Path, PathBuf};
-use std::process::Command;
+use std::process::{Command, Stdio};
 use std::sync::atomic::{AtomicUsize, Ordering};
 use tests::damage::{self, Cells};
 use tests::lists;
@@ -299,6 +299,26 @@ fn missing_and_empty_files() {
 }
 
 /// "LF after every line."
+/// Directories count as empty files. Of an output that takes nothing a program of the kit is not told: README says what is seen then.
+#[test]
+fn directories_and_outputs_that_take_nothing() {
+    let folder = Folder::new();
+    let program = Path::new(env!("CARGO_MANIFEST_DIR")).join("../target/bin/totals");
+    let run = |output: Stdio| Command::new(&program).current_dir(&folder.0).stdout(output).output().unwrap();
+    fs::create_dir(folder.0.join("LIST")).unwrap();
+    fs::create_dir(folder.0.join("TEXT")).unwrap();
+    assert_eq!(run(Stdio::piped()).stdout, refusal(1, 0).as_bytes());
+    fs::remove_dir(folder.0.join("LIST")).unwrap();
+    folder.put("LIST", Some(sample().as_bytes()));
+    assert_eq!(run(Stdio::piped()).stdout, b"");
+    fs::remove_dir(folder.0.join("TEXT")).unwrap();
+    folder.put("TEXT", Some(b"       4\n"));
+    let ran = run(fs::File::create("/dev/full").unwrap().into());
+    assert!(ran.status.success() && ran.stderr.is_empty(), "{ran:?}");
+    let ran = run(fs::File::open("/dev/null").unwrap().into());
+    assert!(ran.status.success() && ran.stderr.is_empty(), "{ran:?}");
+}
+
 #[test]
 fn line_ends() {
     let (rows, text) = (sample(), text_of(&[vec![4, 5], vec![], vec![9]]));
