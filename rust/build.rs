@@ -1,8 +1,9 @@
-// Links the archive of the proved library: libbackoff.a or libgrader.a, in the folder that BACKOFF_LIB_DIR names, else where `rt staticlib grader` writes it.
+// Links the archive of the proved library: libgrader.a or libbackoff.a, in the folder that BACKOFF_LIB_DIR names, else where `rt staticlib grader` writes it.
 // Takes the sentences for the refusals from the header.
 use std::env::var_os;
 use std::fs;
 use std::path::PathBuf;
+use std::process::exit;
 
 fn main() {
     link_archive();
@@ -11,13 +12,14 @@ fn main() {
 
 fn link_archive() {
     println!("cargo:rerun-if-env-changed=BACKOFF_LIB_DIR");
-    let folder = var_os("BACKOFF_LIB_DIR").map_or_else(own_folder, PathBuf::from);
-    let name = ["backoff", "grader"].into_iter().find(|name| folder.join(format!("lib{name}.a")).is_file());
+    let folder = var_os("BACKOFF_LIB_DIR").map_or_else(own_folder, |folder| from_caller(folder.into()));
+    let name = ["grader", "backoff"].into_iter().find(|name| folder.join(format!("lib{name}.a")).is_file());
     let Some(name) = name else {
-        panic!(
-            "no libbackoff.a and no libgrader.a in {}: run `./setup archive` first, or set BACKOFF_LIB_DIR to the folder that has one of them",
+        eprintln!(
+            "no libgrader.a and no libbackoff.a in {}: run `./setup archive` first, or set BACKOFF_LIB_DIR to the folder that has one of them",
             folder.display()
         );
+        exit(1);
     };
     println!("cargo:rerun-if-changed={}", folder.join(format!("lib{name}.a")).display());
     println!("cargo:rustc-link-search=native={}", folder.display());
@@ -32,6 +34,15 @@ fn write_reasons() {
     let reasons = text.split_once("reasons[] = {").and_then(|(_, rest)| rest.split_once("};")).expect("the header has backoff_reason").0;
     let out = PathBuf::from(var_os("OUT_DIR").expect("cargo sets OUT_DIR"));
     fs::write(out.join("reasons.rs"), format!("&[{reasons}]")).expect("OUT_DIR can be written");
+}
+
+// A folder that is named from where cargo was called; the script itself runs in the crate's folder.
+fn from_caller(folder: PathBuf) -> PathBuf {
+    if folder.is_absolute() {
+        return folder;
+    }
+    println!("cargo:rerun-if-env-changed=PWD");
+    PathBuf::from(var_os("PWD").unwrap_or_default()).join(folder)
 }
 
 fn own_folder() -> PathBuf {

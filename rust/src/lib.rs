@@ -3,7 +3,7 @@
 //! No call allocates, panics or keeps anything; an array may be shared by threads while nobody writes it.
 //!
 //! The archive that is linked is `target/staticlib/libgrader.a` of the repository, which `rt staticlib grader` writes. Where the archive lies elsewhere, set the environment
-//! variable `BACKOFF_LIB_DIR` to the folder that has `libbackoff.a` or `libgrader.a`: `BACKOFF_LIB_DIR=/usr/local/lib cargo build`.
+//! variable `BACKOFF_LIB_DIR` to the folder that has `libgrader.a` or `libbackoff.a`, from the folder where cargo is called: `BACKOFF_LIB_DIR=/usr/local/lib cargo build`.
 //!
 //! ```
 //! // m, five words oldest first (unused ones 0), log-probability, back-off. Word 1 is the unknown word, 2 is <s>, 3 is </s>.
