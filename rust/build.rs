@@ -15,22 +15,26 @@ fn link_archive() {
     let folder = var_os("BACKOFF_LIB_DIR").map_or_else(own_folder, |folder| from_caller(folder.into()));
     let name = ["grader", "backoff"].into_iter().find(|name| folder.join(format!("lib{name}.a")).is_file());
     let Some(name) = name else {
-        eprintln!(
+        fail(&format!(
             "no libgrader.a and no libbackoff.a in {}: run `./setup archive` first, or set BACKOFF_LIB_DIR to the folder that has one of them",
             folder.display()
-        );
-        exit(1);
+        ));
     };
     println!("cargo:rerun-if-changed={}", folder.join(format!("lib{name}.a")).display());
     println!("cargo:rustc-link-search=native={}", folder.display());
     println!("cargo:rustc-link-lib=static={name}");
 }
 
+fn fail(sentence: &str) -> ! {
+    eprintln!("{sentence}");
+    exit(1)
+}
+
 // The lines between the braces of `backoff_reason` are string literals, in Rust as in C.
 fn write_reasons() {
     let header = repository().join("include/backoff.h");
     println!("cargo:rerun-if-changed={}", header.display());
-    let text = fs::read_to_string(&header).unwrap_or_else(|error| panic!("{}: {error}", header.display()));
+    let text = fs::read_to_string(&header).unwrap_or_else(|error| fail(&format!("{}: {error}", header.display())));
     let reasons = text.split_once("reasons[] = {").and_then(|(_, rest)| rest.split_once("};")).expect("the header has backoff_reason").0;
     let out = PathBuf::from(var_os("OUT_DIR").expect("cargo sets OUT_DIR"));
     fs::write(out.join("reasons.rs"), format!("&[{reasons}]")).expect("OUT_DIR can be written");

@@ -129,7 +129,7 @@ class Library(unittest.TestCase):
 
 class Source(unittest.TestCase):
     def test_syntax_of_the_oldest_python(self) -> None:
-        for path in ("python/backoff.py", "examples/readings.py", "examples/dask_batch.py"):
+        for path in ("python/backoff.py", "python/backend.py", "examples/readings.py", "examples/dask_batch.py"):
             ast.parse(Path(path).read_text(), feature_version=(3, 9))
 
 

@@ -34,9 +34,9 @@ extern "C" {
 /// Whether standard input and output were closed when the program began.
 static CLOSED: [AtomicBool; 2] = [AtomicBool::new(false), AtomicBool::new(false)];
 
-/// Is called before Rust opens anything.
+/// Is called before Rust opens anything, on Linux.
 #[used]
-#[link_section = ".init_array"]
+#[cfg_attr(target_os = "linux", link_section = ".init_array")]
 static LOOK: extern "C" fn() = look;
 
 extern "C" fn look() {
