@@ -366,7 +366,7 @@ def _texts_fault(texts: list[bytes], words: int) -> Optional[str]:
     for word, text in enumerate(texts, 1):
         in_form = 1 <= len(text) <= TEXT_LIMIT and min(text) > 0x20
         if not in_form or text in met or RESERVED_TEXTS[word - 1 : word] not in ((), (text,)):
-            return f"word {word} has a text that it may not have: {_shown(text)!r}"
+            return f"word {word} has a text that it may not have: {repr(text)[1:]}"
         met.add(text)
     return None if len(texts) == words else f"the head says {words} words, but there are {len(texts)} texts"
 
