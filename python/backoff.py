@@ -119,7 +119,7 @@ class Refused(OSError):
     """A file, or a state, that is not accepted. It is an OSError, as what KenLM raises where it cannot read a model.
 
     words   what is wrong, in words
-    number  the number of the refusal in include/backoff.h; 0 where an array file is not in form
+    number  the number of the refusal in include/backoff.h; 0 where no call refused, as for an array file not in form
     place   the row (in list order) for the numbers 3 to 8, the line for 15 and 17 to 19; otherwise 0
     path    the file, where one was read
     line    the text of the line, where the place is one

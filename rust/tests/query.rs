@@ -72,7 +72,7 @@ fn standard_input_and_output() {
     assert!(told.starts_with("backoff: arpa: the array would take the place of the model"), "{told}");
 }
 
-/// More threads than processors are not begun, and small pieces have none of their own: from a pipe, 256 take no longer than one.
+/// More threads than processors are not begun, and small pieces have none of their own: from a pipe, 256 take about as long as one.
 #[test]
 fn many_threads_from_a_pipe() {
     let folder = Folder::new();
@@ -87,7 +87,7 @@ fn many_threads_from_a_pipe() {
             *least = begun.elapsed().min(*least);
         }
     }
-    assert!(took[1] < 2 * took[0], "{took:?}");
+    assert!(took[1] < 3 * took[0], "{took:?}");
     let one = folder.run("query array text").printed();
     assert!(folder.shell("cat text | backoff query array --threads 256").printed() == one);
     assert!(folder.run("query array text --threads 2").printed() == one);
