@@ -370,12 +370,12 @@ fn own_model() {
     symlink("arpa", folder.path("link")).unwrap();
     std::fs::hard_link(folder.path("arpa"), folder.path("hard")).unwrap();
     for (model, array) in [("arpa", "arpa"), ("arpa", "./link"), ("link", "arpa"), ("arpa", "hard")] {
-        let told = format!("backoff: {array}: the array would take the place of the model: name another file for it\n");
+        let told = format!("backoff: {array}: it is read as {model}, and would be lost: give another name\n");
         assert_eq!(folder.run(&format!("build {model} {array}")).refused(), told);
     }
     assert_eq!((folder.get("arpa"), folder.names().len()), (SAMPLE.as_bytes().to_vec(), 3));
     folder.run("build arpa array").printed();
-    assert!(folder.run("build array array").refused().contains("take the place of the model"));
+    assert!(folder.run("build array array").refused().contains("would be lost"));
 }
 
 /// Names as long as names can be, and a file that a killed build left.

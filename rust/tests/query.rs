@@ -69,7 +69,7 @@ fn standard_input_and_output() {
     let told = folder.run_on("check -", b"text\n").refused();
     assert!(told.starts_with("backoff: standard input: refused by 17: "), "{told}");
     let told = folder.shell("backoff build - arpa <arpa").refused();
-    assert!(told.starts_with("backoff: arpa: the array would take the place of the model"), "{told}");
+    assert_eq!(told, "backoff: arpa: it is read as standard input, and would be lost: give another name\n");
 }
 
 /// More threads than processors are not begun, and small pieces have none of their own: from a pipe, 256 take about as long as one.

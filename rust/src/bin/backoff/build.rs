@@ -11,9 +11,7 @@ use std::io::Write;
 use std::path::Path;
 
 pub fn build(source: &Source, path: &Path, out: &mut impl Write) -> Result<(), Failure> {
-    if files::are_one(&source.path, path) {
-        return Err(Failure::file(path, "the array would take the place of the model: name another file for it"));
-    }
+    files::require_another(path, &source.path)?;
     let progress = Progress::start(false);
     let model = Model::load(source, &progress)?;
     progress.say("writing the array");

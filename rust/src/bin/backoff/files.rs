@@ -1,6 +1,6 @@
 //! Files read whole, and written whole or not at all.
 
-use crate::failure::Failure;
+use crate::failure::{shown, Failure};
 use crate::standard;
 use std::fs::{self, File, OpenOptions};
 use std::io::{self, ErrorKind, Read, Write};
@@ -25,20 +25,15 @@ pub fn read(path: &Path) -> Result<Vec<u8>, Failure> {
     }
 }
 
-/// Whether a file that is read and one that is written are one regular file.
-pub fn are_one(read: &Path, written: &Path) -> bool {
+/// A file that is to be written is not one that is read, which would be lost.
+pub fn require_another(written: &Path, read: &Path) -> Result<(), Failure> {
     let file = |path: &Path, standard: &str| {
         let path = if path.as_os_str() == standard::NAME { Path::new(standard) } else { path };
         fs::metadata(path).ok().filter(|file| file.is_file()).map(|file| (file.dev(), file.ino()))
     };
-    let read = file(read, "/dev/stdin");
-    read.is_some() && read == file(written, "/dev/stdout")
-}
-
-/// A file that is to be written is not one that is read, which would be lost.
-pub fn require_another(written: &Path, read: &Path) -> Result<(), Failure> {
-    match are_one(written, read) {
-        true => Err(Failure::file(written, format!("it is read as {}, and would be lost: give another name", read.display()))),
+    let target = file(written, "/dev/stdout");
+    match target.is_some() && target == file(read, "/dev/stdin") {
+        true => Err(Failure::file(written, format!("it is read as {}, and would be lost: give another name", shown(read)))),
         false => Ok(()),
     }
 }
