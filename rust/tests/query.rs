@@ -70,6 +70,9 @@ fn standard_input_and_output() {
     assert!(told.starts_with("backoff: standard input: refused by 17: "), "{told}");
     let told = folder.shell("backoff build - arpa <arpa").refused();
     assert_eq!(told, "backoff: arpa: it is read as standard input, and would be lost: give another name\n");
+    let told = folder.shell("backoff build arpa - >>arpa").refused();
+    assert_eq!(told, "backoff: standard output: it is read as arpa, and would be lost: give another name\n");
+    assert_eq!(folder.get("arpa"), SAMPLE.as_bytes());
 }
 
 /// More threads than processors are not begun, and small pieces have none of their own: from a pipe, 256 take about as long as one.

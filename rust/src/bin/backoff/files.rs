@@ -32,10 +32,11 @@ pub fn require_another(written: &Path, read: &Path) -> Result<(), Failure> {
         fs::metadata(path).ok().filter(|file| file.is_file()).map(|file| (file.dev(), file.ino()))
     };
     let target = file(written, "/dev/stdout");
-    match target.is_some() && target == file(read, "/dev/stdin") {
-        true => Err(Failure::file(written, format!("it is read as {}, and would be lost: give another name", shown(read)))),
-        false => Ok(()),
+    if target.is_none() || target != file(read, "/dev/stdin") {
+        return Ok(());
     }
+    let name = if written.as_os_str() == standard::NAME { Path::new("standard output") } else { written };
+    Err(Failure::file(name, format!("it is read as {}, and would be lost: give another name", shown(read))))
 }
 
 /// Writes a file under another name beside it and renames it, so that there is never half a file. What is no regular file, as a pipe or a device, is written as it is.
