@@ -267,7 +267,8 @@ fn files_that_are_written() {
     assert!(folder.run("explain m text --html ./m").refused().ends_with(lost));
     assert!(folder.run("explain m text --html=text").refused().ends_with(lost));
     assert_eq!((folder.get("m"), folder.get("text")), (SAMPLE.as_bytes().to_vec(), b"four\n".to_vec()));
-    folder.run("explain m text --html /dev/stdout").printed();
+    let shown = folder.run("explain m text --html /dev/stdout").printed();
+    assert_eq!(folder.run("explain m text --html -").printed(), shown);
     folder.run("explain m text --html=page").printed();
     folder.put("wrong", "no model\n");
     folder.run("explain wrong text --html page").refused();

@@ -5,7 +5,6 @@ use crate::failure::Failure;
 use crate::files;
 use crate::model::Model;
 use crate::progress::Progress;
-use crate::standard;
 use crate::subcommands::Source;
 use std::io::Write;
 use std::path::Path;
@@ -15,9 +14,5 @@ pub fn build(source: &Source, path: &Path, out: &mut impl Write) -> Result<(), F
     let progress = Progress::start(false);
     let model = Model::load(source, &progress)?;
     progress.say("writing the array");
-    let bytes = encode(&model.list, &model.array);
-    match path.as_os_str() == standard::NAME {
-        true => out.write_all(&bytes).map_err(Failure::output),
-        false => files::write(path, &bytes),
-    }
+    files::write_named(path, &encode(&model.list, &model.array), out)
 }

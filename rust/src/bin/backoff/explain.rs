@@ -36,7 +36,7 @@ pub fn explain(source: &Source, text: &Text, page: Option<&Path>, out: &mut impl
                 Ok(())
             })?;
             let about = About::new(source, &file, &model.list, model.added, text.marks);
-            files::write(path, page.finish(&about).as_bytes())
+            files::write_named(path, page.finish(&about).as_bytes(), out)
         }
     }
 }

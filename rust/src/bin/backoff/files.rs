@@ -39,8 +39,16 @@ pub fn require_another(written: &Path, read: &Path) -> Result<(), Failure> {
     Err(Failure::file(name, format!("it is read as {}, and would be lost: give another name", shown(read))))
 }
 
+/// Writes a file, or standard output where that is what is named.
+pub fn write_named(path: &Path, bytes: &[u8], out: &mut impl Write) -> Result<(), Failure> {
+    match path.as_os_str() == standard::NAME {
+        true => out.write_all(bytes).map_err(Failure::output),
+        false => write(path, bytes),
+    }
+}
+
 /// Writes a file under another name beside it and renames it, so that there is never half a file. What is no regular file, as a pipe or a device, is written as it is.
-pub fn write(path: &Path, bytes: &[u8]) -> Result<(), Failure> {
+fn write(path: &Path, bytes: &[u8]) -> Result<(), Failure> {
     let written = match fs::metadata(path) {
         Ok(there) if !there.is_file() => OpenOptions::new().write(true).open(path).and_then(|mut file| file.write_all(bytes)),
         Ok(_) => fs::canonicalize(path).and_then(|target| replace(&target, bytes)),
