@@ -4,7 +4,7 @@ use mathlib.Core.Path.{_≡_, refl, sym, ap, _∙_, subst}
 use mathlib.Core.Logic.{_≢_}
 use mathlib.Core.Bool.{Bool, true, false, _&&_, false≢true}
 use mathlib.Core.List.{List, [], _∷_, List·Memᴰ, List·Memᴰ·head, List·Memᴰ·tail}
-use Prim.Native.Nat.{ℕ, zero, suc, _+_, _*_, _-_, _%_, _≤_, _<_, max}
+use Prim.Native.Nat.{ℕ, zero, suc, _+_, _-_, _≤_, _<_, max}
 use native.Mathlib.Nat.{not-suc-le-zero}
 use native.Mathlib.Numerals.{add-one}
 use native.Mathlib.Omega.{arith}
@@ -237,26 +237,18 @@ module _ {N : ℕ} {b c₀ : Room} {rows : List ℤ} {behind : Bool} {d s : ℕ}
 -- the work items while the children's slots are given
 pub record Giving (behind : Bool) (d : ℕ) (rows : List ℤ) (items₀ items : List ℕ) (i : ℕ) : Type 0 where
   pub same-length : length items ≡ length items₀
-  pub item : (k : ℕ) → k < i → getD items k 0 ≡ 2 * childSlot behind d (wordOf (field rows k 1)) + getD items₀ k 0 % 2
-  pub left : (k : ℕ) → i ≤ k → getD items k 0 ≡ getD items₀ k 0
+  pub item : (k : ℕ) → k < i → getD items k 0 ≡ childSlot behind d (wordOf (field rows k 1))
 
 module _ (behind : Bool) (d : ℕ) (rows : List ℤ) (items₀ : List ℕ) where
   pub giving-none : Giving behind d rows items₀ items₀ 0
-  giving-none = record { same-length = refl; item = λ k l. absurd (not-suc-le-zero l); left = λ k l. refl }
+  giving-none = record { same-length = refl; item = λ k l. absurd (not-suc-le-zero l) }
 
   pub giving-next : (items : List ℕ) (i t : ℕ) → Giving behind d rows items₀ items i → i < length items → t ≡ childSlot behind d (wordOf (field rows i 1))
-      → Giving behind d rows items₀ (set items i (2 * t + getD items i 0 % 2)) (i + 1)
+      → Giving behind d rows items₀ (set items i t) (i + 1)
   giving-next items i t g l e = record {
-    same-length = length-set items i v ∙ g .same-length;
-    item = below-more _ i (λ k h. getD-set-other items i k v 0 (λ q. absurd (omega arith)) ∙ g .item k h) (getD-set-same items i v 0 l ∙ here);
-    left = λ k h. getD-set-other items i k v 0 (λ q. absurd (omega arith)) ∙ g .left k (omega arith);
+    same-length = length-set items i t ∙ g .same-length;
+    item = below-more _ i (λ k h. getD-set-other items i k t 0 (λ q. absurd (omega arith)) ∙ g .item k h) (getD-set-same items i t 0 l ∙ e);
   }
-    where
-      v : ℕ
-      v = 2 * t + getD items i 0 % 2
-
-      here : v ≡ 2 * childSlot behind d (wordOf (field rows i 1)) + getD items₀ i 0 % 2
-      here = rw (e, g .left i (omega arith))
 
   pub giving-end : (items : List ℕ) (i : ℕ) → Giving behind d rows items₀ items i → length items₀ ≤ i → Given behind d rows items₀ items
   giving-end items i g l = record { same-length = g .same-length; item = λ k h. g .item k (omega arith) }

@@ -2,13 +2,12 @@
 use mathlib.Core.Path.{_≡_, refl, sym, ap, _∙_}
 use mathlib.Core.Bool.{Bool, true, false, cond, _&&_}
 use mathlib.Core.List.{List, [], _++_, append-nil}
-use Prim.Native.Nat.{ℕ, zero, suc, _+_, _/_, _≤_, _<_}
-use native.Mathlib.Decide.{ℕ-discrete}
+use Prim.Native.Nat.{ℕ, zero, suc, _+_, _≤_, _<_}
 use native.Mathlib.Omega.{arith}
 use lib.Dec.{leb}
 use lib.IntN.{ℤ, pos}
-use lib.ListN.{length, getD, take, drop, set, replicate, length-map, length-replicate, List·getD-map, drop-of-length-le, length-take, take-append-drop}
-use lib.Seq.{ext-getD, getD-set-same, getD-set-other}
+use lib.ListN.{length, getD, take, drop, replicate, length-replicate, getD-replicate, drop-of-length-le, length-take, take-append-drop}
+use lib.Seq.{ext-getD}
 use borrow.Author.Tests.{le-leb, lt-leb}
 use Rattle.backoff.specs.Refusal.{tableLength, arrayLength, noRoom}
 use Rattle.backoff.specs.Run.{written}
@@ -18,7 +17,6 @@ use Rattle.double_array.specs.DoubleArray.{freeCheck, headCheck, sizesOk}
 use Rattle.double_array.proofs.DoubleArray.{sizes-told, opened-some}
 use Rattle.list.specs.Table.{rowsOf, orderOf, words}
 use Rattle.list.specs.Check.{verdict, tableFits}
-use Rattle.list.specs.ListModel.{continuedIn}
 use Rattle.list.proofs.ListModel.{accepted-model}
 use Rattle.placing.specs.Trie.{nodeAt}
 use Rattle.placing.specs.Placing.{update, placeAll, unplaced, slots}
@@ -29,37 +27,26 @@ use Rattle.free_slots.proofs.Following.{links-run-through-the-free-slots}
 use Rattle.free_slots.proofs.Linking.{fresh-linked}
 use Rattle.build.specs.ListTrie.{nodesOf, placedList, slotsFrom, rowSlots}
 use Rattle.build.specs.Build.{untouched, filled, emptied, checkedBuild, buildOutcome, IsBuilt, BuildMeans}
-use Rattle.build.specs.Steps.{Passed, itemOf, Flagged, placedNodes, Filled, Tried, halved, Wiped}
+use Rattle.build.specs.Steps.{Passed, placedNodes, Filled, Tried, Wiped}
 use Rattle.build.proofs.Built.{build-accepted, build-holds}
 use Rattle.build.proofs.ListTrie.{nodes-ready}
-use Rattle.build.proofs.Turn.{item-half}
 
 -- ---- before the first node
 
-pub flagged-none : (F : List Bool) (W : List ℕ) → Flagged F 0 W
-flagged-none F W = record { item = λ j l. absurd (omega arith) }
-
-pub flagged-more : (F : List Bool) (i v : ℕ) (W : List ℕ) → i < length W → v ≡ itemOf 0 (getD F i false) → Flagged F i W → Flagged F (i + 1) (set W i v)
-flagged-more F i v W h e f = record { item = λ j l. at j l (ℕ-discrete j i) }
-  where
-    at : (j : ℕ) → j < i + 1 → Dec (j ≡ i) → getD (set W i v) j 0 ≡ itemOf 0 (getD F j false)
-    at j l (yes q) = rw q (getD-set-same W i v 0 h ∙ e)
-    at j l (no q) = getD-set-other W i j v 0 q ∙ f .item j (omega arith)
-
-pub filled-none : (t : List ℤ) {B₀ C₀ B C : List ℤ} {F : List Bool} {W₀ W : List ℕ} → Passed t B₀ C₀ F W₀
-    → B ≡ replicate (length C₀) (pos 0) → C ≡ replicate (length C₀) freeCheck → length W ≡ length W₀ → Flagged F (length W) W → Filled t (length C₀) (placedNodes t 0) B C W
-unfolding placeAll unplaced continuedIn
-filled-none t {B₀} {C₀} p b c same f =
+-- slots that are all free are linked: nothing is placed
+pub filled-none : (t : List ℤ) {B₀ C₀ B C : List ℤ} {F : List Bool} {W₀ W : List ℕ} → Passed t B₀ C₀ F W₀ → Wiped B₀ C₀ W₀ B C W → Filled t (length C₀) (placedNodes t 0) B C W
+unfolding placeAll unplaced
+filled-none t {B₀} {C₀} {W₀ = W₀} p w =
     let z = sizes-told B₀ C₀ (p .sizes) in
     let L = fresh-linked (length C₀) (headCheck (orderOf t)) (omega (arith, z .low, z .same)) (omega (arith, z .high, z .same)) refl in
-    rw (b, c)
+    rw (w .base-free, z .same, w .check-free, w .items-zero)
     (record {
       size = (omega (arith, z .low, z .same), omega (arith, z .high, z .same));
       room = omega arith;
       linked = L;
       links = links-run-through-the-free-slots L;
-      each = same ∙ p .each;
-      item = λ j l. f .item j (omega (arith, same, p .each)) ∙ ap (λ (c : Bool). itemOf 0 c) (p .marked j l (omega (arith, p .each-mark)));
+      each = length-replicate (length W₀) 0 ∙ p .each;
+      item = λ j l. getD-replicate (length W₀) j 0 0 (omega (arith, p .each));
     })
 
 -- ---- the rows' slots
@@ -79,18 +66,13 @@ pub length-rowSlots : (t : List ℤ) → length (rowSlots t) ≡ rowsOf t
 unfolding rowSlots
 length-rowSlots t = length-slotsFrom t 0 (rowsOf t)
 
-halved-slots : {t : List ℤ} {N : ℕ} {B C : List ℤ} {W : List ℕ} → Filled t N (placedList t) B C W → halved W ≡ rowSlots t
-unfolding halved rowSlots
-halved-slots {t} {W = W} F = ext-getD 0 (halved W) (rowSlots t) (count ∙ sym (length-rowSlots t)) (λ j l. at j (omega (arith, count)))
-  where
-    count : length (halved W) ≡ rowsOf t
-    count = length-map W (λ (x : ℕ). x / 2) ∙ F .each
-
-    at : (j : ℕ) → j < rowsOf t → getD (halved W) j 0 ≡ getD (rowSlots t) j 0
-    at j l =
-        List·getD-map (λ (x : ℕ). x / 2) W j 0 ∙ ap (λ (x : ℕ). x / 2) (F .item j l)
-        ∙ item-half (placedList t .slot (words t j)) (continuedIn t (words t j))
-        ∙ sym (getD-slotsFrom t 0 (rowsOf t) j l ∙ ap (λ (x : ℕ). placedList t .slot (words t x)) (omega arith))
+filled-slots : {t : List ℤ} {N : ℕ} {B C : List ℤ} {W : List ℕ} → Filled t N (placedList t) B C W → W ≡ rowSlots t
+unfolding rowSlots
+filled-slots {t} {W = W} F =
+    ext-getD 0 W (rowSlots t) (F .each ∙ sym (length-rowSlots t))
+    (λ j l.
+    let h : j < rowsOf t = omega (arith, F .each) in
+    F .item j h ∙ sym (getD-slotsFrom t 0 (rowsOf t) j h ∙ ap (λ (x : ℕ). placedList t .slot (words t x)) (omega arith)))
 
 -- ---- the outcome of an accepted list
 
@@ -112,7 +94,7 @@ written-whole {A} new old e = ap (λ (l : List A). new ++ l) (drop-of-length-le 
 module _ (t B C : List ℤ) (W : List ℕ) (same : length B ≡ length C) (each : length W ≡ rowsOf t) where
   pub built-accepted : {r : ℕ} {B₁ C₁ B′ C′ : List ℤ} {W′ : List ℕ} → verdict t ≡ Accepted → r ≤ length C → Tried t (length C) (placedList t) r B₁ C₁ W′
       → Unlinked (length C) (update (placedList t .base) 0 (pos 1)) (update (placedList t .check) 0 (headCheck (orderOf t))) B′ C′
-      → IsBuilt (checkedBuild t B C W Accepted) Accepted B′ C′ (halved W′)
+      → IsBuilt (checkedBuild t B C W Accepted) Accepted B′ C′ W′
   unfolding filled
   built-accepted a e T U =
       let F = T .filled e in
@@ -122,7 +104,7 @@ module _ (t B C : List ℤ) (W : List ℕ) (same : length B ≡ length C) (each 
         answer-is = refl;
         base-is = U .base-slots ∙ (λ i. slots (sym same i) (update-kept (placedList t .base) 0 (pos 1) (H .base-0) i));
         check-is = U .check-slots ∙ ap (slots (length C)) (update-kept (placedList t .check) 0 (headCheck (orderOf t)) (H .check-0));
-        work-is = halved-slots F ∙ sym (written-whole (rowSlots t) W (length-rowSlots t ∙ sym each));
+        work-is = filled-slots F ∙ sym (written-whole (rowSlots t) W (length-rowSlots t ∙ sym each));
       })
 
   pub built-refused : {r : ℕ} {B₁ C₁ B′ C′ : List ℤ} {W₁ W′ : List ℕ} → length C < r → Tried t (length C) (placedList t) r B₁ C₁ W₁

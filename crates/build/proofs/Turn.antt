@@ -1,15 +1,15 @@
 -- One node's turn: what the slices hold once it has taken its d. Assumes nothing.
 use mathlib.Core.Path.{_≡_, refl, sym, ap, _∙_, subst, transport}
 use mathlib.Core.Logic.{_⊎_, inl, inr, _≢_, ⊎-elim}
-use mathlib.Core.Bool.{Bool, true, false, cond}
+use mathlib.Core.Bool.{Bool, true, false}
 use mathlib.Core.List.{List, [], _∷_, tail-eq-of-cons-eq, List·Memᴰ}
-use Prim.Native.Nat.{ℕ, suc, _+_, _*_, _-_, _/_, _%_, _≤_, _<_, min}
+use Prim.Native.Nat.{ℕ, suc, _+_, _*_, _-_, _≤_, _<_, min}
 use native.Mathlib.Omega.{arith}
 use native.Mathlib.Numerals.{add-one}
-use lib.Dec.{ltb, eqb, lit<}
+use lib.Dec.{ltb, lit<}
 use lib.IntN.{ℤ, pos, negsuc}
 use lib.ListN.{length, getD, take, drop, length-drop}
-use lib.Seq.{length-take-le, getD-take, getD-drop}
+use lib.Seq.{length-take-le}
 use Rattle.integer.proofs.Arithmetic.{zarith, add}
 use Rattle.integer.proofs.Ranges.{lt-or-ge, between-low}
 use Rattle.backoff.specs.declared.Verdict.the-variants.{Accepted}
@@ -36,7 +36,7 @@ use Rattle.free_slots.proofs.Chain.{linked-base-length, linked-check-length}
 use Rattle.free_slots.proofs.Following.{links-run-through-the-free-slots}
 use Rattle.placing.proofs.NodeByNode.{place-longest, place-fewer, placedFirst-suc, next-at, inv-first}
 use Rattle.build.specs.ListTrie.{nodeOf, rootOf, nodesOf, RowsBelow}
-use Rattle.build.specs.Steps.{oldestOf, Rising, fitOf, sideOf, Settles, Given, NodePlaced, itemOf, placedNodes, Filled, Tried}
+use Rattle.build.specs.Steps.{oldestOf, Rising, fitOf, sideOf, Settles, Given, NodePlaced, placedNodes, Filled, Tried}
 use Rattle.build.proofs.ListTrie.{length-nodesOf, nodeAt-root, nodeAt-row, root-words, row-words, one-word, more-words, nodes-ready, row-check, children-stretch, children-root, middle-field}
 use Rattle.build.proofs.OldestWords.{oldest-in}
 use Rattle.build.proofs.Parts.{partRows, count-rows, oldest-rows, back, length-back, back-inside, back-before, back-after}
@@ -60,19 +60,6 @@ root-children t a k o = record {
   inside = λ j l m. one-word t j (omega (arith, o .fewer j (omega arith)));
   only = λ j l e. (omega arith, ⊎-elim (λ m. omega arith) (λ m. absurd (more-words t a j l (o .more j m l) e)) (lt-or-ge j k));
 }
-
--- an item's slot and f
-pub item-half : (s : ℕ) (f : Bool) → itemOf s f / 2 ≡ s
-item-half s true = omega arith
-item-half s false = omega arith
-
-item-odd : (s : ℕ) (f : Bool) → itemOf s f % 2 ≡ cond f 1 0
-item-odd s true = omega arith
-item-odd s false = omega arith
-
-item-flag : (s : ℕ) (f : Bool) → eqb (itemOf s f % 2) 1 ≡ f
-item-flag s true = ap (λ (x : ℕ). eqb x 1) (item-odd s true)
-item-flag s false = ap (λ (x : ℕ). eqb x 1) (item-odd s false)
 
 module _ {t : List ℤ} {N : ℕ} {P : Placed} {B C : List ℤ} {W : List ℕ} (F : Filled t N P B C W) where
   pub filled-base : length B ≡ N
@@ -204,27 +191,20 @@ module _ (t : List ℤ) (a : verdict t ≡ Accepted) {N n : ℕ} (h : n < length
         same : length I′ ≡ k
         same = given-next q .same-length ∙ count
 
-        child-item : (j : ℕ) → j < k → getD (back from k W I′) (from + j) 0 ≡ itemOf (P′ .slot (words t (from + j))) (continuedIn t (words t (from + j)))
+        child-item : (j : ℕ) → j < k → getD (back from k W I′) (from + j) 0 ≡ P′ .slot (words t (from + j))
         child-item j l =
             let inside : from + j < rowsOf t = omega (arith, S .within) in
-            let old : getD I₀ j 0 ≡ itemOf (P .slot (words t (from + j))) (continuedIn t (words t (from + j))) =
-            ap (λ (l : List ℕ). getD l j 0) part ∙ getD-take k (drop from W) j 0 l ∙ getD-drop from W j 0 ∙ F .item (from + j) inside in
-            let odd = ap (λ (x : ℕ). x % 2) old ∙ item-odd (P .slot (words t (from + j))) (continuedIn t (words t (from + j))) in
             let slot : P′ .slot (words t (from + j)) ≡ childSlot side d (wordOf (field t (from + j) 1)) =
             ap (P′ .slot) (row (from + j) inside) ∙ slot-given m ws side d P (wordOf (field t (from + j) 1)) (withoutFirst t (from + j)) (S .inside (from + j) (omega arith) (omega arith)) in
-            back-inside from k W I′ fits same j l ∙ given-next q .item j (omega (arith, count))
-            ∙ (λ i. 2 * childSlot side d (wordOf (fields j l i)) + odd i) ∙ (λ i. 2 * sym slot i + cond (continuedIn t (words t (from + j))) 1 0)
+            back-inside from k W I′ fits same j l ∙ given-next q .item j (omega (arith, count)) ∙ ap (λ (z : ℤ). childSlot side d (wordOf z)) (fields j l) ∙ sym slot
 
-        kept-item : (j : ℕ) → j < rowsOf t → withoutFirst t j ≢ m .words → getD W j 0 ≡ itemOf (P′ .slot (words t j)) (continuedIn t (words t j))
-        kept-item j l e =
-            F .item j l
-            ∙ ap (λ (x : ℕ). itemOf x (continuedIn t (words t j)))
-            (sym (slot-kept m ws side d P (words t j) (λ w z. e (tail-eq-of-cons-eq (sym (row j l) ∙ z)))))
+        kept-item : (j : ℕ) → j < rowsOf t → withoutFirst t j ≢ m .words → getD W j 0 ≡ P′ .slot (words t j)
+        kept-item j l e = F .item j l ∙ sym (slot-kept m ws side d P (words t j) (λ w z. e (tail-eq-of-cons-eq (sym (row j l) ∙ z))))
 
-        item-next : (j : ℕ) → j < rowsOf t → getD (back from k W I′) j 0 ≡ itemOf (P′ .slot (words t j)) (continuedIn t (words t j))
+        item-next : (j : ℕ) → j < rowsOf t → getD (back from k W I′) j 0 ≡ P′ .slot (words t j)
         item-next j l = go (lt-or-ge j from) (lt-or-ge j (from + k))
           where
-            go : (j < from) ⊎ (from ≤ j) → (j < from + k) ⊎ (from + k ≤ j) → getD (back from k W I′) j 0 ≡ itemOf (P′ .slot (words t j)) (continuedIn t (words t j))
+            go : (j < from) ⊎ (from ≤ j) → (j < from + k) ⊎ (from + k ≤ j) → getD (back from k W I′) j 0 ≡ P′ .slot (words t j)
             go (inl b) c = back-before from k W I′ fits same j b ∙ kept-item j l (λ e. absurd (omega (arith, S .only j l e)))
             go (inr b) (inl c) = let e : from + (j - from) ≡ j = omega arith in rw e at (child-item (j - from) (omega arith))
             go (inr b) (inr c) = back-after from k W I′ fits same j c ∙ kept-item j l (λ e. absurd (omega (arith, S .only j l e)))
@@ -312,25 +292,23 @@ module _ (t : List ℤ) (a : verdict t ≡ Accepted) (i : ℕ) (l : i < rowsOf t
   row-long : length (nodeAt (nodesOf t) (i + 1) .words) ≡ lengthOf t i
   row-long = ap length words-is ∙ words-length t i (row-in t i l)
 
-  row-slot : (s : ℕ) → s ≡ getD W i 0 / 2 → s ≡ placedNodes t (i + 1) .slot (nodeAt (nodesOf t) (i + 1) .words)
-  row-slot s e =
-      let slot = placedNodes t (i + 1) .slot (words t i) in
-      e ∙ ap (λ (x : ℕ). x / 2) (F .item i l) ∙ item-half slot (continuedIn t (words t i)) ∙ ap (placedNodes t (i + 1) .slot) (sym words-is)
+  row-slot : (s : ℕ) → s ≡ getD W i 0 → s ≡ placedNodes t (i + 1) .slot (nodeAt (nodesOf t) (i + 1) .words)
+  row-slot s e = e ∙ F .item i l ∙ ap (placedNodes t (i + 1) .slot) (sym words-is)
 
   row-mark : markerCheck (probabilityAt t i) ≡ negsuc (nodeAt (nodesOf t) (i + 1) .cost)
   row-mark = rw node-is (sym (row-check t a i l))
 
-  row-load : (e : Bool) → extendedIn t (words t i) ≡ e → markerBase (backoffAt t i) e (eqb (getD W i 0 % 2) 1) ≡ nodeAt (nodesOf t) (i + 1) .load
+  row-load : (e f : Bool) → extendedIn t (words t i) ≡ e → f ≡ continuedIn t (words t i) → markerBase (backoffAt t i) e f ≡ nodeAt (nodesOf t) (i + 1) .load
   unfolding nodeOf
-  row-load e q = rw (node-is, q, F .item i l, item-flag (placedNodes t (i + 1) .slot (words t i)) (continuedIn t (words t i)))
+  row-load e f q c = rw (node-is, q, c)
 
-  pub row-held : (s : ℕ) → s ≡ getD W i 0 / 2 → Held B s
+  pub row-held : (s : ℕ) → s ≡ getD W i 0 → Held B s
   row-held s e = slot-held t a row-in-nodes F (row-slot s e)
 
-  pub row-taken : (s : ℕ) → s ≡ getD W i 0 / 2 → isFree (placedNodes t (i + 1) .check s) ≡ false
+  pub row-taken : (s : ℕ) → s ≡ getD W i 0 → isFree (placedNodes t (i + 1) .check s) ≡ false
   row-taken s e = slot-taken t a row-in-nodes F (row-slot s e)
 
-  pub row-bare : lengthOf t i ≡ orderOf t → {s : ℕ} {mark : ℤ} {B′ : List ℤ} → s ≡ getD W i 0 / 2 → mark ≡ markerCheck (probabilityAt t i)
+  pub row-bare : lengthOf t i ≡ orderOf t → {s : ℕ} {mark : ℤ} {B′ : List ℤ} → s ≡ getD W i 0 → mark ≡ markerCheck (probabilityAt t i)
       → Linked N (update (placedNodes t (i + 1) .base) s mark) (placedNodes t (i + 1) .check) B′ C → Filled t N (placedNodes t (suc (i + 1))) B′ C W
   row-bare longest {s} e f b = bare-filled t a row-in-nodes F (row-long ∙ longest) (row-slot s e) (f ∙ row-mark) b
 
@@ -348,20 +326,20 @@ module _ (t : List ℤ) (a : verdict t ≡ Accepted) (i : ℕ) (l : i < rowsOf t
     row-stretch : Children t (nodeAt (nodesOf t) (i + 1) .words) from (to - from)
     row-stretch = subst (λ (us : List ℕ). Children t us from (to - from)) (sym words-is) (row-children t i from to S)
 
-    pub row-settles : {s : ℕ} {mark : ℤ} → s ≡ getD W i 0 / 2 → mark ≡ markerCheck (probabilityAt t i)
+    pub row-settles : {s : ℕ} {mark : ℤ} → s ≡ getD W i 0 → mark ≡ markerCheck (probabilityAt t i)
         → Settles N (placedNodes t (i + 1) .base) (placedNodes t (i + 1) .check) B C (partRows t from (to - from)) s mark
     row-settles {s} {mark} e f =
         let n = count-rows t from (to - from) row-fits in
         settles t a row-in-nodes F row-oldest from (subst (Children t (nodeAt (nodesOf t) (i + 1) .words) from) (sym n) row-stretch)
         (λ j l. middle-field t from (to - from) j 1 (omega arith) (lit< tt)) (row-slot s e) (ap isLink f ∙ mark-apart t a i l)
 
-    pub row-tried : {s : ℕ} {mark load : ℤ} {top r : ℕ} {B′ C′ : List ℤ} {I′ : List ℕ}
-        → lengthOf t i < orderOf t → top ≡ placedNodes t (i + 1) .top → s ≡ getD W i 0 / 2 → mark ≡ markerCheck (probabilityAt t i) → load ≡ markerBase (backoffAt t i) (ltb from to) (eqb (getD W i 0 % 2) 1)
+    pub row-tried : {s : ℕ} {mark load : ℤ} {top r : ℕ} {f : Bool} {B′ C′ : List ℤ} {I′ : List ℕ}
+        → lengthOf t i < orderOf t → top ≡ placedNodes t (i + 1) .top → s ≡ getD W i 0 → mark ≡ markerCheck (probabilityAt t i) → f ≡ continuedIn t (words t i) → load ≡ markerBase (backoffAt t i) (ltb from to) f
         → NodePlaced N (placedNodes t (i + 1) .base) (placedNodes t (i + 1) .check) (partRows t from (to - from)) s mark load top (take (to - from) (drop from W)) r B′ C′ I′
         → Tried t N (placedNodes t (i + 2)) r B′ C′ (back from (to - from) W I′)
-    row-tried {s} fewer o e f g D =
+    row-tried {s} {f = f} fewer o e q c g D =
         let two : i + 2 ≡ suc (i + 1) = omega arith in
         rw two
         (tried t a row-in-nodes F (λ q. absurd (omega (arith, row-long))) row-oldest o
-        (row-slot s e) (f ∙ row-mark) (g ∙ row-load (ltb from to) (stretch-extended t i from to S)) D
+        (row-slot s e) (q ∙ row-mark) (g ∙ row-load (ltb from to) f (stretch-extended t i from to S) c) D
         from (to - from) row-stretch refl (λ j h. middle-field t from (to - from) j 1 h (lit< tt)))

@@ -1,9 +1,9 @@
--- What the steps of a build ask of each other and promise each other. While the nodes are placed, a row's work item is twice its node's slot, 0 where it
--- has none yet, plus its f. Assumes nothing.
+-- What the steps of a build ask of each other and promise each other. While the nodes are placed, a row's work item is its node's slot, 0 where it has none
+-- yet. Assumes nothing.
 use mathlib.Core.Path.{_≡_}
-use mathlib.Core.Bool.{Bool, true, false, cond}
-use mathlib.Core.List.{List, _∷_, map}
-use Prim.Native.Nat.{ℕ, suc, _+_, _*_, _/_, _%_, _≤_, _<_, max, min}
+use mathlib.Core.Bool.{Bool, true, false}
+use mathlib.Core.List.{List, _∷_}
+use Prim.Native.Nat.{ℕ, suc, _+_, _*_, _≤_, _<_, max, min}
 use lib.IntN.{ℤ, pos}
 use lib.ListN.{length, getD, take, replicate}
 use Rattle.integer.specs.Integer.{between}
@@ -13,18 +13,21 @@ use Rattle.double_array.specs.DoubleArray.{freeCheck, childSlot, sizesOk}
 use Rattle.list.specs.Table.{rowsOf, field, orderOf, wordOf, words}
 use Rattle.list.specs.Check.{verdict}
 use Rattle.list.specs.ListModel.{continuedIn}
-use Rattle.list.specs.Marks.{Marked}
 use Rattle.placing.specs.Placing.{Room, Placed, isFree, isOpen, allOpen, firstFit, update, own, reach, placeAll, unplaced}
 use Rattle.free_slots.specs.Chain.{isLink, Linked, LinksRun}
 use Rattle.build.specs.ListTrie.{nodesOf, oldestFrom}
 
--- what refusals 1 to 9 leave, the work items cut to the rows, and the rows marked that other rows continue
+-- each row's mark is its f
+pub record Flags (t : List ℤ) (marks : List Bool) : Type 0 where
+  pub each : length marks ≡ rowsOf t
+  pub mark : (j : ℕ) → j < rowsOf t → getD marks j false ≡ continuedIn t (words t j)
+
+-- what refusals 1 to 9 leave, the work items cut to the rows, and their marks
 pub record Passed (table base check : List ℤ) (marks : List Bool) (items : List ℕ) : Type 0 where
   pub accepted : verdict table ≡ Accepted
   pub sizes : sizesOk base check ≡ true
   pub each : length items ≡ rowsOf table
-  pub each-mark : length marks ≡ rowsOf table
-  pub marked : Marked table (rowsOf table) marks
+  pub flags : Flags table marks
 
 -- all slots are free, and the items 0
 pub record Wiped (base check : List ℤ) (items : List ℕ) (base′ check′ : List ℤ) (items′ : List ℕ) : Type 0 where
@@ -89,7 +92,7 @@ pub record Fitting (N : ℕ) (c : Room) (rows : List ℤ) (behind : Bool) (d : �
 -- the children's work items once their node has taken d, with them behind it or ahead
 pub record Given (behind : Bool) (d : ℕ) (rows : List ℤ) (items items′ : List ℕ) : Type 0 where
   pub same-length : length items′ ≡ length items
-  pub item : (k : ℕ) → k < length items → getD items′ k 0 ≡ 2 * childSlot behind d (wordOf (field rows k 1)) + getD items k 0 % 2
+  pub item : (k : ℕ) → k < length items → getD items′ k 0 ≡ childSlot behind d (wordOf (field rows k 1))
 
 -- the node in slot s, whose marker holds `mark` and `load`, takes its d, with its children on the side found, unless it reaches past the end. The answer r is
 -- one more than the highest slot used, or both are above N
@@ -99,14 +102,6 @@ pub record NodePlaced (N : ℕ) (b c : Room) (rows : List ℤ) (s : ℕ) (mark l
   pub given : r ≤ N → Given (sideOf N c rows) (fitOf N c rows) rows items items′
 
 -- ---- the nodes one by one
-
--- a row's work item
-abbrev pub itemOf : ℕ → Bool → ℕ
-itemOf s f = 2 * s + cond f 1 0
-
--- the first n items are the f that is marked: their nodes have no slot yet
-pub record Flagged (marks : List Bool) (n : ℕ) (items : List ℕ) : Type 0 where
-  pub item : (j : ℕ) → j < n → getD items j 0 ≡ itemOf 0 (getD marks j false)
 
 -- the list's first k nodes placed
 abbrev pub placedNodes : List ℤ → ℕ → Placed
@@ -119,13 +114,9 @@ pub record Filled (t : List ℤ) (N : ℕ) (P : Placed) (base check : List ℤ) 
   pub linked : Linked N (P .base) (P .check) base check
   pub links : LinksRun N (P .check) base check
   pub each : length items ≡ rowsOf t
-  pub item : (j : ℕ) → j < rowsOf t → getD items j 0 ≡ itemOf (P .slot (words t j)) (continuedIn t (words t j))
+  pub item : (j : ℕ) → j < rowsOf t → getD items j 0 ≡ P .slot (words t j)
 
 -- P is tried: the answer r is its top, or both are above N, and where P has room, the slices hold it
 pub record Tried (t : List ℤ) (N : ℕ) (P : Placed) (r : ℕ) (base check : List ℤ) (items : List ℕ) : Type 0 where
   pub answer : min r (suc N) ≡ min (P .top) (suc N)
   pub filled : r ≤ N → Filled t N P base check items
-
--- the items without their f
-unfoldable pub halved : List ℕ → List ℕ
-halved items = map (λ (x : ℕ). x / 2) items

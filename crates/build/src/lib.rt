@@ -2,20 +2,20 @@
 ghost use mathlib.Core.Path.{_≡_};
 ghost use mathlib.Core.Bool.{true};
 ghost use mathlib.Core.List.{List};
-ghost use Prim.Native.Nat.{ℕ, _+_, _/_, _%_, _≤_, _<_, max};
-ghost use lib.Dec.{eqb};
+ghost use Prim.Native.Nat.{ℕ, _+_, _≤_, _<_, max};
 ghost use lib.IntN.{ℤ, pos};
 ghost use lib.ListN.{length};
 ghost use Rattle.backoff.specs.Limits.{wordLimit, orderLimit, slotLimit};
 ghost use Rattle.backoff.specs.declared.Verdict.the-variants.{Accepted};
 ghost use Rattle.double_array.specs.DoubleArray.{freeCheck, headCheck, markerCheck, markerBase, childSlot, sizesOk};
 ghost use Rattle.list.specs.Table.{rowsOf, field, probabilityAt, backoffAt, lengthOf, orderOf, wordOf};
+ghost use Rattle.list.specs.Search.{Stretch};
 ghost use Rattle.list.specs.Check.{tableFits, verdict};
 ghost use Rattle.placing.specs.Placing.{Room, isOpen, update, own, reach};
 ghost use Rattle.free_slots.specs.Chain.{Linked, Unlinked, Chain};
 ghost use Rattle.build.specs.ListTrie.{RowsBelow, placedList};
 ghost use Rattle.build.specs.Build.{checkedBuild, buildOutcome, IsBuilt, BuildMeans};
-ghost use Rattle.build.specs.Steps.{Passed, Wiped, ChildRows, oldestOf, Rising, FoundFit, LastWord, ChildSlots, Settles, Fitting, Given, NodePlaced, Flagged, placedNodes, Filled, Tried, halved};
+ghost use Rattle.build.specs.Steps.{Passed, Wiped, ChildRows, oldestOf, Rising, FoundFit, LastWord, ChildSlots, Settles, Fitting, Given, NodePlaced, Flags, placedNodes, Filled, Tried};
 use backoff::Verdict;
 
 // A node to be placed: its slot, and what its marker holds as CHECK and as BASE.
@@ -141,7 +141,7 @@ fn settle(base: &mut [i32], check: &mut [i32], rows: &[i32], node: Node, behind:
     free_slots::set_base(base, slot, d as i32);
 }
 
-// Each child's work item gets its slot, and keeps its f.
+// Each child's work item gets its slot.
 fn give_slots(work: &mut [u32], rows: &[i32], behind: bool, d: usize)
     requires { ⌜ ChildRows (now rows) × (length (now work) ≡ rowsOf (now rows)) × (d ≤ slotLimit) ⌝ }
     requires { ⌜ ChildSlots behind d (now rows) ⌝ }
@@ -150,7 +150,7 @@ fn give_slots(work: &mut [u32], rows: &[i32], behind: bool, d: usize)
     let mut k = 0;
     while k < work.len() {
         let t = double_array::child_slot(behind, d, oldest_word(rows, k));
-        work[k] = 2 * t as u32 + work[k] % 2;
+        work[k] = t as u32;
         k += 1;
     }
 }
@@ -179,34 +179,35 @@ fn place_node(
     reached
 }
 
-// The node of row i, whose work item holds its slot and f; it is extended or not.
-fn row_node(table: &[i32], i: usize, item: u32, extended: bool) -> Node
+// The node of row i, whose work item is its slot; it is extended and continued or not.
+fn row_node(table: &[i32], i: usize, item: u32, extended: bool, continued: bool) -> Node
     requires { ⌜ (verdict (now table) ≡ Accepted) × (i < rowsOf (now table)) ⌝ }
-    ensures { λ r. ⌜ (r .slot ≡ item / 2) × (r .mark ≡ markerCheck (probabilityAt (now (table .entry)) i)) × (r .load ≡ markerBase (backoffAt (now (table .entry)) i) extended (eqb (item % 2) 1)) ⌝ }
+    ensures { λ r. ⌜ (r .slot ≡ item) × (r .mark ≡ markerCheck (probabilityAt (now (table .entry)) i)) × (r .load ≡ markerBase (backoffAt (now (table .entry)) i) extended continued) ⌝ }
 {
     Node {
-        slot: (item / 2) as usize,
+        slot: item as usize,
         mark: double_array::marker_check(list::field(table, i, 6)),
-        load: double_array::marker_base(list::field(table, i, 7), extended, item % 2 == 1),
+        load: double_array::marker_base(list::field(table, i, 7), extended, continued),
     }
 }
 
-// Places the node of row i, which has fewer than n words and whose children's rows are soonest found from `near` on. Answers the new top.
+// Places the node of row i, which has fewer than n words, its children's rows in hand. Answers the new top.
 fn place_row(
     table: &[i32],
     i: usize,
+    children: list::Span,
     base: &mut [i32],
     check: &mut [i32],
+    marks: &[bool],
     work: &mut [u32],
-    near: usize,
     top: usize,
 ) -> usize
-    requires { ⌜ (verdict (now table) ≡ Accepted) × (i < rowsOf (now table)) × (lengthOf (now table) i < orderOf (now table)) × (top ≡ placedNodes (now table) (i + 1) .top) ⌝ }
+    requires { ⌜ (verdict (now table) ≡ Accepted) × (i < rowsOf (now table)) × (lengthOf (now table) i < orderOf (now table)) × (top ≡ placedNodes (now table) (i + 1) .top) × Stretch (now table) i (children .from) (children .to) × Flags (now table) (now marks) ⌝ }
     requires { ⌜ Filled (now table) (length (now check)) (placedNodes (now table) (i + 1)) (now base) (now check) (now work) ⌝ }
     ensures { λ r. ⌜ Tried (now (table .entry)) (length (now (check .entry))) (placedNodes (now (table .entry)) (i + 2)) r (now (base .exit)) (now (check .exit)) (now (work .exit)) ⌝ }
 {
-    let list::Span { from, to } = list::children(table, i, near);
-    let node = row_node(table, i, work[i], from < to);
+    let list::Span { from, to } = children;
+    let node = row_node(table, i, work[i], from < to, marks[i]);
     let first = 8 * from;
     let end = 8 * to;
     place_node(
@@ -259,18 +260,6 @@ fn place_root(table: &[i32], base: &mut [i32], check: &mut [i32], work: &mut [u3
     place_node(base, check, &table[..end], &mut work[..k], node, 1)
 }
 
-// The first row from j on whose node has no slot yet: where the children of the next node stand.
-fn next_without_slot(work: &[u32], j: usize) -> usize {
-    let mut k = j;
-    while k < work.len() {
-        if work[k] < 2 {
-            return k;
-        }
-        k += 1;
-    }
-    k
-}
-
 // Places the nodes of the rows from row `first` on, which have n words: the node's own BASE holds p − 1, and no slot is taken.
 fn place_longest(table: &[i32], first: usize, base: &mut [i32], work: &[u32])
     requires { ⌜ (verdict (now table) ≡ Accepted) × RowsBelow (now table) (orderOf (now table)) first ⌝ }
@@ -280,33 +269,45 @@ fn place_longest(table: &[i32], first: usize, base: &mut [i32], work: &[u32])
     let mut i = first;
     while i < work.len() {
         let mark = double_array::marker_check(list::field(table, i, 6));
-        free_slots::set_base(base, (work[i] / 2) as usize, mark);
+        free_slots::set_base(base, work[i] as usize, mark);
         i += 1;
     }
 }
 
-// Places the nodes of the rows, one by one, as long as they have room; the first `shorter` rows have fewer than n words. Answers the new top.
+// Places the nodes of the rows, one by one, as long as they have room; the first `shorter` rows have fewer than n words. A row's children stand behind those of
+// the row before it. Answers the new top.
 fn place_rows(
     table: &[i32],
     shorter: usize,
     base: &mut [i32],
     check: &mut [i32],
+    marks: &[bool],
     work: &mut [u32],
     top: usize,
 ) -> usize
-    requires { ⌜ (verdict (now table) ≡ Accepted) × RowsBelow (now table) (orderOf (now table)) shorter × (top ≡ placedNodes (now table) 1 .top) ⌝ }
+    requires { ⌜ (verdict (now table) ≡ Accepted) × RowsBelow (now table) (orderOf (now table)) shorter × (top ≡ placedNodes (now table) 1 .top) × Flags (now table) (now marks) ⌝ }
     requires { ⌜ Filled (now table) (length (now check)) (placedNodes (now table) 1) (now base) (now check) (now work) ⌝ }
     ensures { λ r. ⌜ Tried (now (table .entry)) (length (now (check .entry))) (placedList (now (table .entry))) r (now (base .exit)) (now (check .exit)) (now (work .exit)) ⌝ }
 {
     let mut top = top;
-    let mut near = 0;
+    let mut from = rows_below(table, 2);
     let mut i = 0;
     while i < shorter {
-        near = next_without_slot(work, near);
-        top = place_row(table, i, base, check, work, near, top);
+        let to = list::children_end(table, i, from);
+        top = place_row(
+            table,
+            i,
+            list::Span { from, to },
+            base,
+            check,
+            marks,
+            work,
+            top,
+        );
         if check.len() < top {
             return top;
         }
+        from = to;
         i += 1;
     }
     place_longest(table, shorter, base, work);
@@ -314,8 +315,14 @@ fn place_rows(
 }
 
 // Places the root and the rows, as long as they have room. Answers the top.
-fn place_nodes(table: &[i32], base: &mut [i32], check: &mut [i32], work: &mut [u32]) -> usize
-    requires { ⌜ verdict (now table) ≡ Accepted ⌝ }
+fn place_nodes(
+    table: &[i32],
+    base: &mut [i32],
+    check: &mut [i32],
+    marks: &[bool],
+    work: &mut [u32],
+) -> usize
+    requires { ⌜ (verdict (now table) ≡ Accepted) × Flags (now table) (now marks) ⌝ }
     requires { ⌜ Filled (now table) (length (now check)) (placedNodes (now table) 0) (now base) (now check) (now work) ⌝ }
     ensures { λ r. ⌜ Tried (now (table .entry)) (length (now (check .entry))) (placedList (now (table .entry))) r (now (base .exit)) (now (check .exit)) (now (work .exit)) ⌝ }
 {
@@ -324,7 +331,7 @@ fn place_nodes(table: &[i32], base: &mut [i32], check: &mut [i32], work: &mut [u
         return top;
     }
     let shorter = rows_below(table, order_of(table));
-    place_rows(table, shorter, base, check, work, top)
+    place_rows(table, shorter, base, check, marks, work, top)
 }
 
 // Frees all slots and empties the work items.
@@ -334,38 +341,6 @@ fn wipe(base: &mut [i32], check: &mut [i32], work: &mut [u32])
     double_array::fill(base, 0);
     double_array::fill(check, double_array::FREE);
     double_array::zero(work);
-}
-
-// Each row's item becomes its f, as it is marked.
-fn give_flags(marks: &[bool], work: &mut [u32])
-    requires { ⌜ length (now marks) ≡ length (now work) ⌝ }
-    ensures { λ _. ⌜ Flagged (now (marks .entry)) (length (now (work .exit))) (now (work .exit)) ⌝ }
-{
-    let mut i = 0;
-    while i < work.len() {
-        work[i] = marks[i] as u32;
-        i += 1;
-    }
-}
-
-// Takes the f out of the items, so that each is a slot.
-fn halve(work: &mut [u32])
-    ensures { λ _. ⌜ now (work .exit) ≡ halved (now (work .entry)) ⌝ }
-{
-    let mut i = 0;
-    while i < work.len() {
-        work[i] = work[i] / 2;
-        i += 1;
-    }
-}
-
-// Makes the slices ready for the root: nothing is placed, and each row's item is its f.
-fn prepare(base: &mut [i32], check: &mut [i32], marks: &[bool], work: &mut [u32])
-    requires { ⌜ ((t : List ℤ) × Passed t (now base) (now check) (now marks) (now work)) ⌝ }
-    ensures { λ _. ⌜ ((t : List ℤ) → Passed t (now (base .entry)) (now (check .entry)) (now (marks .entry)) (now (work .entry)) → Filled t (length (now (check .entry))) (placedNodes t 0) (now (base .exit)) (now (check .exit)) (now (work .exit))) ⌝ }
-{
-    wipe(base, check, work);
-    give_flags(marks, work);
 }
 
 // Takes the links out, where no slot from `top` on is taken. The root's d is 1, and CHECK[0] tells the order.
@@ -388,11 +363,10 @@ fn place_list(
     requires { ⌜ Passed (now table) (now base) (now check) (now marks) (now work) ⌝ }
     ensures { λ r. ⌜ IsBuilt (checkedBuild (now (table .entry)) (now (base .entry)) (now (check .entry)) (now (work .entry)) Accepted) r (now (base .exit)) (now (check .exit)) (now (work .exit)) ⌝ }
 {
-    prepare(base, check, marks, work);
-    let top = place_nodes(table, base, check, work);
+    wipe(base, check, work);
+    let top = place_nodes(table, base, check, marks, work);
     if top <= check.len() {
         finish(table, base, check, top);
-        halve(work);
         return Verdict::Accepted;
     }
     wipe(base, check, work);

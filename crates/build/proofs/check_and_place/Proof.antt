@@ -11,6 +11,7 @@ use Rattle.backoff.specs.Limits.{rowLimit}
 use Rattle.backoff.specs.declared.Verdict.the-variants.{Accepted}
 use Rattle.list.specs.Table.{rowsOf}
 use Rattle.list.specs.Check.{verdict}
+use Rattle.list.specs.ListModel.{continuedIn}
 use Rattle.list.proofs.Check.{fitting-table}
 use Rattle.list.proofs.Marks.{lent-none, lent-fit, lent-length, back-fit, back}
 use Rattle.build.specs.Steps.{Passed}
@@ -68,12 +69,14 @@ accepted : (e : tie.After-enum-told) → verdict (now (start (e .before .before 
 accepted e = sym (e .before .before .before .check-and-mark .ensures .0) ∙ e .enum-told .given .1
 
 place-list-requires : tie.Need-place-list-requires
+unfolding continuedIn
 place-list-requires c κs =
     let e = c .before .before .before .before in
     let m = e .before .before .before in
     let s = start m in
+    let each = many m ∙ s .pre .2 in
     subst (λ (l : List Bool). Passed (now (s .args .table)) (now (s .args .base)) (now (s .args .check)) l (now (s .args .work))) (sym (left m))
-    (record { accepted = accepted e; sizes = s .pre .1; each = s .pre .2; each-mark = many m ∙ s .pre .2; marked = m .check-and-mark .ensures .1 (e .enum-told .given .1) })
+    (record { accepted = accepted e; sizes = s .pre .1; each = s .pre .2; flags = record { each = each; mark = λ j l. m .check-and-mark .ensures .1 (e .enum-told .given .1) j l (omega (arith, each)) } })
 
 same-length : tie.Need-same-length
 same-length c = search needs

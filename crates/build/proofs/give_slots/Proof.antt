@@ -1,4 +1,4 @@
--- Invariant: the items passed hold their slots, the others are as they were.
+-- Invariant: the items passed are their rows' slots.
 use mathlib.Core.Path.{_≡_, ap, _∙_}
 use Prim.Native.Nat.{_+_, _-_, _≤_, _<_}
 use native.Mathlib.Omega.{arith}
@@ -48,19 +48,7 @@ cast-work : tie.Need-cast-work Inv-loop μ-loop
 cast-work c = omega (arith, child-few c)
 
 mul-work : tie.Need-mul-work Inv-loop μ-loop
-mul-work c = omega (arith, child-few c)
-
-mul-work-2 : tie.Need-mul-work-2 Inv-loop μ-loop
-mul-work-2 c = search needs
-
-slice-read-work : tie.Need-slice-read-work Inv-loop μ-loop
-slice-read-work c = search needs
-
-add-work : tie.Need-add-work Inv-loop μ-loop
-add-work c = omega (arith, child-few (c .before))
-
-mul-work-3 : tie.Need-mul-work-3 Inv-loop μ-loop
-mul-work-3 c = search needs
+mul-work c = search needs
 
 slice-write-work : tie.Need-slice-write-work Inv-loop μ-loop
 slice-write-work c = search needs
@@ -69,12 +57,12 @@ add-k : tie.Need-add-k Inv-loop μ-loop
 add-k c = search needs
 
 loop-less : tie.Need-loop-less Inv-loop μ-loop
-loop-less c = omega (arith, c .before .before .before .loop-test .taken, c .before .before .before .before .loop .inv .same-length)
+loop-less c = omega (arith, c .before .before .loop-test .taken, c .before .before .before .loop .inv .same-length)
 
 loop-again : tie.Need-loop-again Inv-loop μ-loop
 loop-again c =
-    let l = c .before .before .before .before in
-    giving-next _ _ _ _ _ _ _ (l .loop .inv) (c .before .before .before .loop-test .taken) (child-is (c .before))
+    let l = c .before .before .before in
+    giving-next _ _ _ _ _ _ _ (l .loop .inv) (c .before .before .loop-test .taken) (child-is c)
 
 same-length : tie.Need-same-length Inv-loop μ-loop
 same-length c = c .before .loop .inv .same-length
@@ -93,10 +81,6 @@ give-slots-spec =
     child-slot-requires
     cast-work
     mul-work
-    mul-work-2
-    slice-read-work
-    add-work
-    mul-work-3
     slice-write-work
     add-k
     loop-less

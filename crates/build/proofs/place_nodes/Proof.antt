@@ -26,27 +26,27 @@ returns : tie.Need-returns
 returns c = let r = c .before .before .before .before .before in over-refused 1 (omega (arith, c .if1 .taken, r .place-root .kept .1 .1 .0)) (r .place-root .ensures)
 
 abbrev start : tie.Else1 → tie.Start
-start c = c .before .before .before .before .before .before .before .before .before .before
+start c = c .before .before .before .before .before .before .before .before .before .before .before
 
-room : (c : tie.Else1) → let r = c .before .before .before .before .before in r .place-root .result ≤ length (now (r .before .before .before .before .before .args .check))
+room : (c : tie.Else1) → let r = c .before .before .before .before .before in r .place-root .result ≤ length (now (r .before .before .before .before .before .before .args .check))
 room c = let r = c .before .before .before .before .before in omega (arith, c .if1 .left, r .place-root .kept .1 .1 .0)
 
-placed : (c : tie.Else1) → let r = c .before .before .before .before .before in let s = r .before .before .before .before .before in
+placed : (c : tie.Else1) → let r = c .before .before .before .before .before in let s = r .before .before .before .before .before .before in
     Filled (now (s .args .table)) (length (now (s .args .check))) (placedNodes (now (s .args .table)) 1) (r .place-root .last .1 .0) (r .place-root .last .1 .1 .0) (r .place-root .last .1 .1 .1 .0)
 placed c = c .before .before .before .before .before .place-root .ensures .filled (room c)
 
 order-of-requires : tie.Need-order-of-requires
-order-of-requires c κs = start c .pre .0
+order-of-requires c κs = start c .pre .0 .0
 
 rows-below-requires : tie.Need-rows-below-requires
-rows-below-requires c κs = start (c .before) .pre .0
+rows-below-requires c κs = start (c .before) .pre .0 .0
 
 place-rows-requires : tie.Need-place-rows-requires
 place-rows-requires c κs =
     let b = c .before .before .before in
     let e = b .before .before in
     let r = e .before .before .before .before .before in
-    ((start e .pre .0, rw (b .before .order-of .ensures .0) at (b .rows-below .ensures), omega (arith, room e, r .place-root .ensures .answer)), filled-here (placed e))
+    ((start e .pre .0 .0, rw (b .before .order-of .ensures .0) at (b .rows-below .ensures), omega (arith, room e, r .place-root .ensures .answer), start e .pre .0 .1), filled-here (placed e))
 
 same-length-4 : tie.Need-same-length-4
 same-length-4 c = search needs

@@ -1,22 +1,18 @@
 -- The row's p and b passed the list's checks.
 use mathlib.Core.Path.{_≡_, refl, ap, _∙_}
-use Prim.Native.Nat.{_%_}
-use lib.Dec.{eqb, lit<}
+use lib.Dec.{lit<}
 use lib.IntN.{ℤ}
 use denote.Ref.{now}
 use mir.Syntax.{w32}
 use mir.Val.{toZ, ofZ}
 use mir.Facts.{toZ-ofZ}
-use borrow.Author.Needs.{needs, sfits-of}
+use borrow.Author.Needs.{sfits-of}
 use Rattle.double_array.specs.DoubleArray.{markerCheck, markerBase}
 use Rattle.list.specs.Table.{probabilityAt, backoffAt}
 use Rattle.list.proofs.Table.{row-in}
 use Rattle.list.proofs.Check.{backoff-in, accepted-row}
 use Rattle.build.proofs.row_node.Statement.{statement}
 use Rattle.build.proofs.row_node.Tie as tie
-
-cast-t6 : tie.Need-cast-t6
-cast-t6 c = search needs
 
 field-requires : tie.Need-field-requires
 field-requires c κs = (row-in _ _ (c .pre .1), lit< tt)
@@ -42,16 +38,10 @@ returns c =
     let m = c .before .before in (
       refl,
       toZ-ofZ {w = w32} {z = m .marker-check .result} (sfits-of (m .marker-check .ok)) ∙ m .marker-check .ensures ∙ ap markerCheck (p-is (m .before)),
-      toZ-ofZ {w = w32} {z = c .marker-base .result} (sfits-of (c .marker-base .ok)) ∙ c .marker-base .ensures ∙ ap (λ (b : ℤ). markerBase b (m .before .before .args .extended) (eqb (m .before .before .args .item % 2) 1)) (b-is (c .before)),
+      toZ-ofZ {w = w32} {z = c .marker-base .result} (sfits-of (c .marker-base .ok)) ∙ c .marker-base .ensures ∙ ap (λ (b : ℤ). markerBase b (m .before .before .args .extended) (m .before .before .args .continued)) (b-is (c .before)),
     )
 
 pub row-node-spec : {M : Type 1} → statement M
 row-node-spec =
     tie.close
-    (tie.spec
-    cast-t6
-    field-requires
-    marker-check-requires
-    field-requires-2
-    marker-base-requires
-    returns)
+    (tie.spec field-requires marker-check-requires field-requires-2 marker-base-requires returns)
