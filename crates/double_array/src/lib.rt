@@ -187,22 +187,18 @@ fn slot_behind(d: usize, w: usize) -> usize
     d - w * carry
 }
 
-// The child for word w of the node in slot s whose marker lies in slot d. Both slots are read, without a branch on whether one lies behind d, which a processor
-// cannot foresee: where none does, the marker's is read, which has no parent.
+// The child for word w of the node in slot s whose marker lies in slot d: the slot ahead decides with one compare. Where it does not, the slot behind is read without a
+// branch on whether there is one, which a processor cannot foresee: where there is none, the marker's is read, which has no parent.
 pub fn beside_marker(check: &[i32], s: usize, d: usize, w: usize) -> Child
     requires { ⌜ (s < slotLimit) × (d < length (now check)) × (d < 2147483648) × (w ≤ wordLimit) ⌝ }
     requires { ⌜ ownedBy (now check) s d ≡ Child.Nothing ⌝ }
     ensures { λ r. ⌜ r ≡ onEitherSide (now (check .entry)) s d w ⌝ }
 {
-    let slot = slot_behind(d, w);
-    let behind = owned_inside(check, s, slot);
-    if check.len() <= d + w {
-        return behind;
-    }
-    if let Child::At(t) = owned_inside(check, s, d + w) {
+    if let Child::At(t) = owned_by(check, s, d + w) {
         return Child::At(t);
     }
-    behind
+    let slot = slot_behind(d, w);
+    owned_inside(check, s, slot)
 }
 
 // The child for word w of the node in slot s.

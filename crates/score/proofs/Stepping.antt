@@ -36,7 +36,7 @@ use Rattle.score.specs.declared.Kept.{Kept}
 use Rattle.score.specs.declared.Stepped.{Stepped}
 use Rattle.score.specs.Answers.{byteOf, stepOf}
 use Rattle.score.specs.Meaning.{rowsIn}
-use Rattle.score.specs.Inner.{firstOf, digits, pushed, heldIn, Carries, meetsBroken, Read, ScoredAs, SteppedTo}
+use Rattle.score.specs.Inner.{isChild, replaced, firstOf, digits, pushed, heldIn, Carries, meetsBroken, Read, ScoredAs, SteppedTo}
 use Rattle.score.proofs.Rows.{rows-in-backoff}
 use Rattle.score.proofs.Digits.{length-digits, digits-pushed}
 
@@ -48,6 +48,19 @@ own-word w Broken other = refl
 other-word : (m : Marker) → unknownAt (lookMarker m) ≡ cond (isBroken (lookMarker m)) none (some unknownWord)
 other-word (Sound p b e f) = refl
 other-word Broken = refl
+
+-- the first node of the word that w is scored as
+abbrev pub firstFrom : ℕ → Child → First
+firstFrom v (At slot) = From slot v
+firstFrom v Nothing = Missing
+
+first-of : (w v : ℕ) (own other child : Child) → v ≡ cond (isChild own) w unknownWord → (v ≡ w → child ≡ own) → (v ≡ unknownWord → child ≡ other) → firstOf w own other ≡ firstFrom v child
+first-of w v (At slot) other child e p q = rw (p e, e)
+first-of w v Nothing (At slot) child e p q = rw (q e, e)
+first-of w v Nothing Nothing child e p q = rw (q e)
+
+pub first-replaced : (check : List ℤ) (w v : ℕ) → v ≡ replaced check w → (child : Child) → rootChild check v ≡ child → firstOf w (rootChild check w) (rootChild check unknownWord) ≡ firstFrom v child
+first-replaced check w v e child r = first-of w v (rootChild check w) (rootChild check unknownWord) child e (λ z. sym r ∙ ap (rootChild check) z) (λ z. sym r ∙ ap (rootChild check) z)
 
 module _ (base check : List ℤ) (h : isArray base check ≡ true) where
   one-word : (w : ℕ) → storeIn base check .look (w ∷ []) ≡ downTo (childAt base check 0 w) (λ (t : ℕ). lookMarker (markerAt base check 1 t))

@@ -15,7 +15,7 @@ use Rattle.backoff.specs.Rule.{lengthByte}
 use Rattle.backoff.specs.State.{State as Carried, backoffsOf, liveLength, walk, pointsFrom, extendedFrom}
 use Rattle.backoff.specs.NineNumbers.{all, stateOk}
 use Rattle.backoff.specs.Store.{Look, absent, broken, here, Store, isBroken, modelIn, Step, scored, endsBroken}
-use Rattle.double_array.specs.DoubleArray.{markerAt, storeIn}
+use Rattle.double_array.specs.DoubleArray.{markerAt, rootChild, storeIn}
 use Rattle.double_array.specs.declared.Marker.{Marker}
 use Rattle.double_array.specs.declared.Marker.the-variants.{Sound, Broken}
 use Rattle.double_array.specs.declared.Child.{Child}
@@ -37,6 +37,15 @@ use Rattle.score.specs.Answers.{stepOf}
 -- the items of a state that check 16 looks at together: the used ones pass a test, the unused ones are 0
 unfoldable pub partOk : (ℤ → Bool) → ℕ → List ℤ → Bool
 partOk P count items = all (map P (take count items)) && all (map (eqZ (pos 0)) (drop count items))
+
+-- whether there is a child
+abbrev pub isChild : Child → Bool
+isChild (At slot) = true
+isChild Nothing = false
+
+-- w where the root has a child for it, else word 1 in its place
+abbrev pub replaced : List ℤ → ℕ → ℕ
+replaced check w = cond (isChild (rootChild check w)) w unknownWord
 
 -- the root's child for w, or that for word 1 in its place
 abbrev pub firstOf : ℕ → Child → Child → First

@@ -23,7 +23,7 @@ ghost use Rattle.double_array.specs.DoubleArray.{freeCheck, keptMarker, lookMar
 ghost use Rattle.score.specs.Answers.{numbersOf, kindByte, byteOf, answerOf, startedOf, summedOf, summed};
 ghost use Rattle.score.specs.Closing.{pointsOver};
 ghost use Rattle.score.specs.Meaning.{StartMeans, RunMeans};
-ghost use Rattle.score.specs.Inner.{partOk, firstOf, packedAs, heldIn, Carries, InRange, longestLive, endedAt, storedAt, WalkedOver, Readable, ReachedOver, ScoredAs, SteppedTo, earlyRefusal};
+ghost use Rattle.score.specs.Inner.{partOk, isChild, replaced, firstOf, packedAs, heldIn, Carries, InRange, longestLive, endedAt, storedAt, WalkedOver, Readable, ReachedOver, ScoredAs, SteppedTo, earlyRefusal};
 
 // The paper's carried state as its nine signed numbers. A state of the caller's own making may hold any: check 16 decides.
 #[repr(C)]
@@ -182,6 +182,26 @@ pub fn state_ok(state: State, order: usize) -> bool
         backoff::LARGEST_BACKOFF,
     );
     (count < order) & words_ok & backoffs_ok
+}
+
+// Whether there is a child.
+fn is_child(child: Child) -> bool
+    ensures { λ r. ⌜ r ≡ isChild child ⌝ }
+{
+    match child {
+        Child::At(_) => true,
+        Child::Nothing => false,
+    }
+}
+
+// The word or, where the root has no child for it, word 1 in its place. Arithmetic decides: a processor cannot foresee whether a word has a row.
+fn replaced(check: &[i32], w: u32) -> u32
+    requires { ⌜ getD (now check) 1 freeCheck ≡ negsuc 0 ⌝ }
+    ensures { λ r. ⌜ r ≡ replaced (now (check .entry)) w ⌝ }
+{
+    let child = double_array::root_child(check, w);
+    let known = is_child(child) as u32;
+    w * known + (1 - known)
 }
 
 // The root's child for the word or, where there is none, for word 1 in its place.
@@ -425,21 +445,21 @@ fn begin(base: &[i32], check: &[i32], order: usize, backoffs: &mut [i32; 5]) -> 
     scored(0, word, points, passed, kept, extended)
 }
 
-// One word from a state. What it ends is told by `ends_sentence`.
+// One word w from a state, which is scored as `word`. What it ends is told by `ends_sentence`.
 fn step(
     base: &[i32],
     check: &[i32],
     order: usize,
     carried: Packed,
     backoffs: &mut [i32; 5],
-    w: u32,
+    word: u32,
 ) -> Stepped
     requires { ⌜ isArray (now base) (now check) ≡ true ⌝ }
     requires { ⌜ order ≡ orderIn (now check) ⌝ }
     requires { ⌜ Carries order carried (now backoffs) ⌝ }
-    ensures { λ r. ⌜ SteppedTo order (wordStep (storeIn (now (base .entry)) (now (check .entry))) (heldIn carried (now (backoffs .entry))) w) r (now (backoffs .exit)) ⌝ }
+    ensures { λ r. ⌜ ((w : ℕ) → word ≡ replaced (now (check .entry)) w → SteppedTo order (wordStep (storeIn (now (base .entry)) (now (check .entry))) (heldIn carried (now (backoffs .entry))) w) r (now (backoffs .exit))) ⌝ }
 {
-    let First::From { slot, word } = first_node(check, w) else {
+    let Child::At(slot) = double_array::root_child(check, word) else {
         return Stepped {
             word: Word::Refused,
             next: carried,
@@ -637,7 +657,18 @@ fn unpack(carried: Packed, backoffs: [i32; 5]) -> State
     }
 }
 
-// The words of a run that no earlier check refuses.
+// What word i is scored as, word 1 where there is none.
+fn next_word(check: &[i32], words: &[u32], i: usize) -> u32
+    requires { ⌜ getD (now check) 1 freeCheck ≡ negsuc 0 ⌝ }
+    ensures { λ r. ⌜ (i < length (now (words .entry)) → r ≡ replaced (now (check .entry)) (getD (now (words .entry)) i 0)) ⌝ }
+{
+    if i < words.len() {
+        return replaced(check, words[i]);
+    }
+    backoff::UNKNOWN_WORD
+}
+
+// The words of a run that no earlier check refuses. What a word is scored as is read while the word before it is scored, so that no walk waits for it.
 fn score_words(
     base: &[i32],
     check: &[i32],
@@ -657,9 +688,11 @@ fn score_words(
     let mut carried = pack(state);
     let mut backoffs = lent(state);
     let mut total: i64 = 0;
+    let mut ahead = next_word(check, words, 0);
     let mut i = 0;
     while i < words.len() {
-        let w = words[i];
+        let w = ahead;
+        ahead = next_word(check, words, i + 1);
         let stepped = step(base, check, order, carried, &mut backoffs, w);
         let word = stepped.word;
         let Word::Scored {

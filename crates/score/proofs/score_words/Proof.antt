@@ -7,7 +7,7 @@ use Prim.Native.Nat.{ℕ, _*_, _-_, _≤_, _<_}
 use native.Mathlib.Omega.{arith}
 use borrow.Author.Needs.{needs, sfits-of}
 use lib.ListN.{length, getD, set, replicate, length-replicate}
-use lib.IntN.{ℤ, pos, natAbs}
+use lib.IntN.{ℤ, pos, negsuc, natAbs}
 use mir.Syntax.{w32, w64}
 use mir.Val.{toZ, ofZ, SFits}
 use mir.Facts.{toZ-ofZ}
@@ -16,13 +16,13 @@ use Rattle.backoff.specs.Limits.{orderLimit, largestBackoff}
 use Rattle.backoff.specs.Run.{written}
 use Rattle.backoff.specs.NineNumbers.{stateIn}
 use Rattle.backoff.specs.State.{State as Carried}
-use Rattle.backoff.specs.Store.{Store, scored, step}
-use Rattle.double_array.specs.DoubleArray.{storeIn}
-use Rattle.double_array.proofs.DoubleArray.{opened-order}
+use Rattle.backoff.specs.Store.{Store, scored, wordStep, step}
+use Rattle.double_array.specs.DoubleArray.{freeCheck, storeIn}
+use Rattle.double_array.proofs.DoubleArray.{opened-head, opened-order}
 use Rattle.score.specs.declared.Kind.{Kind}
 use Rattle.score.specs.declared.Packed.{Packed}
 use Rattle.score.specs.Answers.{numbersOf, byteOf}
-use Rattle.score.specs.Inner.{heldIn, Carries}
+use Rattle.score.specs.Inner.{replaced, heldIn, Carries, SteppedTo}
 use Rattle.score.proofs.Carried.{Four, count-low, all-in-words, all-in-backoff, packed-held, packed-carries, carries-bounded}
 use Rattle.score.proofs.Rows.{rows-in-probability}
 use Rattle.score.proofs.Written.{written-set}
@@ -31,16 +31,17 @@ use Rattle.score.proofs.Running.{Running, scored-sizes, running-begins,
 use Rattle.score.proofs.score_words.Statement.{statement}
 use Rattle.score.proofs.score_words.Tie as tie
 
-record Loop (S : Store) (s : Carried) (ws : List ℕ) (points₀ : List ℤ) (lengths₀ : List ℕ) (carried : Packed) (backoffs : List ℤ) (total : ℤ) (i : ℕ) (points : List ℤ) (lengths : List ℕ) : Type 0 where
+record Loop (check : List ℤ) (S : Store) (s : Carried) (ws : List ℕ) (points₀ : List ℤ) (lengths₀ : List ℕ) (carried : Packed) (backoffs : List ℤ) (total : ℤ) (ahead i : ℕ) (points : List ℤ) (lengths : List ℕ) : Type 0 where
   running : Running S s ws points₀ lengths₀ (heldIn carried backoffs) total i points lengths
   carries : Carries (S .order) carried backoffs
+  ahead-is : i < length ws → ahead ≡ replaced check (getD ws i 0)
 
 abbrev Inv-loop : tie.InvT-loop
-Inv-loop base check order state words points₀ lengths₀ carried₀ backoffs₀ total₀ i₀ points lengths carried backoffs total i =
-    Loop (storeIn base check) (stateIn (numbersOf state)) words points₀ lengths₀ carried backoffs (toZ w64 total) i points lengths
+Inv-loop base check order state words points₀ lengths₀ carried₀ backoffs₀ total₀ ahead₀ i₀ points lengths carried backoffs total ahead i =
+    Loop check (storeIn base check) (stateIn (numbersOf state)) words points₀ lengths₀ carried backoffs (toZ w64 total) ahead i points lengths
 
 abbrev μ-loop : tie.MeasureT-loop
-μ-loop base check order state words points₀ lengths₀ carried₀ backoffs₀ total₀ i₀ points lengths carried backoffs total i =
+μ-loop base check order state words points₀ lengths₀ carried₀ backoffs₀ total₀ ahead₀ i₀ points lengths carried backoffs total ahead i =
     length words - i
 
 -- the array's order, which is the code's
@@ -65,25 +66,32 @@ pack-requires c κs =
 lent-requires : tie.Need-lent-requires Inv-loop μ-loop
 lent-requires c κs = search needs
 
-begins : {S : Store} {s : Carried} {ws : List ℕ} {points : List ℤ} {lengths : List ℕ} {packed carried : Packed} {lent backoffs : List ℤ} → carried ≡ packed → backoffs ≡ lent → heldIn packed lent ≡ s → Carries (S .order) packed lent → Loop S s ws points lengths carried backoffs (toZ w64 0) 0 points lengths
-begins d e f h = rw (d, e) (record { running = running-begins _ _ _ _ _ _ f; carries = h })
+begins : {check : List ℤ} {S : Store} {s : Carried} {ws : List ℕ} {points : List ℤ} {lengths : List ℕ} {packed carried : Packed} {lent backoffs : List ℤ} {ahead : ℕ} → carried ≡ packed → backoffs ≡ lent → heldIn packed lent ≡ s → Carries (S .order) packed lent → (0 < length ws → ahead ≡ replaced check (getD ws 0 0)) → Loop check S s ws points lengths carried backoffs (toZ w64 0) ahead 0 points lengths
+begins d e f h a = rw (d, e) (record { running = running-begins _ _ _ _ _ _ f; carries = h; ahead-is = a })
+
+-- slot 1 is the root's marker
+root-check : (s : tie.Start Inv-loop μ-loop) → getD (s .args .check .now) 1 freeCheck ≡ negsuc 0
+root-check s = opened-head (s .args .base .now) (s .args .check .now) (s .pre .0) .root-check
+
+next-word-requires : tie.Need-next-word-requires Inv-loop μ-loop
+next-word-requires c κs = root-check (c .before .before .before .before)
 
 loop-holds : tie.Need-loop-holds Inv-loop μ-loop
 loop-holds c =
-    let p = c .before in
+    let p = c .before .before in
     let s = p .before .before .before in
     let n = s .args .order in
-    begins (p .pack .ensures) (c .lent .ensures) (packed-held n (s .args .state) (arrays s) (limit s) (s .pre .1 .1 .0)) (rw (order-is s .0) (packed-carries n (s .args .state) (arrays s) (limit s) (s .pre .1 .1 .0)))
-
-mul-w : tie.Need-mul-w Inv-loop μ-loop
-mul-w c = search needs
-
-shared-slice-read-w : tie.Need-shared-slice-read-w Inv-loop μ-loop
-shared-slice-read-w c = search needs
+    begins (p .pack .ensures) (c .before .lent .ensures) (packed-held n (s .args .state) (arrays s) (limit s) (s .pre .1 .1 .0)) (rw (order-is s .0) (packed-carries n (s .args .state) (arrays s) (limit s) (s .pre .1 .1 .0))) (c .next-word .ensures)
 
 -- the function's entry
 abbrev entry : tie.At-loop Inv-loop μ-loop → tie.Start Inv-loop μ-loop
-entry l = l .before .before .before .before .before
+entry l = l .before .before .before .before .before .before
+
+add-next-word : tie.Need-add-next-word Inv-loop μ-loop
+add-next-word c = search needs
+
+next-word-requires-2 : tie.Need-next-word-requires-2 Inv-loop μ-loop
+next-word-requires-2 c κs = root-check (entry (c .before))
 
 step-requires : tie.Need-step-requires Inv-loop μ-loop
 step-requires c κs =
@@ -112,6 +120,9 @@ S c = storeIn (entry (turn c) .args .base .now) (entry (turn c) .args .check .no
 abbrev held : tie.After-step Inv-loop μ-loop → Carried
 held c = heldIn (turn c .loop .carried) (turn c .loop .backoffs)
 
+step-is : (c : tie.After-step Inv-loop μ-loop) → SteppedTo (entry (turn c) .args .order) (wordStep (S c) (held c) (w c)) (c .step .result) (backoffs c)
+step-is c = c .step .ensures (w c) (turn c .loop .inv .ahead-is (more c))
+
 enum-known-word : tie.Need-enum-known-word Inv-loop μ-loop
 enum-known-word c = search needs
 
@@ -139,7 +150,7 @@ returns c =
     let l = turn d in
     let s = entry l in
     rw (k .refuse-word .ensures .0)
-    (running-refused (S d) (stateIn (numbersOf (s .args .state))) (s .args .words .now) (s .args .points .now) (s .args .lengths .now) (held d) (toZ w64 (l .loop .total)) (l .loop .i) (l .loop .points) (l .loop .lengths) (l .loop .inv .running) (more d) (refused-word (S d) (held d) (w d) (d .step .ensures) (e .enum-told .given .1)) (numbersOf (s .args .state)) (k .refuse-word .last .0) (k .refuse-word .last .1 .0) (k .refuse-word .ensures .1 .0) (k .refuse-word .ensures .1 .1))
+    (running-refused (S d) (stateIn (numbersOf (s .args .state))) (s .args .words .now) (s .args .points .now) (s .args .lengths .now) (held d) (toZ w64 (l .loop .total)) (l .loop .i) (l .loop .points) (l .loop .lengths) (l .loop .inv .running) (more d) (refused-word (S d) (held d) (w d) (step-is d) (e .enum-told .given .1)) (numbersOf (s .args .state)) (k .refuse-word .last .0) (k .refuse-word .last .1 .0) (k .refuse-word .ensures .1 .0) (k .refuse-word .ensures .1 .1))
 
 -- the word's kind and points, and whether its row is extended
 abbrev kind : tie.After-word Inv-loop μ-loop → Kind
@@ -160,7 +171,7 @@ sizes c =
     let l = turn d in
     let s = entry l in
     let o = order-is s .1 in
-    scored-sizes (S d) (rows-in-probability (s .args .base .now) (s .args .check .now)) (S d .order - 1) (omega arith) (held d) (carries-bounded (S d .order) o (l .loop .carried) (l .loop .backoffs) (l .loop .inv .carries)) (w d) (x c) (byteOf (kind c) (extended c)) (heldIn (d .step .result .next) (backoffs d)) (told (d .step .ensures) _ (c .word .given .1))
+    scored-sizes (S d) (rows-in-probability (s .args .base .now) (s .args .check .now)) (S d .order - 1) (omega arith) (held d) (carries-bounded (S d .order) o (l .loop .carried) (l .loop .backoffs) (l .loop .inv .carries)) (w d) (x c) (byteOf (kind c) (extended c)) (heldIn (d .step .result .next) (backoffs d)) (told (step-is d) _ (c .word .given .1))
 
 write-word-requires : tie.Need-write-word-requires Inv-loop μ-loop
 write-word-requires c κs =
@@ -195,7 +206,7 @@ ends-sentence-requires c κs = more (stepped (c .before))
 
 -- the state that the word itself leaves
 carries-on : (c : tie.After-slice-known3 Inv-loop μ-loop) → Carries (entry (turn (stepped c)) .args .order) (stepped c .step .result .next) (backoffs (stepped c))
-carries-on c = let m = read c .before in stepped c .step .ensures .carries (kind m) (x m) (extended m) (m .word .given .1)
+carries-on c = let m = read c .before in step-is (stepped c) .carries (kind m) (x m) (extended m) (m .word .given .1)
 
 begin-requires : tie.Need-begin-requires Inv-loop μ-loop
 begin-requires c κs =
@@ -249,7 +260,7 @@ returns-2 c =
     let n = length (s .args .words .now) in
     rw (k .refuse-word2 .ensures .0)
     (running-refused (S d) (stateIn (numbersOf (s .args .state))) (s .args .words .now) (s .args .points .now) (s .args .lengths .now) (held d) (toZ w64 (l .loop .total)) (l .loop .i) (l .loop .points) (l .loop .lengths) (l .loop .inv .running) (more d)
-    (start-refused (S d) (held d) (w d) (d .step .ensures) (kind m) (x m) (extended m) (m .word .given .1) (b .begin .ensures) (sym (u .ends-sentence .ensures) ∙ b .before .before .if1 .taken) (g .enum-told2 .given .1))
+    (start-refused (S d) (held d) (w d) (step-is d) (kind m) (x m) (extended m) (m .word .given .1) (b .begin .ensures) (sym (u .ends-sentence .ensures) ∙ b .before .before .if1 .taken) (g .enum-told2 .given .1))
     (numbersOf (s .args .state)) (k .refuse-word2 .last .0) (k .refuse-word2 .last .1 .0)
     (k .refuse-word2 .ensures .1 .0 ∙ ap (written (replicate n (pos 0))) (points-now v) ∙ written-set (replicate n (pos 0)) (l .loop .points) (l .loop .i) (x m) (omega (arith, more d, length-replicate n (pos 0))))
     (k .refuse-word2 .ensures .1 .1 ∙ ap (written (replicate n 0)) (lengths-now v) ∙ written-set (replicate n 0) (l .loop .lengths) (l .loop .i) (byteOf (kind m) (extended m)) (omega (arith, more d, length-replicate {A = ℕ} n 0))))
@@ -265,8 +276,8 @@ add-i c =
 loop-less : tie.Need-loop-less Inv-loop μ-loop
 loop-less c = let d = stepped (c .before .before .before) in omega (arith, more d)
 
-again : {S : Store} {s next : Carried} {ws : List ℕ} {points₀ ps qs : List ℤ} {lengths₀ bs cs : List ℕ} {carried : Packed} {backoffs : List ℤ} {total sum : ℤ} {i : ℕ} → sum ≡ total → qs ≡ ps → cs ≡ bs → heldIn carried backoffs ≡ next → Carries (S .order) carried backoffs → Running S s ws points₀ lengths₀ next total i ps bs → Loop S s ws points₀ lengths₀ carried backoffs sum i qs cs
-again d e f g k r = rw (d, e, f) (record { running = rw g r; carries = k })
+again : {check : List ℤ} {S : Store} {s next : Carried} {ws : List ℕ} {points₀ ps qs : List ℤ} {lengths₀ bs cs : List ℕ} {carried : Packed} {backoffs : List ℤ} {total sum : ℤ} {ahead i : ℕ} → sum ≡ total → qs ≡ ps → cs ≡ bs → heldIn carried backoffs ≡ next → Carries (S .order) carried backoffs → Running S s ws points₀ lengths₀ next total i ps bs → (i < length ws → ahead ≡ replaced check (getD ws i 0)) → Loop check S s ws points₀ lengths₀ carried backoffs sum ahead i qs cs
+again d e f g k r a = rw (d, e, f) (record { running = rw g r; carries = k; ahead-is = a })
 
 -- the word's step, and the state that is carried on
 carried-on : (c : tie.Joined1 Inv-loop μ-loop) → (step (S (stepped (c .before .before .before))) (held (stepped (c .before .before .before))) (w (stepped (c .before .before .before))) ≡ scored (x (read (c .before .before .before) .before)) (byteOf (kind (read (c .before .before .before) .before)) (extended (read (c .before .before .before) .before))) (heldIn (c .if1 .carried) (c .if1 .backoffs))) × Carries (entry (turn (stepped (c .before .before .before))) .args .order) (c .if1 .carried) (c .if1 .backoffs)
@@ -278,10 +289,10 @@ carried-on c =
     ⊎-elim
     (λ r.
     let e = sym (u .ends-sentence .ensures) ∙ r .0 .taken in
-    (rw (r .6, r .7) (begins-anew (S d) (held d) (w d) (d .step .ensures) (kind m) (x m) (extended m) (m .word .given .1) (r .2 .ensures) e _ _ _ (r .4 .given .1)), rw (r .6, r .7) (r .2 .ensures .carries _ _ _ (r .4 .given .1))))
+    (rw (r .6, r .7) (begins-anew (S d) (held d) (w d) (step-is d) (kind m) (x m) (extended m) (m .word .given .1) (r .2 .ensures) e _ _ _ (r .4 .given .1)), rw (r .6, r .7) (r .2 .ensures .carries _ _ _ (r .4 .given .1))))
     (λ r.
     let e = sym (u .ends-sentence .ensures) ∙ r .0 .left in
-    (rw (r .1, r .2) (goes-on (S d) (held d) (w d) (d .step .ensures) (kind m) (x m) (extended m) (m .word .given .1) e), rw (r .1, r .2) (carries-on v)))
+    (rw (r .1, r .2) (goes-on (S d) (held d) (w d) (step-is d) (kind m) (x m) (extended m) (m .word .given .1) e), rw (r .1, r .2) (carries-on v)))
     (c .if1 .came)
 
 loop-again : tie.Need-loop-again Inv-loop μ-loop
@@ -292,7 +303,7 @@ loop-again c =
     let l = turn d in
     let s = entry l in
     again (cc (toZ-ofZ (add-total v), x-wide v)) (points-now v) (lengths-now v) refl (rw (order-is s .0) (carried-on c .1))
-    (running-on (S d) (stateIn (numbersOf (s .args .state))) (s .args .words .now) (s .args .points .now) (s .args .lengths .now) (held d) (toZ w64 (l .loop .total)) (l .loop .i) (l .loop .points) (l .loop .lengths) (l .loop .inv .running) (x m) (byteOf (kind m) (extended m)) (heldIn (c .if1 .carried) (c .if1 .backoffs)) (more d) (s .pre .1 .1 .1 .1 .0) (s .pre .1 .1 .1 .1 .1) (sizes m .0) (carried-on c .0))
+    (running-on (S d) (stateIn (numbersOf (s .args .state))) (s .args .words .now) (s .args .points .now) (s .args .lengths .now) (held d) (toZ w64 (l .loop .total)) (l .loop .i) (l .loop .points) (l .loop .lengths) (l .loop .inv .running) (x m) (byteOf (kind m) (extended m)) (heldIn (c .if1 .carried) (c .if1 .backoffs)) (more d) (s .pre .1 .1 .1 .1 .0) (s .pre .1 .1 .1 .1 .1) (sizes m .0) (carried-on c .0)) (d .before .before .next-word2 .ensures)
 
 unpack-requires : tie.Need-unpack-requires Inv-loop μ-loop
 unpack-requires c κs = let l = c .before in omega (arith, l .loop .inv .carries .few, order-is (entry l))
@@ -318,9 +329,10 @@ score-words-spec =
     μ-loop
     pack-requires
     lent-requires
+    next-word-requires
     loop-holds
-    mul-w
-    shared-slice-read-w
+    add-next-word
+    next-word-requires-2
     step-requires
     enum-known-word
     enum-told

@@ -11,20 +11,19 @@ use mir.Val.{SFits}
 use mir.Facts.{toZ-ofZ}
 use Rattle.backoff.specs.Limits.{unknownWord}
 use Rattle.double_array.specs.DoubleArray.{childAt, rootChild, orderIn, storeIn}
-use Rattle.double_array.specs.declared.Child.the-variants.{At}
-use Rattle.double_array.proofs.DoubleArray.{opened-sizes, opened-head, child-inside, opened-order}
-use Rattle.score.specs.declared.First.{First}
+use Rattle.double_array.specs.declared.Child.the-variants.{At, Nothing}
+use Rattle.double_array.proofs.DoubleArray.{opened-sizes, opened-head, root-child, child-inside, opened-order}
 use Rattle.score.specs.declared.First.the-variants.{From}
 use Rattle.score.specs.declared.Kept.{Kept}
 use Rattle.score.specs.declared.Walked.{Walked}
 use Rattle.score.specs.declared.Walked.the-variants.{Whole, Stuck}
-use Rattle.score.specs.Inner.{firstOf, heldIn, Carries, Read, WalkedOver, ScoredAs}
-use Rattle.score.proofs.Stepping.{first-child, first-missing, first-broken, passed-few, word-is-word, refused, stepped}
+use Rattle.score.specs.Inner.{replaced, firstOf, heldIn, Carries, Read, WalkedOver, ScoredAs}
+use Rattle.score.proofs.Stepping.{first-replaced, first-missing, first-broken, passed-few, word-is-word, refused, stepped}
 use Rattle.score.proofs.step.Statement.{statement}
 use Rattle.score.proofs.step.Tie as tie
 
-first-node-requires : tie.Need-first-node-requires
-first-node-requires c κs = opened-head (c .args .base .now) (c .args .check .now) (c .pre .0) .root-check
+root-child-requires : tie.Need-root-child-requires
+root-child-requires c κs = opened-head (c .args .base .now) (c .args .check .now) (c .pre .0) .root-check
 
 enum-known-slot : tie.Need-enum-known-slot
 enum-known-slot c = search needs
@@ -32,30 +31,27 @@ enum-known-slot c = search needs
 enum-told : tie.Need-enum-told
 enum-told c = search needs
 
--- the first node is what `first_node` answered
-first-told : (c : tie.After-first-node) (r : First) → c .first-node .result ≡ r → firstOf (c .before .args .w) (rootChild (c .before .args .check .now) (c .before .args .w)) (rootChild (c .before .args .check .now) unknownWord) ≡ r
-first-told c r e = sym (c .first-node .ensures) ∙ e
-
 returns : tie.Need-returns
-returns c =
+returns c w e =
     let f = c .before .before in
     let s = f .before in
-    refused (first-missing (s .args .base .now) (s .args .check .now) (s .pre .0) (s .args .w) (heldIn (s .args .carried) (s .args .backoffs .now)) (first-told f _ (c .enum-told .given .1)))
+    refused (first-missing (s .args .base .now) (s .args .check .now) (s .pre .0) w (heldIn (s .args .carried) (s .args .backoffs .now)) (first-replaced (s .args .check .now) w (s .args .word) e Nothing (sym (f .root-child .ensures) ∙ c .enum-told .given .1)))
 
 -- the first node: the slot of the root's child for the word that is scored
 abbrev slot : tie.After-slot → ℕ
 slot c = c .slot .given .0 .0
 
 abbrev word : tie.After-slot → ℕ
-word c = c .slot .given .0 .1 .0
+word c = c .before .before .before .args .word
 
-first-is : (c : tie.After-slot) → firstOf (c .before .before .before .args .w) (rootChild (c .before .before .before .args .check .now) (c .before .before .before .args .w)) (rootChild (c .before .before .before .args .check .now) unknownWord) ≡ From (slot c) (word c)
-first-is c = first-told (c .before .before) _ (c .slot .given .1)
+root-is : (c : tie.After-slot) → rootChild (c .before .before .before .args .check .now) (word c) ≡ At (slot c)
+root-is c = sym (c .before .before .root-child .ensures) ∙ c .slot .given .1
+
+first-is : (c : tie.After-slot) (w : ℕ) → word c ≡ replaced (c .before .before .before .args .check .now) w → firstOf w (rootChild (c .before .before .before .args .check .now) w) (rootChild (c .before .before .before .args .check .now) unknownWord) ≡ From (slot c) (word c)
+first-is c w e = first-replaced (c .before .before .before .args .check .now) w (word c) e (At (slot c)) (root-is c)
 
 child-is : (c : tie.After-slot) → childAt (c .before .before .before .args .base .now) (c .before .before .before .args .check .now) 0 (word c) ≡ At (slot c)
-child-is c =
-    let s = c .before .before .before in
-    first-child (s .args .base .now) (s .args .check .now) (s .pre .0) (s .args .w) (slot c) (word c) (first-is c)
+child-is c = let s = c .before .before .before in sym (root-child (s .args .base .now) (s .args .check .now) (s .pre .0) (word c)) ∙ root-is c
 
 -- the state that was given, by the array's own order
 held : (s : tie.Start) → Carries (orderIn (s .args .check .now)) (s .args .carried) (s .args .backoffs .now)
@@ -102,11 +98,11 @@ enum-told-2 : tie.Need-enum-told-2
 enum-told-2 c = search needs
 
 returns-2 : tie.Need-returns-2
-returns-2 c =
+returns-2 c w e =
     let k = c .before .before in
     let t = begun (walk k) in
     let s = t .before .before .before in
-    refused (first-broken (s .args .base .now) (s .args .check .now) (s .pre .0) (s .args .w) (slot t) (word t) (first-is t) (heldIn (s .args .carried) (s .args .backoffs .now)) (walked k Stuck (c .enum-told2 .given .1)))
+    refused (first-broken (s .args .base .now) (s .args .check .now) (s .pre .0) w (slot t) (word t) (first-is t w e) (heldIn (s .args .carried) (s .args .backoffs .now)) (walked k Stuck (c .enum-told2 .given .1)))
 
 -- what the walk has read
 abbrev points : tie.After-walked → ℤ
@@ -142,20 +138,20 @@ scored-requires c κs =
     )
 
 returns-3 : tie.Need-returns-3
-returns-3 c =
+returns-3 c w e =
     let m = c .before .before in
     let k = ended m in
     let t = begun (walk k) in
     let s = t .before .before .before in
     let a = s .args in
-    stepped (a .base .now) (a .check .now) (s .pre .0) (a .carried) (a .backoffs .now) (held s) (word t) (slot t) (child-is t) (points m) (passed m) (kept m) (extended m) (backoffs k) (read m) (a .order) (a .w) (s .pre .1 .0) (first-is t) (c .scored .result)
+    stepped (a .base .now) (a .check .now) (s .pre .0) (a .carried) (a .backoffs .now) (held s) (word t) (slot t) (child-is t) (points m) (passed m) (kept m) (extended m) (backoffs k) (read m) (a .order) w (s .pre .1 .0) (first-is t w e) (c .scored .result)
     (subst (λ (x : ℤ). ScoredAs (a .carried .words) (word t) x (passed m) (kept m) (extended m) (c .scored .result)) (toZ-ofZ (points-fits (c .before))) (c .scored .ensures))
 
 pub step-spec : {M : Type 1} → statement M
 step-spec =
     tie.close
     (tie.spec
-    first-node-requires
+    root-child-requires
     enum-known-slot
     enum-told
     returns
