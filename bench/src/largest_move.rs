@@ -51,25 +51,20 @@ fn see_group(totals: &[i64], first: usize, step: usize, best: &mut Move) {
 #[cfg(test)]
 mod tests {
     use crate::packed::Packed;
-    use tests::arrays::{built, drawn, Arrays};
+    use crate::sentences::tests::see_same;
+    use tests::arrays::{built, Arrays};
     use tests::lists::{even, with_usable};
     use tests::random::Random;
     use tests::reference::largest_move::largest_move;
 
-    /// The moves that ours are timed against are the same over any arrays, equal totals among them.
+    /// The moves that ours are timed against are the same, also among equal totals.
     #[test]
     fn same_moves() {
-        let mut random = Random::new(1);
-        for i in 0..20_000 {
-            let arrays = if i % 40 == 0 { listed(&mut random) } else { drawn(&mut random) };
-            let k = random.below(4) as u32;
-            let (words, totals) = (vec![1; random.pick(&[0, 50, 2_000])], vec![1; random.pick(&[0, 30, 1_000])]);
-            let (mut ours, mut second) = ((words.clone(), totals.clone()), (words, totals));
-            let answer = super::largest_move::<Packed>(&arrays.base, &arrays.check, k, &mut ours.0, &mut ours.1);
-            let expected = largest_move(&arrays.base, &arrays.check, k, &mut second.0, &mut second.1);
-            assert_eq!(((answer.number, answer.place), answer.distance, (answer.first, answer.second)), expected);
-            assert_eq!(ours, second);
-        }
+        let ours = |base: &[i32], check: &[i32], k, words: &mut [u32], totals: &mut [i64]| {
+            let answer = super::largest_move::<Packed>(base, check, k, words, totals);
+            ((answer.number, answer.place), answer.distance, (answer.first, answer.second))
+        };
+        see_same(listed, ours, largest_move);
     }
 
     /// The array of a list with up to 20 usable words and few different numbers.

@@ -144,27 +144,39 @@ fn moving(arrays: &Arrays, k: u32) -> Compared {
 }
 
 #[cfg(test)]
-mod tests {
+pub mod tests {
     use crate::packed::Packed;
+    use std::fmt::Debug;
     use tests::arrays::{built, drawn, Arrays};
     use tests::lists::with_usable;
     use tests::random::Random;
     use tests::reference::sentences::sentences;
 
-    /// The listings that ours is timed against are the same over any arrays.
-    #[test]
-    fn same_listings() {
+    /// A call that lists sentences of k words over BASE and CHECK.
+    type Call<A> = fn(&[i32], &[i32], u32, &mut [u32], &mut [i64]) -> A;
+
+    /// Two calls answer and leave the same over any arrays, of which some are those of a list.
+    pub fn see_same<A: Debug + PartialEq>(listed: fn(&mut Random) -> Arrays, ours: Call<A>, second: Call<A>) {
         let mut random = Random::new(1);
         for i in 0..20_000 {
-            let arrays = if i % 40 == 0 { listed(&mut random) } else { drawn(&mut random) };
+            let Arrays { base, check } = if i % 40 == 0 { listed(&mut random) } else { drawn(&mut random) };
             let k = random.below(4) as u32;
             let (words, totals) = (vec![1; random.pick(&[0, 50, 2_000])], vec![1; random.pick(&[0, 30, 1_000])]);
-            let (mut ours, mut second) = ((words.clone(), totals.clone()), (words, totals));
-            let listing = super::sentences::<Packed>(&arrays.base, &arrays.check, k, &mut ours.0, &mut ours.1);
-            let expected = sentences(&arrays.base, &arrays.check, k, &mut second.0, &mut second.1);
-            assert_eq!(((listing.number, listing.place), listing.sentences), expected);
-            assert_eq!(ours, second);
+            let (mut left, mut right) = ((words.clone(), totals.clone()), (words, totals));
+            let answer = ours(&base, &check, k, &mut left.0, &mut left.1);
+            assert_eq!(answer, second(&base, &check, k, &mut right.0, &mut right.1));
+            assert_eq!(left, right);
         }
+    }
+
+    /// The listings that ours is timed against are the same.
+    #[test]
+    fn same_listings() {
+        let ours = |base: &[i32], check: &[i32], k, words: &mut [u32], totals: &mut [i64]| {
+            let listing = super::sentences::<Packed>(base, check, k, words, totals);
+            ((listing.number, listing.place), listing.sentences)
+        };
+        see_same(listed, ours, sentences);
     }
 
     /// The array of a list with up to 20 usable words.

@@ -189,143 +189,57 @@ mod raw {
     use super::{Found, Fragment, Joined, Listing, Move, Rows, Sheet, Status, Total};
 
     // A slice crosses as a pointer and a length.
+    #[rustfmt::skip]
     extern "C" {
         pub fn backoff_check(table: *const i32, table_len: usize) -> Status;
-
         pub fn backoff_build(
-            table: *const i32,
-            table_len: usize,
-            base: *mut i32,
-            base_len: usize,
-            check: *mut i32,
-            check_len: usize,
-            work: *mut u32,
-            work_len: usize,
+            table: *const i32, table_len: usize, base: *mut i32, base_len: usize, check: *mut i32, check_len: usize,
+            work: *mut u32, work_len: usize,
         ) -> Status;
-
         pub fn backoff_lookup(
-            base: *const i32,
-            base_len: usize,
-            check: *const i32,
-            check_len: usize,
-            words: *const u32,
-            words_len: usize,
+            base: *const i32, base_len: usize, check: *const i32, check_len: usize,
+            words: *const u32, words_len: usize,
         ) -> Found;
-
         pub fn backoff_start(
-            base: *const i32,
-            base_len: usize,
-            check: *const i32,
-            check_len: usize,
-            state: *mut i32,
-            state_len: usize,
+            base: *const i32, base_len: usize, check: *const i32, check_len: usize, state: *mut i32, state_len: usize,
         ) -> Status;
-
         pub fn backoff_run(
-            base: *const i32,
-            base_len: usize,
-            check: *const i32,
-            check_len: usize,
-            state: *mut i32,
-            state_len: usize,
-            words: *const u32,
-            words_len: usize,
-            points: *mut i32,
-            points_len: usize,
-            lengths: *mut u8,
-            lengths_len: usize,
+            base: *const i32, base_len: usize, check: *const i32, check_len: usize, state: *mut i32, state_len: usize,
+            words: *const u32, words_len: usize, points: *mut i32, points_len: usize,
+            lengths: *mut u8, lengths_len: usize,
         ) -> Total;
-
         pub fn backoff_plain(
-            table: *const i32,
-            table_len: usize,
-            after_start: bool,
-            words: *const u32,
-            words_len: usize,
-            points: *mut i32,
-            points_len: usize,
-            lengths: *mut u8,
-            lengths_len: usize,
+            table: *const i32, table_len: usize, after_start: bool, words: *const u32, words_len: usize,
+            points: *mut i32, points_len: usize, lengths: *mut u8, lengths_len: usize,
         ) -> Total;
-
         pub fn backoff_unload(
-            base: *const i32,
-            base_len: usize,
-            check: *const i32,
-            check_len: usize,
-            table: *mut i32,
-            table_len: usize,
-            work: *mut u32,
-            work_len: usize,
+            base: *const i32, base_len: usize, check: *const i32, check_len: usize, table: *mut i32, table_len: usize,
+            work: *mut u32, work_len: usize,
         ) -> Status;
-
         pub fn backoff_batch(
-            base: *const i32,
-            base_len: usize,
-            check: *const i32,
-            check_len: usize,
-            words: *const u32,
-            words_len: usize,
-            ends: *const u32,
-            ends_len: usize,
-            points: *mut i32,
-            points_len: usize,
-            lengths: *mut u8,
-            lengths_len: usize,
+            base: *const i32, base_len: usize, check: *const i32, check_len: usize,
+            words: *const u32, words_len: usize, ends: *const u32, ends_len: usize,
+            points: *mut i32, points_len: usize, lengths: *mut u8, lengths_len: usize,
         ) -> Sheet;
-
         pub fn backoff_sentences(
-            base: *const i32,
-            base_len: usize,
-            check: *const i32,
-            check_len: usize,
-            k: u32,
-            words: *mut u32,
-            words_len: usize,
-            totals: *mut i64,
-            totals_len: usize,
+            base: *const i32, base_len: usize, check: *const i32, check_len: usize, k: u32,
+            words: *mut u32, words_len: usize, totals: *mut i64, totals_len: usize,
         ) -> Listing;
-
         pub fn backoff_largest_move(
-            base: *const i32,
-            base_len: usize,
-            check: *const i32,
-            check_len: usize,
-            k: u32,
-            words: *mut u32,
-            words_len: usize,
-            totals: *mut i64,
-            totals_len: usize,
+            base: *const i32, base_len: usize, check: *const i32, check_len: usize, k: u32,
+            words: *mut u32, words_len: usize, totals: *mut i64, totals_len: usize,
         ) -> Move;
-
         pub fn backoff_score_fragment(
-            base: *const i32,
-            base_len: usize,
-            check: *const i32,
-            check_len: usize,
-            words: *const u32,
-            words_len: usize,
+            base: *const i32, base_len: usize, check: *const i32, check_len: usize,
+            words: *const u32, words_len: usize,
         ) -> Joined;
-
         pub fn backoff_join_fragments(
-            base: *const i32,
-            base_len: usize,
-            check: *const i32,
-            check_len: usize,
-            one: Fragment,
-            two: Fragment,
+            base: *const i32, base_len: usize, check: *const i32, check_len: usize, one: Fragment, two: Fragment,
         ) -> Joined;
-
         pub fn backoff_arpa(
-            text: *const u8,
-            text_len: usize,
-            to_be_filled: bool,
-            table: *mut i32,
-            table_len: usize,
-            store: *mut u8,
-            store_len: usize,
+            text: *const u8, text_len: usize, to_be_filled: bool, table: *mut i32, table_len: usize,
+            store: *mut u8, store_len: usize,
         ) -> Rows;
-
         pub fn backoff_fill(table: *const i32, table_len: usize, filled: *mut i32, filled_len: usize) -> Rows;
     }
 }
@@ -445,6 +359,15 @@ pub fn batch(base: &[i32], check: &[i32], words: &[u32], ends: &[u32], points: &
     }
 }
 
+/// A call that lists the sentences of k words over an array.
+type List<A> = unsafe extern "C" fn(*const i32, usize, *const i32, usize, u32, *mut u32, usize, *mut i64, usize) -> A;
+
+fn list<A>(call: List<A>, base: &[i32], check: &[i32], k: u32, words: &mut [u32], totals: &mut [i64]) -> A {
+    unsafe {
+        call(base.as_ptr(), base.len(), check.as_ptr(), check.len(), k, words.as_mut_ptr(), words.len(), totals.as_mut_ptr(), totals.len())
+    }
+}
+
 /// Lists every sentence of `k` words, 1 to 4, with its total, for which it is scored from `<s>` and closed with a 3. Sentences are made of the usable words: those that have a
 /// row of one word, other than 2 and 3; word 1 is one of them. v usable words, 16 at most, make v<sup>k</sup> sentences; each is listed once, in ascending order, the first word
 /// weighing most. `words` has at least k items for each sentence, `totals` at least one; for any array `k` times [`limits::LISTING_LIMIT`] and
@@ -470,19 +393,7 @@ pub fn batch(base: &[i32], check: &[i32], words: &[u32], ends: &[u32], points: &
 /// assert_eq!(totals, [-53_000, -41_000, -36_000, -24_000]);
 /// ```
 pub fn sentences(base: &[i32], check: &[i32], k: u32, words: &mut [u32], totals: &mut [i64]) -> Listing {
-    unsafe {
-        raw::backoff_sentences(
-            base.as_ptr(),
-            base.len(),
-            check.as_ptr(),
-            check.len(),
-            k,
-            words.as_mut_ptr(),
-            words.len(),
-            totals.as_mut_ptr(),
-            totals.len(),
-        )
-    }
+    list(raw::backoff_sentences, base, check, k, words, totals)
 }
 
 /// Lists the sentences of `k` words as [`sentences`] does, and finds how far one word can move a total: the largest distance between the totals of two of them that differ at one
@@ -509,19 +420,7 @@ pub fn sentences(base: &[i32], check: &[i32], k: u32, words: &mut [u32], totals:
 /// assert_eq!(totals, [-53_000, -41_000, -36_000, -24_000]);
 /// ```
 pub fn largest_move(base: &[i32], check: &[i32], k: u32, words: &mut [u32], totals: &mut [i64]) -> Move {
-    unsafe {
-        raw::backoff_largest_move(
-            base.as_ptr(),
-            base.len(),
-            check.as_ptr(),
-            check.len(),
-            k,
-            words.as_mut_ptr(),
-            words.len(),
-            totals.as_mut_ptr(),
-            totals.len(),
-        )
-    }
+    list(raw::backoff_largest_move, base, check, k, words, totals)
 }
 
 /// Scores words without left context: total and state are those of a run from nine zeros. It writes nothing.

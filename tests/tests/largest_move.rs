@@ -1,22 +1,19 @@
 //! `backoff_largest_move` against the second implementation over any arrays, against the listing of `backoff_sentences`, and against how far T-11 lets a total be moved.
 
+mod listing;
+
+use listing::{build, rubbish};
 use std::cmp::Reverse;
 use std::collections::{BTreeSet, HashMap};
-use tests::arrays::{built, drawn, each_change, spread, Arrays};
-use tests::guard::Guarded;
-use tests::lists::{self, even, table, tiny_usable, with_usable};
+use tests::arrays::{built, spread, Arrays};
+use tests::lists::{self, even, with_usable};
 use tests::random::Random;
 use tests::reference::largest_move::{largest_move, Answer};
 use tests::reference::list::{Row, ACCEPTED, LARGEST_B};
 use tests::reference::sentences::{LONGEST_SENTENCE, MOST_USABLE};
 
 /// What the call leaves behind.
-#[derive(Clone, Debug, PartialEq, Eq)]
-struct Outcome {
-    answer: Answer,
-    words: Vec<u32>,
-    totals: Vec<i64>,
-}
+type Outcome = listing::Outcome<Answer>;
 
 impl Outcome {
     fn number(&self) -> u32 {
@@ -28,26 +25,19 @@ fn answer_of(answer: backoff::Move) -> Answer {
     ((answer.number, answer.place), answer.distance, (answer.first, answer.second))
 }
 
-/// Slices of these lengths that hold random numbers.
-fn rubbish(random: &mut Random, sizes: (usize, usize)) -> (Vec<u32>, Vec<i64>) {
-    ((0..sizes.0).map(|_| random.bits() as u32).collect(), (0..sizes.1).map(|_| random.bits() as i64).collect())
-}
-
 /// What the call answers and leaves, where its slices held these numbers. "Slices, what they then hold and refusals are T-12's; a refused call answers zeros."
 fn called(arrays: &Arrays, k: u32, words: &[u32], totals: &[i64]) -> Outcome {
-    let (mut base, mut check) = (Guarded::new(&arrays.base), Guarded::new(&arrays.check));
-    let (mut lent_words, mut lent_totals) = (Guarded::new(words), Guarded::new(totals));
-    let answer = backoff::largest_move(base.lend(), check.lend(), k, lent_words.lend(), lent_totals.lend());
-    assert!(base.back() == arrays.base && check.back() == arrays.check, "a slice lent for reading was written");
-    let outcome = Outcome { answer: answer_of(answer), words: lent_words.back().to_vec(), totals: lent_totals.back().to_vec() };
+    let ours = listing::called(arrays, words, totals, |base, check, words, totals| {
+        answer_of(backoff::largest_move(base, check, k, words, totals))
+    });
     let (mut words, mut totals) = (words.to_vec(), totals.to_vec());
     let listing = backoff::sentences(&arrays.base, &arrays.check, k, &mut words, &mut totals);
-    assert_eq!((answer.number, answer.place), (listing.number, listing.place), "refused as a listing");
-    assert!(outcome.words == words && outcome.totals == totals, "the slices of a listing");
-    if outcome.number() != 0 {
-        assert_eq!((answer.distance, answer.first, answer.second), (0, 0, 0), "zeros where refused");
+    assert_eq!(ours.answer.0, (listing.number, listing.place), "refused as a listing");
+    assert!(ours.words == words && ours.totals == totals, "the slices of a listing");
+    if ours.number() != 0 {
+        assert_eq!((ours.answer.1, ours.answer.2), (0, (0, 0)), "zeros where refused");
     }
-    outcome
+    ours
 }
 
 /// What the call and the second implementation agree on, with slices to be written that have these lengths and held random numbers.
@@ -70,14 +60,6 @@ fn shown(arrays: &Arrays, outcome: &Outcome) -> String {
 /// The answer with slices that the listing just fills.
 fn whole(random: &mut Random, arrays: &Arrays, k: u32) -> Answer {
     agreed(random, arrays, k, arrays.listing(k)).answer
-}
-
-/// The array that the call under test builds.
-fn build(rows: &[Row]) -> Arrays {
-    let mut arrays = built(rows, 0);
-    let mut work = vec![0; rows.len()];
-    assert_eq!(backoff::build(&table(rows), &mut arrays.base, &mut arrays.check, &mut work).number, 0);
-    arrays
 }
 
 fn row(words: &[i32], p: i32, b: i32) -> Row {
@@ -220,7 +202,7 @@ fn longest_listings() {
     }
 }
 
-/// The lists of `crates/grader/specs/OneWordExample.antt`: their largest move is the most that the rule allows, 1, 4 and 7 times the largest back-off.
+/// The lists of `crates/theorems/specs/OneWordExample.antt`: their largest move is the most that the rule allows, 1, 4 and 7 times the largest back-off.
 #[test]
 fn extreme_lists() {
     let mut random = Random::new(6);
@@ -281,27 +263,13 @@ fn refusals() {
     }
 }
 
-/// Each check in turn with all those behind it, in every combination: 11, 22 by either cause, 15 by either slice, 12.
+/// Each check in turn with all those behind it.
 #[test]
 fn order_of_refusals() {
-    let mut random = Random::new(8);
-    let (few, many) = (built(&lists::sample(), 0), built(&with_usable(&mut random, 3, 17, 9), 0));
-    for faults in 0..1 << 6 {
-        let has = |fault: usize| faults >> fault & 1 == 1;
-        let mut arrays = if has(2) { many.clone() } else { few.clone() };
-        if has(0) {
-            arrays.check[0] = 43;
-        }
-        if has(5) {
-            arrays.base[3] = 0;
-        }
-        let sizes = (if has(3) { 17 } else { 18 }, if has(4) { 8 } else { 9 });
-        let expected = match (0..6).find(|&fault| has(fault)) {
-            None => (ACCEPTED, 30_000, (4, 6)),
-            Some(fault) => (([11, 22, 22, 15, 15, 12][fault], 0), 0, (0, 0)),
-        };
-        assert_eq!(agreed(&mut random, &arrays, if has(1) { 0 } else { 2 }, sizes).answer, expected, "{faults:06b}");
-    }
+    listing::order_of_refusals(&mut Random::new(8), |random, arrays, k, sizes, number| {
+        let expected = if number == 0 { (ACCEPTED, 30_000, (4, 6)) } else { ((number, 0), 0, (0, 0)) };
+        assert_eq!(agreed(random, arrays, k, sizes).answer, expected, "k {k}, {sizes:?}");
+    });
 }
 
 /// Broken markers, and the root without child 1, 2 or 3.
@@ -326,31 +294,17 @@ fn damaged_sample() {
 /// Every single number of a small array changed to each of several values.
 #[test]
 fn changed_arrays() {
-    let mut random = Random::new(10);
-    let mut met = [0; 23];
-    for i in 0..20 {
-        let arrays = built(&tiny_usable(&mut random, 1 + i % 5), 1);
-        let k = 1 + i as u32 % 3;
-        let (words, totals) = arrays.listing(k);
-        each_change(&arrays, |changed| met[agreed(&mut random, changed, k, (words + 3, totals + 2)).number() as usize] += 1);
-    }
-    assert!([0, 11, 12, 15].iter().all(|&number| met[number] > 0), "{met:?}");
+    listing::changed_arrays(&mut Random::new(10), 20, |random, arrays, k, sizes| agreed(random, arrays, k, sizes).number());
 }
 
 /// Arrays that no build wrote, and k and lengths of any kind.
 #[test]
 fn drawn_arrays() {
-    let mut random = Random::new(11);
-    let mut met = [0; 23];
     let mut pairs = 0;
-    for _ in 0..50_000 {
-        let arrays = drawn(&mut random);
-        let k = if random.chance(10) { random.pick(&[0, 3, 5, u32::MAX]) } else { 1 + random.below(2) as u32 };
-        let (words, totals) = if k <= LONGEST_SENTENCE { arrays.listing(k) } else { (8, 8) };
-        let sizes = ((words + random.below(9)).saturating_sub(1), (totals + random.below(9)).saturating_sub(1));
-        let outcome = agreed(&mut random, &arrays, k, sizes);
-        met[outcome.number() as usize] += 1;
+    listing::drawn_arrays(&mut Random::new(11), &[0, 3, 5, u32::MAX], |random, arrays, k, sizes| {
+        let outcome = agreed(random, arrays, k, sizes);
         pairs += (outcome.answer.1 > 0) as usize;
-    }
-    assert!([0, 12, 15, 22].iter().all(|&number| met[number] > 0) && pairs > 50, "{met:?}, {pairs} moves");
+        outcome.number()
+    });
+    assert!(pairs > 50, "{pairs} moves");
 }

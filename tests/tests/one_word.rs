@@ -201,7 +201,7 @@ fn apart(rows: &[Row], one: &[u32], two: &[u32]) -> i64 {
     by_runs.abs()
 }
 
-/// The lists of `crates/grader/specs/OneWordExample.antt`, which reach the most that the rule allows.
+/// The lists of `crates/theorems/specs/OneWordExample.antt`, which reach the most that the rule allows.
 #[test]
 fn worked_examples() {
     let (most, least) = (LARGEST_B, -LARGEST_B);

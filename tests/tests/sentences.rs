@@ -1,20 +1,17 @@
 //! `backoff_sentences` against the second implementation over any arrays, against a batch, plain scoring and runs of the library, and against the back-off rule.
 
-use tests::arrays::{built, drawn, each_change, spread, Arrays};
-use tests::guard::Guarded;
-use tests::lists::{self, table, tiny_usable, with_usable};
+mod listing;
+
+use listing::{build, called, rubbish};
+use tests::arrays::{built, spread, Arrays};
+use tests::lists::{self, table, with_usable};
 use tests::random::Random;
 use tests::reference::list::{Row, ACCEPTED, LARGEST_WORD, LOWEST_P};
 use tests::reference::rule::Rule;
 use tests::reference::sentences::{sentences, sentences_of, Answer, LONGEST_SENTENCE, MOST_USABLE};
 
 /// What a listing leaves behind.
-#[derive(Clone, Debug, PartialEq, Eq)]
-struct Outcome {
-    answer: Answer,
-    words: Vec<u32>,
-    totals: Vec<i64>,
-}
+type Outcome = listing::Outcome<Answer>;
 
 impl Outcome {
     fn number(&self) -> u32 {
@@ -28,13 +25,8 @@ fn answer_of(listing: backoff::Listing) -> Answer {
 
 /// What the call and the second implementation agree on, with slices to be written that have these lengths and held random numbers.
 fn agreed(random: &mut Random, arrays: &Arrays, k: u32, sizes: (usize, usize)) -> Outcome {
-    let mut words: Vec<u32> = (0..sizes.0).map(|_| random.bits() as u32).collect();
-    let mut totals: Vec<i64> = (0..sizes.1).map(|_| random.bits() as i64).collect();
-    let (mut base, mut check) = (Guarded::new(&arrays.base), Guarded::new(&arrays.check));
-    let (mut lent_words, mut lent_totals) = (Guarded::new(&words), Guarded::new(&totals));
-    let listing = backoff::sentences(base.lend(), check.lend(), k, lent_words.lend(), lent_totals.lend());
-    assert!(base.back() == arrays.base && check.back() == arrays.check, "a slice lent for reading was written");
-    let ours = Outcome { answer: answer_of(listing), words: lent_words.back().to_vec(), totals: lent_totals.back().to_vec() };
+    let (mut words, mut totals) = rubbish(random, sizes);
+    let ours = called(arrays, &words, &totals, |base, check, words, totals| answer_of(backoff::sentences(base, check, k, words, totals)));
     if [11, 15, 22].contains(&ours.number()) {
         assert!(ours.words == words && ours.totals == totals, "written before {}", ours.number());
     }
@@ -54,14 +46,6 @@ fn differing(arrays: &Arrays, k: u32, ours: &Outcome, second: &Outcome) -> Strin
 /// A listing into slices that it just fills.
 fn whole(random: &mut Random, arrays: &Arrays, k: u32) -> Outcome {
     agreed(random, arrays, k, arrays.listing(k))
-}
-
-/// The array that the call under test builds.
-fn build(rows: &[Row]) -> Arrays {
-    let mut arrays = built(rows, 0);
-    let mut work = vec![0; rows.len()];
-    assert_eq!(backoff::build(&table(rows), &mut arrays.base, &mut arrays.check, &mut work).number, 0);
-    arrays
 }
 
 /// The marks alone: word 1 is the one that is usable.
@@ -189,32 +173,13 @@ fn output_lengths() {
     }
 }
 
-/// Each check in turn with all those behind it, in every combination: 11, 22 by either cause, 15 by either slice, 12.
+/// Each check in turn with all those behind it.
 #[test]
 fn order_of_refusals() {
-    let mut random = Random::new(7);
-    let (few, many) = (built(&lists::sample(), 0), built(&with_usable(&mut random, 3, 17, 9), 0));
-    for faults in 0..1 << 6 {
-        let has = |fault: usize| faults >> fault & 1 == 1;
-        let mut arrays = if has(2) { many.clone() } else { few.clone() };
-        if has(0) {
-            arrays.check[0] = 3;
-        }
-        if has(5) {
-            // The node of word 2, which every start reads.
-            arrays.base[3] = 0;
-        }
-        let k = if has(1) { 5 } else { 2 };
-        let sizes = (if has(3) { 17 } else { 18 }, if has(4) { 8 } else { 9 });
-        let expected = match (0..6).find(|&fault| has(fault)) {
-            None => (ACCEPTED, 9),
-            Some(0) => ((11, 0), 0),
-            Some(1 | 2) => ((22, 0), 0),
-            Some(3 | 4) => ((15, 0), 0),
-            Some(_) => ((12, 0), 0),
-        };
-        assert_eq!(agreed(&mut random, &arrays, k, sizes).answer, expected, "{faults:06b}");
-    }
+    listing::order_of_refusals(&mut Random::new(7), |random, arrays, k, sizes, number| {
+        let expected = if number == 0 { (ACCEPTED, 9) } else { ((number, 0), 0) };
+        assert_eq!(agreed(random, arrays, k, sizes).answer, expected, "k {k}, {sizes:?}");
+    });
 }
 
 /// Ways to break a node: a d that is none, and a p out of range, in its marker or in the slot of a longest row.
@@ -361,28 +326,13 @@ fn any_lists() {
 /// Every single number of a small array changed to each of several values.
 #[test]
 fn changed_arrays() {
-    let mut random = Random::new(13);
-    let mut met = [0; 23];
-    for i in 0..30 {
-        let arrays = built(&tiny_usable(&mut random, 1 + i % 5), 1);
-        let k = 1 + i as u32 % 3;
-        let (words, totals) = arrays.listing(k);
-        each_change(&arrays, |changed| met[agreed(&mut random, changed, k, (words + 3, totals + 2)).number() as usize] += 1);
-    }
-    assert!([0, 11, 12, 15].iter().all(|&number| met[number] > 0), "{met:?}");
+    listing::changed_arrays(&mut Random::new(13), 30, |random, arrays, k, sizes| agreed(random, arrays, k, sizes).number());
 }
 
 /// Arrays that no build wrote, and k and lengths of any kind.
 #[test]
 fn drawn_arrays() {
-    let mut random = Random::new(14);
-    let mut met = [0; 23];
-    for _ in 0..50_000 {
-        let arrays = drawn(&mut random);
-        let k = if random.chance(10) { random.pick(&[0, 3, 4, 5, u32::MAX]) } else { 1 + random.below(2) as u32 };
-        let (words, totals) = if k <= LONGEST_SENTENCE { arrays.listing(k) } else { (8, 8) };
-        let sizes = ((words + random.below(9)).saturating_sub(1), (totals + random.below(9)).saturating_sub(1));
-        met[agreed(&mut random, &arrays, k, sizes).number() as usize] += 1;
-    }
-    assert!([0, 12, 15, 22].iter().all(|&number| met[number] > 0), "{met:?}");
+    listing::drawn_arrays(&mut Random::new(14), &[0, 3, 4, 5, u32::MAX], |random, arrays, k, sizes| {
+        agreed(random, arrays, k, sizes).number()
+    });
 }

@@ -10,14 +10,14 @@ use Rattle.backoff.specs.declared.Verdict.{Verdict}
 use Rattle.backoff.specs.declared.Verdict.the-variants.{Accepted, Refused}
 use Rattle.list.specs.Check.{verdictFor}
 use Rattle.arpa_text.specs.Parts.{parts}
-use Rattle.arpa.specs.Words.{recordsOf, storeWith}
-use Rattle.arpa.specs.Reading.{Reading, begun, Lines, done, stopped, readLines}
+use Rattle.arpa_words.specs.Words.{recordsOf, storeWith}
+use Rattle.arpa_lines.specs.Reading.{Reading, unread, Lines, done, stopped, readLines}
 use Rattle.arpa.specs.Outcome.{refusedOutcome, ordered, judged, linesOutcome, readArpa, Leaves}
 use Rattle.arpa.specs.Held.{EndHeld, LinesHeld, Judged, Concluded}
 use Rattle.arpa.specs.declared.Ending.{Ending}
 use Rattle.arpa.specs.declared.Rows.{Rows}
 use Rattle.arpa.specs.declared.Rows.the-variants.{Read, Refused as NotRead}
-use Rattle.arpa.proofs.Stores.{zeroed-length}
+use Rattle.arpa_words.proofs.Stores.{zeroed-length}
 
 not-read : (rows number place : ℕ) → NotRead number place ≡ Read rows → ⊥
 not-read rows number place e = let z : _≡_ {A = ℕ} 0 1 = cc in omega arith
@@ -78,9 +78,9 @@ module _ (room size : ℕ) (t : List ℤ) (s : List ℕ) (e : Ending) where
   lines-store-length (done a) h = ap length (h .2) ∙ zeroed-length size (recordsOf ([] ∷ a .texts))
   lines-store-length (stopped number place) h = h .4
 
-pub lines-sized : (m n room size : ℕ) (t : List ℤ) (s : List ℕ) (e : Ending) (pieces : List (List ℕ)) → m ≡ room → n ≡ size → LinesHeld m n t s (readLines m n begun 1 pieces) e → LinesHeld room size t s (readLines room size begun 1 pieces) e
+pub lines-sized : (m n room size : ℕ) (t : List ℤ) (s : List ℕ) (e : Ending) (pieces : List (List ℕ)) → m ≡ room → n ≡ size → LinesHeld m n t s (readLines m n unread 1 pieces) e → LinesHeld room size t s (readLines room size unread 1 pieces) e
 lines-sized m n room size t s e pieces f g h =
-    subst (λ (k : ℕ). LinesHeld room k t s (readLines room k begun 1 pieces) e) g (subst (λ (k : ℕ). LinesHeld k n t s (readLines k n begun 1 pieces) e) f h)
+    subst (λ (k : ℕ). LinesHeld room k t s (readLines room k unread 1 pieces) e) g (subst (λ (k : ℕ). LinesHeld k n t s (readLines k n unread 1 pieces) e) f h)
 
 -- ---- what a call leaves
 outcome-refused : (filling : Bool) (room size : ℕ) (l : Lines) (number place : ℕ) → linesOutcome filling room size l .answer ≡ NotRead number place → (linesOutcome filling room size l .table ≡ replicate room (pos 0)) × (linesOutcome filling room size l .store ≡ replicate size 0)
@@ -92,11 +92,11 @@ outcome-refused filling room size (done a) number place e = go (verdictFor filli
     go Accepted e = absurd (not-read (length (a .rows)) number place (sym e))
     go (Refused n k) e = (refl, refl)
 
-module _ (filling : Bool) (room size : ℕ) (text : List ℕ) (t : List ℤ) (s : List ℕ) (r : Rows) (c : Concluded filling room size t s (readLines room size begun 1 (parts 10 text)) r) where
+module _ (filling : Bool) (room size : ℕ) (text : List ℕ) (t : List ℤ) (s : List ℕ) (r : Rows) (c : Concluded filling room size t s (readLines room size unread 1 (parts 10 text)) r) where
   pub leaves-refused : (number place : ℕ) → r ≡ NotRead number place → (u : List ℤ) (v : List ℕ) → u ≡ replicate room (pos 0) → v ≡ replicate size 0 → Leaves (readArpa filling room size text) r u v
   unfolding readArpa
   leaves-refused number place e u v f g =
-      let o = outcome-refused filling room size (readLines room size begun 1 (parts 10 text)) number place (sym (c .answer) ∙ e) in
+      let o = outcome-refused filling room size (readLines room size unread 1 (parts 10 text)) number place (sym (c .answer) ∙ e) in
       record { answer-is = c .answer; table-is = f ∙ sym (o .0); store-is = g ∙ sym (o .1) }
 
   pub leaves-read : (rows : ℕ) → r ≡ Read rows → Leaves (readArpa filling room size text) r t s

@@ -1,24 +1,12 @@
 -- Laws for the proofs of this crate and of those above it.
-pub mod Searches
-pub mod Words
-pub mod Stores
-pub mod WordsHeld
-pub mod RowWords
-pub mod HeldTexts
-pub mod TextSteps
-pub mod JoinedRows
-pub mod WordSteps
-pub mod Tables
-pub mod Stages
-pub mod Fields
-pub mod Counts
 pub mod LinesRead
 pub mod RowsHeld
 pub mod Answers
 pub mod RowLines
 pub mod NewTexts
 pub mod LineRows
+pub mod LineByLine
+pub mod Positions
 pub mod Refusals
 pub mod OrderedRows
 pub mod Meaning
-pub mod LongSteps

@@ -18,13 +18,13 @@ use Rattle.arpa_text.specs.declared.Count.{Count}
 use Rattle.arpa_text.specs.declared.Count.the-variants.{Announced, NotInForm}
 use Rattle.arpa_text.specs.Parts.{before}
 use Rattle.arpa_text.specs.Lines.{dataLine, sectionLine, endLine, readCount, Listed, readRow, isText, areTexts}
-use Rattle.arpa.specs.Words.{numberMet, numberGiven, withText}
-use Rattle.arpa.specs.Reading.{Reading, Step, goes, refusedBy, announce, enter, firstSection, countStep, dataStep, closes, closeSection, rowOf, addRow, rowFits, recordFits, wordStep, someMissing, longerStep, rowStep, sectionStep, stageStep, lineStep, Lines, done, stopped, onward, lastPiece, readLines}
+use Rattle.arpa_words.specs.Words.{numberMet, numberGiven, withText, someMissing}
+use Rattle.arpa_lines.specs.Reading.{Reading, Step, goes, refusedBy, announce, enter, firstSection, countStep, dataStep, closes, closeSection, rowOf, addRow, rowFits, recordFits, wordStep, longerStep, rowStep, sectionStep, stageStep, lineStep, Lines, done, stopped, onward, lastPiece, readLines}
 use Rattle.arpa.specs.Meaning.{rowLines, wordCount, lineTexts, lineRow, wordTexts, withNew, newTexts}
-use Rattle.arpa.specs.Held.{TextsSound}
-use Rattle.arpa.specs.declared.Stage.{Stage}
-use Rattle.arpa.specs.declared.Stage.the-variants.{Start, Counts, Section, Ended}
-use Rattle.arpa.proofs.Fields.{read-texts, one-text}
+use Rattle.arpa_words.specs.Held.{TextsSound}
+use Rattle.arpa_lines.specs.declared.Stage.{Stage}
+use Rattle.arpa_lines.specs.declared.Stage.the-variants.{Start, Counts, Section, Ended}
+use Rattle.arpa_lines.proofs.Fields.{read-texts, one-text}
 use Rattle.arpa.proofs.RowLines.{NoTab, row-line, other-line, empty-no-tab, data-no-tab, end-no-tab, section-no-tab, count-no-tab, row-has-tab, count-of-row, row-read, texts-of-row, numbers-of-row, map-equal, row-same-numbers}
 use Rattle.arpa.proofs.NewTexts.{numberIn, Known, RecordsFit, TextRead, text-read, met-is-number, met-known, known-number}
 
@@ -37,7 +37,7 @@ texts-members (suc m) [] e u k = absurd (List·Memᴰ·not-nil k)
 texts-members (suc m) (v ∷ us) e u k =
     ⊎-elim (λ f. ap isText f ∙ and-left (isText v) (areTexts m us) e) (λ n. texts-members m us (and-right (isText v) (areTexts m us) e) u n) (List·Memᴰ·cases-cons k)
 
-none-missing : (f : List ℕ → ℕ) (us : List (List ℕ)) → someMissing (map f us) ≡ false → (u : List ℕ) → List·Memᴰ u us → 0 < f u
+pub none-missing : (f : List ℕ → ℕ) (us : List (List ℕ)) → someMissing (map f us) ≡ false → (u : List ℕ) → List·Memᴰ u us → 0 < f u
 unfolding someMissing
 none-missing f [] e u k = absurd (List·Memᴰ·not-nil k)
 none-missing f (v ∷ us) e u k = go (eqb (f v) 0) refl e (λ h n. none-missing f us h u n)
@@ -56,10 +56,32 @@ pub record Sound (room size : ℕ) (r : Reading) : Type 0 where
   pub records : RecordsFit size (r .texts)
   pub rows : 8 * length (r .rows) ≤ room
 
+-- the one text of a row of the one-word section, and what it brings to the reading r
+pub record WordRow (size : ℕ) (r : Reading) (l : Listed) : Type 0 where
+  pub only : l .texts ≡ getD (l .texts) 0 [] ∷ []
+  pub in-form : isText (getD (l .texts) 0 []) ≡ true
+  pub read : TextRead size (r .texts) (getD (l .texts) 0 []) (numberGiven (r .texts) (getD (l .texts) 0 [])) (withText (r .texts) (numberGiven (r .texts) (getD (l .texts) 0 [])) (getD (l .texts) 0 []))
+
+pub word-row : (size : ℕ) (r : Reading) → TextsSound (r .texts) → (line : List ℕ) (l : Listed) → readRow 1 line ≡ some l → WordRow size r l
+word-row size r sound line l is = record { only = f .1 ∙ ap (λ (u : List ℕ). u ∷ []) (sym same); in-form = form; read = text-read size (r .texts) sound (getD (l .texts) 0 []) form }
+  where
+    f : (u : List ℕ) × (l .texts ≡ u ∷ []) × (isText u ≡ true)
+    f = one-text (l .texts) (read-texts 1 line l is)
+
+    same : getD (l .texts) 0 [] ≡ f .0
+    same = ap (λ (us : List (List ℕ)). getD us 0 []) (f .1)
+
+    form : isText (getD (l .texts) 0 []) ≡ true
+    form = ap isText same ∙ f .2
+
 -- from the reading r to the reading s: the texts met stay met, and keep their numbers
 pub record Goes (r s : Reading) : Type 0 where
   pub still : (u : List ℕ) → isText u ≡ true → Known (r .texts) u → Known (s .texts) u
   pub kept : (u : List ℕ) → 0 < numberIn (drop 3 (r .texts)) u → numberIn (drop 3 (s .texts)) u ≡ numberIn (drop 3 (r .texts)) u
+
+-- each text of a line is one by its form
+abbrev pub InForm : List ℕ → Type 0
+InForm line = (u : List ℕ) → List·Memᴰ u (lineTexts line) → isText u ≡ true
 
 -- one line's row, and its texts
 pub record RowRead (r s : Reading) (line : List ℕ) : Type 0 where
@@ -69,7 +91,7 @@ pub record RowRead (r s : Reading) (line : List ℕ) : Type 0 where
   pub is : readRow (wordCount line) line ≡ some said
   pub news : drop 3 (s .texts) ≡ cond (eqb (wordCount line) 1) (withNew (drop 3 (r .texts)) (getD (lineTexts line) 0 [])) (drop 3 (r .texts))
   pub row : s .rows ≡ r .rows ++ (lineRow (numberIn (drop 3 (s .texts))) line ∷ [])
-  pub in-form : (u : List ℕ) → List·Memᴰ u (lineTexts line) → isText u ≡ true
+  pub in-form : InForm line
   pub known : (u : List ℕ) → List·Memᴰ u (lineTexts line) → Known (s .texts) u
 
 -- a line that brings nothing
@@ -84,7 +106,7 @@ pub record Brings (r s : Reading) (lines : List (List ℕ)) : Type 0 where
   pub said : (line : List ℕ) → List·Memᴰ line lines → (l : Listed) × (readRow (wordCount line) line ≡ some l)
   pub news : drop 3 (s .texts) ≡ newTexts (drop 3 (r .texts)) (wordTexts lines)
   pub rows : s .rows ≡ r .rows ++ map (lineRow (numberIn (drop 3 (s .texts)))) lines
-  pub in-form : (line : List ℕ) → List·Memᴰ line lines → (u : List ℕ) → List·Memᴰ u (lineTexts line) → isText u ≡ true
+  pub in-form : (line : List ℕ) → List·Memᴰ line lines → InForm line
   pub known : (line : List ℕ) → List·Memᴰ line lines → (u : List ℕ) → List·Memᴰ u (lineTexts line) → Known (s .texts) u
 
 brings-none : (r : Reading) → Brings r r []
@@ -202,7 +224,7 @@ module _ (room size : ℕ) (r : Reading) (sound : Sound room size r) where
     in-line : (u : List ℕ) → List·Memᴰ u (lineTexts line) → List·Memᴰ u (l .texts)
     in-line u k = subst (λ (us : List (List ℕ)). List·Memᴰ u us) (texts-of-row m line l is) k
 
-    in-form : (u : List ℕ) → List·Memᴰ u (lineTexts line) → isText u ≡ true
+    in-form : InForm line
     in-form u k = texts-members m (l .texts) are-texts u (in-line u k)
 
     added-rows : (row : List ℤ) → rowFits room r ≡ true → 8 * length (r .rows ++ (row ∷ [])) ≤ room
@@ -221,17 +243,17 @@ module _ (room size : ℕ) (r : Reading) (sound : Sound room size r) where
         (λ e.
         let f = and-left (rowFits room r) (recordFits size k) e in
         let g = leb-true (64 * suc k) size (and-right (rowFits room r) (recordFits size k) e) in (
-          record { texts = x .sound; records = x .fits (sound .records) g; rows = added-rows (rowOf (k ∷ []) (l .p) (l .b)) f },
+          record { texts = w .read .sound; records = w .read .fits (sound .records) g; rows = added-rows (rowOf (k ∷ []) (l .p) (l .b)) f },
           inr
               (record {
-                goes-on = record { still = x .still; kept = x .kept };
+                goes-on = record { still = w .read .still; kept = w .read .kept };
                 tab = row-has-tab m line l is;
                 said = l;
                 is = row-read m line l is;
-                news = x .news ∙ sym news;
+                news = w .read .news ∙ sym news;
                 row = ap (λ (row : List ℤ). r .rows ++ (row ∷ [])) (sym row);
                 in-form = in-form;
-                known = λ u n. subst (λ (v : List ℕ). Known next v) (sym (List·Memᴰ·eq-of-singleton (subst (λ (us : List (List ℕ)). List·Memᴰ u us) (only .0) (in-line u n)))) (x .known);
+                known = λ u n. subst (λ (v : List ℕ). Known next v) (sym (List·Memᴰ·eq-of-singleton (subst (λ (us : List (List ℕ)). List·Memᴰ u us) (w .only) (in-line u n)))) (w .read .known);
               }),
         ))
         (λ e. tt)
@@ -245,14 +267,8 @@ module _ (room size : ℕ) (r : Reading) (sound : Sound room size r) where
         next : List (List ℕ)
         next = withText (r .texts) k text
 
-        only : (l .texts ≡ text ∷ []) × (isText text ≡ true)
-        only =
-            let f = one-text (l .texts) (rw one at are-texts) in
-            let e : text ≡ f .0 = ap (λ (us : List (List ℕ)). getD us 0 []) (f .1) in
-            (f .1 ∙ ap (λ (u : List ℕ). u ∷ []) (sym e), ap isText e ∙ f .2)
-
-        x : TextRead size (r .texts) text k next
-        x = text-read size (r .texts) (sound .texts) text (only .1)
+        w : WordRow size r l
+        w = word-row size r (sound .texts) line l (rw one at is)
 
         news : cond (eqb (wordCount line) 1) (withNew (drop 3 (r .texts)) (getD (lineTexts line) 0 [])) (drop 3 (r .texts)) ≡ withNew (drop 3 (r .texts)) text
         news = rw (eq-eqb (wordCount line) 1 (count-of-row m line l is ∙ one), texts-of-row m line l is) refl
@@ -260,8 +276,8 @@ module _ (room size : ℕ) (r : Reading) (sound : Sound room size r) where
         row : lineRow (numberIn (drop 3 next)) line ≡ rowOf (k ∷ []) (l .p) (l .b)
         row =
             numbers-of-row m line l is (numberIn (drop 3 next))
-            ∙ ap (λ (us : List (List ℕ)). rowOf (map (numberIn (drop 3 next)) us) (l .p) (l .b)) (only .0)
-            ∙ ap (λ (i : ℕ). rowOf (i ∷ []) (l .p) (l .b)) (sym (x .number))
+            ∙ ap (λ (us : List (List ℕ)). rowOf (map (numberIn (drop 3 next)) us) (l .p) (l .b)) (w .only)
+            ∙ ap (λ (i : ℕ). rowOf (i ∷ []) (l .p) (l .b)) (sym (w .read .number))
 
     longer-read : (m ≡ 1 → ⊥) → LineBrings room size r line (longerStep room r l (map (numberMet (r .texts)) (l .texts)))
     unfolding longerStep addRow

@@ -1,25 +1,29 @@
 -- Laws of the lines one by one: what is reached, and what a line and the last piece come to. Assumes nothing.
 use mathlib.Core.Path.{_≡_, refl, sym, ap, subst, _∙_}
-use mathlib.Core.Bool.{Bool}
+use mathlib.Core.Bool.{Bool, true, false, false≢true}
 use mathlib.Core.List.{List, [], _∷_, List·Memᴰ·not-nil}
 use Prim.Native.Nat.{ℕ, zero, suc, _+_, _-_, _<_, _≤_}
 use native.Mathlib.Omega.{arith}
 use lib.Dec.{eqb}
 use lib.IntN.{ℤ, pos}
-use lib.ListN.{length, take, drop, replicate, length-drop}
+use lib.ListN.{length, getD, take, drop, replicate, length-drop}
 use lib.Seq.{drop-drop, take-all}
-use borrow.Author.Tests.{eq-eqb, ne-eqb}
+use borrow.Author.Tests.{eqb-true, eq-eqb, ne-eqb}
+use Rattle.backoff.specs.Refusal.{lineForm}
 use Rattle.arpa_text.specs.Parts.{parts, before}
 use Rattle.arpa_text.proofs.Parts.{parts-one, parts-front}
-use Rattle.arpa.specs.Words.{noTexts, zeroed, recordOf, recordsOf, storeWith}
-use Rattle.arpa.specs.Reading.{Reading, begun, Step, goes, refusedBy, lineStep, onward, lastPiece, readLines}
-use Rattle.arpa.specs.Held.{Held, StepHeld, LinesHeld}
-use Rattle.arpa.specs.declared.Stage.the-variants.{Start}
-use Rattle.arpa.specs.declared.Progress.{Progress}
-use Rattle.arpa.specs.declared.Stepped.{Stepped}
+use Rattle.arpa_words.specs.Words.{noTexts, zeroed, recordOf, recordsOf, storeWith}
+use Rattle.arpa_lines.specs.Reading.{Reading, unread, Step, goes, refusedBy, lineStep, done, stopped, onward, lastPiece, readLines}
+use Rattle.arpa_lines.specs.Held.{TableHeld, onesOf, Held, StepHeld}
+use Rattle.arpa.specs.Held.{EndHeld, LinesHeld}
+use Rattle.arpa_lines.specs.declared.Stage.{Stage}
+use Rattle.arpa_lines.specs.declared.Stage.the-variants.{Start, Counts, Section, Ended}
+use Rattle.arpa_lines.specs.declared.Progress.{Progress}
+use Rattle.arpa_lines.specs.declared.Stepped.{Stepped}
 use Rattle.arpa.specs.declared.Ending.{Ending}
-use Rattle.arpa.proofs.Fields.{parts-some}
-use Rattle.arpa.proofs.Words.{none-met, no-texts-sound}
+use Rattle.arpa_lines.proofs.Stages.{announced-at, held-at}
+use Rattle.arpa_lines.proofs.Fields.{parts-some}
+use Rattle.arpa_words.proofs.Words.{none-met, no-texts-sound}
 
 -- ---- before the first line
 zeroed-zeros : (n k : ℕ) → zeroed n (replicate k 0) ≡ replicate n 0
@@ -35,7 +39,7 @@ no-texts-stored n = sym (zeroed-zeros n 256)
 abbrev pub firstProgress : Progress
 firstProgress = record { stage = Start; counts = 0 ∷ 0 ∷ 0 ∷ 0 ∷ 0 ∷ []; order = 0; lines = 0; rows = 0; words = 4; buckets = 1 }
 
-pub held-begun : (t : List ℤ) (s : List ℕ) → t ≡ replicate (length t) (pos 0) → s ≡ replicate (length s) 0 → Held (length t) (length s) t s firstProgress begun
+pub held-begun : (t : List ℤ) (s : List ℕ) → t ≡ replicate (length t) (pos 0) → s ≡ replicate (length s) 0 → Held (length t) (length s) t s firstProgress unread
 held-begun t s z y = record {
   table-long = refl;
   store-long = refl;
@@ -55,6 +59,41 @@ held-begun t s z y = record {
   sound = λ row m. absurd (List·Memᴰ·not-nil m);
   at-stage = record { rows = refl; texts = refl; table = z };
 }
+
+-- ---- the end of the text
+pub not-ended : (st : Stage) (a : Reading) (k : ℕ) (piece : List ℕ) → (st ≡ Ended → ⊥) → lastPiece st a k piece ≡ stopped lineForm k
+not-ended Start a k piece n = refl
+not-ended Counts a k piece n = refl
+not-ended (Section m) a k piece n = refl
+not-ended Ended a k piece n = absurd (n refl)
+
+pub piece-left : (st : Stage) (a : Reading) (k : ℕ) (piece : List ℕ) → st ≡ Ended → eqb (length piece) 0 ≡ false → lastPiece st a k piece ≡ stopped lineForm k
+piece-left st a k [] e f = absurd (false≢true (sym f))
+piece-left st a k (c ∷ piece) e f = ap (λ (x : Stage). lastPiece x a k (c ∷ piece)) e
+
+pub no-piece-left : (st : Stage) (a : Reading) (k : ℕ) (piece : List ℕ) → st ≡ Ended → eqb (length piece) 0 ≡ true → lastPiece st a k piece ≡ done a
+no-piece-left st a k [] e f = ap (λ (x : Stage). lastPiece x a k []) e
+no-piece-left st a k (c ∷ piece) e f = absurd (omega (arith, eqb-true (suc (length piece)) 0 f))
+
+pub end-held : (room size : ℕ) (t : List ℤ) (s : List ℕ) (p : Progress) (a : Reading) (h : Held room size t s p a) → p .stage ≡ Ended → EndHeld t (p .rows) (getD (p .counts) 0 0) (p .words) a
+end-held room size t s p a h st =
+    let i = held-at room size t s p a h Ended st in
+    let l = i .1 in
+    let f : onesOf a ≡ getD (p .counts) 0 0 = announced-at room size t s p a h 0 (i .0) in
+    let ones = l .ones in
+    let words = l .words in
+    let r = h .row-room in
+    let e = h .table-long in
+    record {
+      count = h .rows;
+      row-room = omega arith;
+      fewer = omega arith;
+      next = h .words;
+      sound = h .sound;
+      word-count = omega arith;
+      table = λ x. subst (λ (n : ℕ). TableHeld t (a .rows) n) f (l .table x);
+      free = λ i x. l .free i (omega arith);
+    }
 
 -- ---- line by line
 module _ (room size : ℕ) where
@@ -86,7 +125,7 @@ module _ (room size : ℕ) where
   pub record Reached (text : List ℕ) (t : List ℤ) (s : List ℕ) (p : Progress) (place at : ℕ) : Type 0 where
     pub reading : Reading
     pub held : Held room size t s p reading
-    pub same : readLines room size begun 1 (parts 10 text) ≡ readLines room size reading place (parts 10 (drop at text))
+    pub same : readLines room size unread 1 (parts 10 text) ≡ readLines room size reading place (parts 10 (drop at text))
     pub within : at ≤ length text
     pub lines : place ≤ at + 1
 
@@ -97,7 +136,7 @@ module _ (room size : ℕ) where
     found-is : b ≡ before 10 (drop at text)
     found-is = found ∙ ap (before 10) rest-is
 
-    pub last-line : at + b ≡ length text → (empty : Bool) → empty ≡ eqb at (at + b) → (r : Ending) → ((a : Reading) (room size : ℕ) (t : List ℤ) (s : List ℕ) (piece : List ℕ) → Held room size t s p a → empty ≡ eqb (length piece) 0 → LinesHeld room size t s (lastPiece (a .stage) a place piece) r) → LinesHeld room size t s (readLines room size begun 1 (parts 10 text)) r
+    pub last-line : at + b ≡ length text → (empty : Bool) → empty ≡ eqb at (at + b) → (r : Ending) → ((a : Reading) (room size : ℕ) (t : List ℤ) (s : List ℕ) (piece : List ℕ) → Held room size t s p a → empty ≡ eqb (length piece) 0 → LinesHeld room size t s (lastPiece (a .stage) a place piece) r) → LinesHeld room size t s (readLines room size unread 1 (parts 10 text)) r
     unfolding readLines
     last-line e empty f r h =
         let l = length-drop at text in
@@ -118,7 +157,7 @@ module _ (room size : ℕ) where
       pub the-line : take (at + b - at) (drop at text) ≡ take b (drop at text)
       the-line = let e : at + b - at ≡ b = omega arith in rw e
 
-      lines-on : readLines room size begun 1 (parts 10 text) ≡ onward (λ (a : Reading). readLines room size a (suc place) (parts 10 (drop (at + b + 1) text))) place (lineStep room size (x .reading) (take (at + b - at) (drop at text)))
+      lines-on : readLines room size unread 1 (parts 10 text) ≡ onward (λ (a : Reading). readLines room size a (suc place) (parts 10 (drop (at + b + 1) text))) place (lineStep room size (x .reading) (take (at + b - at) (drop at text)))
       lines-on =
           let e : at + (b + 1) ≡ at + b + 1 = omega arith in
           x .same
@@ -128,7 +167,7 @@ module _ (room size : ℕ) where
           ∙ ap (λ (l : List ℕ). onward (λ (a : Reading). readLines room size a (suc place) (parts 10 (drop (at + b + 1) text))) place (lineStep room size (x .reading) l)) (sym the-line)
 
       module _ (t′ : List ℤ) (s′ : List ℕ) (r : Stepped) (h : StepHeld room size t′ s′ (lineStep room size (x .reading) (take (at + b - at) (drop at text))) r) where
-        pub line-stops : (r .fault ≡ 0 → ⊥) → (e : Ending) → (e .fault ≡ r .fault) × (e .place ≡ place) → LinesHeld room size t′ s′ (readLines room size begun 1 (parts 10 text)) e
+        pub line-stops : (r .fault ≡ 0 → ⊥) → (e : Ending) → (e .fault ≡ r .fault) × (e .place ≡ place) → LinesHeld room size t′ s′ (readLines room size unread 1 (parts 10 text)) e
         line-stops n e f =
             let st = lineStep room size (x .reading) (take (at + b - at) (drop at text)) in
             let d = step-stops t′ s′ st r h n in
@@ -151,7 +190,7 @@ module _ (room size : ℕ) where
 
   pub reached-start : (text : List ℕ) (t : List ℤ) (s : List ℕ) → length t ≡ room → length s ≡ size → t ≡ replicate (length t) (pos 0) → s ≡ replicate (length s) 0 → Reached text t s firstProgress 1 0
   reached-start text t s e f z y = record {
-    reading = begun;
+    reading = unread;
     held = rw (sym e, sym f) (held-begun t s z y);
     same = refl;
     within = omega arith;

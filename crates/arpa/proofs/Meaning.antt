@@ -1,55 +1,57 @@
--- What an accepted reading means: `reads-the-lines`, and for every answer `read-means`. Assumes nothing.
+-- What every answer means, `read-means`, and of an accepted reading `reads-the-lines`. Assumes nothing.
 use mathlib.Core.Path.{_≡_, refl, sym, ap, ap₂, _∙_, subst}
-use mathlib.Core.Logic.{_↔_, ⊎-elim}
+use mathlib.Core.Logic.{⊎-elim}
 use mathlib.Core.Bool.{Bool, true, false, _&&_}
 use mathlib.Core.List.{List, [], _∷_, _++_, map, List·Memᴰ, List·Memᴰ·head, Memᴰ·of-map}
 use Prim.Native.Nat.{ℕ, zero, suc, _+_, _*_, _-_, _/_, _<_, _≤_}
 use native.Mathlib.Omega.{arith}
 use lib.Dec.{lit<}
 use lib.IntN.{ℤ, pos}
-use lib.ListN.{length, getD, take, drop, replicate, length-map, length-drop}
+use lib.ListN.{length, getD, take, drop, replicate, length-map, length-drop, length-replicate}
 use lib.Seq.{getD-drop, take-at}
 use Rattle.integer.proofs.Ranges.{and-left, and-right, lt-or-ge}
 use Rattle.backoff.specs.Limits.{textLimit, unknownWord, startWord, endWord}
 use Rattle.backoff.specs.Model.{AcceptedModel}
-use Rattle.backoff.specs.Refusal.{numberOf as verdictNumber}
+use Rattle.backoff.specs.Refusal.{numberOf}
 use Rattle.backoff.specs.Words.{sameWords}
 use Rattle.backoff.specs.NineNumbers.{padded}
 use Rattle.backoff.proofs.NineNumbers.{length-padded}
 use Rattle.backoff.specs.declared.Verdict.{Verdict}
 use Rattle.backoff.specs.declared.Verdict.the-variants.{Accepted, Refused}
-use Rattle.list.specs.Table.{rowsOf, words}
-use Rattle.list.specs.Search.{findIn, isAt}
+use Rattle.rows.specs.Table.{rowsOf, words}
+use Rattle.row_search.specs.Search.{findIn, isAt}
+use Rattle.row_search.specs.declared.Found.{Found}
+use Rattle.row_search.proofs.Search.{found-words, is-at}
 use Rattle.list.specs.Check.{reservedListed, verdictFor, orElse}
 use Rattle.list.specs.ListModel.{modelOf}
-use Rattle.list.specs.declared.Found.{Found}
-use Rattle.list.proofs.Search.{found-words, is-at}
 use Rattle.list.proofs.Check.{checked-reserved, accepted-refused, checked-number}
 use Rattle.list.proofs.ListModel.{accepted-model}
+use Rattle.list.proofs.Meaning.{refused-verdict}
 use Rattle.row_order.specs.RowOrder.{rowAt, joined, sortBy, rowBefore}
 use Rattle.row_order.proofs.Tags.{alone-words}
 use Rattle.word_index.specs.Texts.{textOf, textsFrom, searchFrom, givenBy}
 use Rattle.arpa_text.specs.Parts.{parts}
 use Rattle.arpa_text.specs.Lines.{Listed, isText, allAbove}
-use Rattle.arpa.specs.Words.{unknownText, startText, endText, reservedNumber, numberMet, recordsOf, storeWith}
-use Rattle.arpa.specs.Reading.{Reading, begun, Lines, done, stopped, readLines, rowOf}
-use Rattle.arpa.specs.Outcome.{refusedOutcome, ordered, judged, linesOutcome, readArpa, Leaves, numberOf, rowCount}
-use Rattle.arpa.specs.Meaning.{rowLines, textsIn, lineTexts, rowWith, lineRow, wordTexts, newTexts, numberStored, ReadsTheLines, ReadMeans}
+use Rattle.arpa_words.specs.Words.{unknownText, startText, endText, reservedNumber, numberMet, recordsOf, storeWith}
+use Rattle.arpa_lines.specs.Reading.{Reading, unread, Lines, done, stopped, readLines, rowOf}
+use Rattle.arpa.specs.Outcome.{Outcome, refusedOutcome, ordered, judged, linesOutcome, readArpa, Leaves, readNumber, readPlace, rowCount}
+use Rattle.arpa.specs.Meaning.{rowLines, textsIn, lineTexts, rowWith, lineRow, wordTexts, newTexts, numberStored, EachItsOwn, ReadsTheLines, numberBy, AllRead, listOf, ReadRefusedBy, bad-list, ReadMeans}
 use Rattle.arpa.specs.declared.Rows.{Rows}
 use Rattle.arpa.specs.declared.Rows.the-variants.{Read}
-use Rattle.arpa.proofs.Searches.{search-told, texts-are}
-use Rattle.arpa.proofs.Words.{text-some, text-short, none-met, no-texts-sound, reserved-same, placed-at}
-use Rattle.arpa.proofs.Stores.{zeroed-length, record-text-there}
-use Rattle.arpa.proofs.JoinedRows.{Eights, row-eight, joined-length}
+use Rattle.arpa_words.proofs.Searches.{search-told, texts-are}
+use Rattle.arpa_words.proofs.Words.{text-some, text-short, none-met, no-texts-sound, reserved-same, placed-at}
+use Rattle.arpa_words.proofs.Stores.{zeroed-length, record-text-there}
+use Rattle.arpa_lines.proofs.JoinedRows.{Eights, row-eight, joined-length}
 use Rattle.arpa.proofs.RowsHeld.{padded-zeros, order-length}
 use Rattle.arpa.proofs.RowLines.{map-equal, row-same-numbers}
 use Rattle.arpa.proofs.NewTexts.{numberIn, Known, search-more, known-is-number, known-number}
 use Rattle.arpa.proofs.LineRows.{Sound, Brings, LinesBring, lines-read}
 use Rattle.arpa.proofs.Refusals.{LinesNumbered, lines-numbered}
+use Rattle.arpa.proofs.LineByLine.{number-by, LinesTold, all-told}
 use Rattle.arpa.proofs.OrderedRows.{order-joined, sorted-row, one-word-row}
 
 -- ---- before the first line
-begun-sound : (room size : ℕ) → Sound room size begun
+begun-sound : (room size : ℕ) → Sound room size unread
 begun-sound room size = record { texts = no-texts-sound; records = λ j l n. absurd (n (none-met j)); rows = omega arith }
 
 -- ---- numbers from 4 on
@@ -87,18 +89,8 @@ texts-split s k (suc a) b =
     let f : k + suc a ≡ suc k + a = omega arith in
     rw (e, f) (ap (λ (us : List (List ℕ)). textOf s k ∷ us) (texts-split s (suc k) a b))
 
--- ---- an accepted reading
-module _ (room size : ℕ) (r : Reading) (sound : Sound room size r) (lines : List (List ℕ)) (brings : Brings begun r lines) (filling : Bool) (accepted : verdictFor filling (ordered r) ≡ Accepted) where
-  abbrev news : List (List ℕ)
-  news = newTexts [] (wordTexts lines)
-
-  abbrev table : List ℤ
-  table = padded room (ordered r)
-
-  abbrev store : List ℕ
-  store = storeWith size (r .texts)
-
-  -- ---- rows
+-- ---- the rows of a reading
+module _ (r : Reading) (lines : List (List ℕ)) (brings : Brings unread r lines) where
   line-eight : (number : List ℕ → ℕ) (line : List ℕ) → List·Memᴰ line lines → length (lineRow number line) ≡ 8
   unfolding lineRow
   line-eight number line m =
@@ -118,14 +110,34 @@ module _ (room size : ℕ) (r : Reading) (sound : Sound room size r) (lines : Li
   unfolding ordered
   ordered-long = order-length (joined (r .rows)) (length (r .rows)) (joined-length (r .rows) eights)
 
+  row-count : length (r .rows) ≡ length lines
+  row-count = ap length (brings .rows) ∙ simp length-map refl
+
+  -- by the numbers that the lines give
+  ordered-by : ordered r ≡ joined (sortBy rowBefore (map (lineRow (numberBy lines)) lines))
+  ordered-by =
+      ordered-is
+      ∙ ap (λ (rows : List (List ℤ)). joined (sortBy rowBefore rows))
+      (brings .rows ∙ map-equal (lineRow (numberIn (drop 3 (r .texts)))) (lineRow (numberBy lines)) lines
+      (λ line m. row-same-numbers (numberIn (drop 3 (r .texts))) (numberBy lines) line (λ u n. ap (λ (ns : List (List ℕ)). numberIn ns u) (brings .news) ∙ sym (number-by lines u))))
+
+-- ---- an accepted reading
+module _ (room size : ℕ) (r : Reading) (sound : Sound room size r) (lines : List (List ℕ)) (brings : Brings unread r lines) (filling : Bool) (accepted : verdictFor filling (ordered r) ≡ Accepted) where
+  abbrev news : List (List ℕ)
+  news = newTexts [] (wordTexts lines)
+
+  abbrev table : List ℤ
+  table = padded room (ordered r)
+
+  abbrev store : List ℕ
+  store = storeWith size (r .texts)
+
+  -- ---- rows
   table-front : take (8 * length (r .rows)) table ≡ ordered r
   table-front =
       let l = sound .rows in
-      let e = ordered-long in
-      ap (take (8 * length (r .rows))) (padded-zeros room (ordered r) (omega arith)) ∙ take-at (ordered r) (replicate (room - length (ordered r)) (pos 0)) (8 * length (r .rows)) ordered-long
-
-  row-count : length (r .rows) ≡ length lines
-  row-count = ap length (brings .rows) ∙ simp length-map refl
+      let e = ordered-long r lines brings in
+      ap (take (8 * length (r .rows))) (padded-zeros room (ordered r) (omega arith)) ∙ take-at (ordered r) (replicate (room - length (ordered r)) (pos 0)) (8 * length (r .rows)) e
 
   -- ---- the reserved texts are met
   abbrev number : List ℕ → ℕ
@@ -141,7 +153,7 @@ module _ (room size : ℕ) (r : Reading) (sound : Sound room size r) (lines : Li
 
   listed-row : (i : ℕ) → i < rowsOf (ordered r) → List·Memᴰ (rowAt (ordered r) i) (r .rows)
   listed-row i l =
-      subst (λ (t : List ℤ). List·Memᴰ (rowAt t i) (r .rows)) (sym ordered-is) (sorted-row (r .rows) eights i (subst (λ (t : List ℤ). i < rowsOf t) ordered-is l))
+      subst (λ (t : List ℤ). List·Memᴰ (rowAt t i) (r .rows)) (sym (ordered-is r lines brings)) (sorted-row (r .rows) (eights r lines brings) i (subst (λ (t : List ℤ). i < rowsOf t) (ordered-is r lines brings) l))
 
   -- a line of the reserved word k + 1 has its text
   reserved-line : (k : ℕ) → k < 3 → (line : List ℕ) → List·Memᴰ line lines → (l : Listed) → lineTexts line ≡ l .texts → map number (l .texts) ≡ suc k ∷ []
@@ -266,7 +278,7 @@ module _ (room size : ℕ) (r : Reading) (sound : Sound room size r) (lines : Li
       ap (λ (j : ℕ). getD (textsFrom store 1 records) j []) g ∙ w .1 .same)
       (search-told u 1 (textsFrom store 1 records))
 
-  same-text : (u v : List ℕ) → 0 < numberStored store u → 0 < numberStored store v → (numberStored store u ≡ numberStored store v) ↔ (u ≡ v)
+  same-text : EachItsOwn store
   same-text u v l m =
       (λ e. sym (stored-text u l) ∙ ap (λ (n : ℕ). getD (textsFrom store 1 records) (n - 1) []) e ∙ stored-text v m, λ e. ap (numberStored store) e)
 
@@ -320,7 +332,7 @@ module _ (room size : ℕ) (r : Reading) (sound : Sound room size r) (lines : Li
   listed-table : table ≡ padded (length table) (joined (sortBy rowBefore (map (lineRow (numberStored store)) lines)))
   listed-table =
       ap₂ padded (sym (length-padded room (ordered r)))
-      (ordered-is ∙ ap (λ (rows : List (List ℤ)). joined (sortBy rowBefore rows)) (brings .rows ∙ map-equal (lineRow number) (lineRow (numberStored store)) lines row-numbers))
+      (ordered-is r lines brings ∙ ap (λ (rows : List (List ℤ)). joined (sortBy rowBefore rows)) (brings .rows ∙ map-equal (lineRow number) (lineRow (numberStored store)) lines row-numbers))
 
   known-stored : (line : List ℕ) → List·Memᴰ line lines → (u : List ℕ) → List·Memᴰ u (lineTexts line) → 0 < numberStored store u
   known-stored line m u n =
@@ -332,7 +344,7 @@ module _ (room size : ℕ) (r : Reading) (sound : Sound room size r) (lines : Li
 
 -- ---- what every answer means
 module _ (filling : Bool) (room size : ℕ) (text : List ℕ) where
-  accepted-means : (r : Reading) → Sound room size r → Brings begun r (rowLines (parts 10 text)) → verdictFor filling (ordered r) ≡ Accepted
+  accepted-means : (r : Reading) → Sound room size r → Brings unread r (rowLines (parts 10 text)) → verdictFor filling (ordered r) ≡ Accepted
       → ReadsTheLines filling text (length (r .rows)) (padded room (ordered r)) (storeWith size (r .texts)) × (filling ≡ false → AcceptedModel (modelOf (take (8 * length (r .rows)) (padded room (ordered r)))))
   unfolding reservedNumber sameWords isText allAbove
   accepted-means r sound brings accepted =
@@ -341,7 +353,7 @@ module _ (filling : Bool) (room size : ℕ) (text : List ℕ) where
       let listed : verdictFor filling (take (8 * length (r .rows)) (padded room (ordered r))) ≡ Accepted = ap (verdictFor filling) front ∙ accepted in (
         record {
           in-form = brings .said;
-          count = row-count room size r sound lines brings filling accepted;
+          count = row-count r lines brings;
           listed = listed-table room size r sound lines brings filling accepted;
           stored = ap₂ storeWith (sym (store-long room size r sound lines brings filling accepted)) (texts-met room size r sound lines brings filling accepted);
           unknown = reserved-stored room size r sound lines brings filling accepted 0 unknownText (lit< tt) refl refl (unknown-met room size r sound lines brings filling accepted);
@@ -355,28 +367,46 @@ module _ (filling : Bool) (room size : ℕ) (text : List ℕ) where
         λ z. accepted-model (take (8 * length (r .rows)) (padded room (ordered r))) (rw z at listed),
       )
 
-  judged-means : (r : Reading) → Sound room size r → Brings begun r (rowLines (parts 10 text)) → (v : Verdict) → verdictFor filling (ordered r) ≡ v
-      → ReadMeans filling text (numberOf (judged room size r v .answer)) (rowCount (judged room size r v .answer)) (judged room size r v .table) (judged room size r v .store)
+  abbrev Means : Outcome → Type 0
+  Means o = ReadMeans filling text (readNumber (o .answer)) (readPlace (o .answer)) (rowCount (o .answer)) (o .table) (o .store)
+
+  refused-means : (number place : ℕ) → (number ≡ 0 → ⊥) → ReadRefusedBy filling room size text number place → Means (refusedOutcome room size number place)
   unfolding refusedOutcome
-  judged-means r sound brings Accepted e =
+  refused-means number place some by = record {
+    lines = λ z. absurd (some z);
+    model = λ z. absurd (some z);
+    all-read = λ z. absurd (some z);
+    no-place = λ z. absurd (some z);
+    refused = λ z. rw (length-replicate room (pos 0), length-replicate {A = ℕ} size 0) by;
+  }
+
+  judged-means : (r : Reading) → Sound room size r → Brings unread r (rowLines (parts 10 text)) → AllRead room size text → (v : Verdict) → verdictFor filling (ordered r) ≡ v → Means (judged room size r v)
+  unfolding storeWith
+  judged-means r sound brings all Accepted e =
       let m = accepted-means r sound brings e in
-      record { lines = λ z. m .0; model = λ z. m .1 }
-  judged-means r sound brings (Refused number place) e =
-      let never : number ≡ 0 → ⊥ = λ z. accepted-refused _ _ (sym e ∙ checked-number filling (ordered r) (ap verdictNumber e ∙ z)) in
-      record { lines = λ z. absurd (never z); model = λ z. absurd (never z) }
+      record {
+        lines = λ z. m .0;
+        model = λ z. m .1;
+        all-read = λ z. rw (length-padded room (ordered r), zeroed-length size (recordsOf ([] ∷ r .texts))) all;
+        no-place = λ z. refl;
+        refused = λ z. absurd (z refl);
+      }
+  judged-means r sound brings all (Refused number place) e =
+      let some : number ≡ 0 → ⊥ = λ z. accepted-refused _ _ (sym e ∙ checked-number filling (ordered r) (ap numberOf e ∙ z)) in
+      let same : ordered r ≡ listOf text = ordered-by r (rowLines (parts 10 text)) brings ∙ (unfold listOf in refl) in
+      refused-means number place some (bad-list all number place some (refused-verdict filling (listOf text) number place (ap (verdictFor filling) (sym same) ∙ e)))
 
-  lines-mean : (l : Lines) → LinesBring room size begun (parts 10 text) l → LinesNumbered l
-      → ReadMeans filling text (numberOf (linesOutcome filling room size l .answer)) (rowCount (linesOutcome filling room size l .answer)) (linesOutcome filling room size l .table) (linesOutcome filling room size l .store)
-  unfolding refusedOutcome
-  lines-mean (done r) w n = judged-means r (w .0) (w .1) (verdictFor filling (ordered r)) refl
-  lines-mean (stopped number place) w n = record { lines = λ z. absurd (omega arith); model = λ z. absurd (omega arith) }
+  lines-mean : (l : Lines) → LinesBring room size unread (parts 10 text) l → LinesNumbered l → LinesTold filling room size text l → Means (linesOutcome filling room size l)
+  lines-mean (done r) w n t = judged-means r (w .0) (w .1) t (verdictFor filling (ordered r)) refl
+  lines-mean (stopped number place) w n t = refused-means number place (λ z. omega arith) t
 
-  outcome-means : ReadMeans filling text (numberOf (readArpa filling room size text .answer)) (rowCount (readArpa filling room size text .answer)) (readArpa filling room size text .table) (readArpa filling room size text .store)
+  outcome-means : Means (readArpa filling room size text)
   unfolding readArpa
-  outcome-means = lines-mean (readLines room size begun 1 (parts 10 text)) (lines-read room size begun 1 (parts 10 text) (begun-sound room size)) (lines-numbered room size begun 1 (parts 10 text))
+  outcome-means =
+      lines-mean (readLines room size unread 1 (parts 10 text)) (lines-read room size unread 1 (parts 10 text) (begun-sound room size)) (lines-numbered room size unread 1 (parts 10 text)) (all-told filling room size text)
 
   -- whatever a call leaves
-  pub read-means : (answer : Rows) (table : List ℤ) (store : List ℕ) → Leaves (readArpa filling room size text) answer table store → ReadMeans filling text (numberOf answer) (rowCount answer) table store
+  pub read-means : (answer : Rows) (table : List ℤ) (store : List ℕ) → Leaves (readArpa filling room size text) answer table store → ReadMeans filling text (readNumber answer) (readPlace answer) (rowCount answer) table store
   read-means answer table store x = rw (x .answer-is, x .table-is, x .store-is) outcome-means
 
   pub reads-the-lines : (rows : ℕ) (table : List ℤ) (store : List ℕ) → Leaves (readArpa filling room size text) (Read rows) table store → ReadsTheLines filling text rows table store

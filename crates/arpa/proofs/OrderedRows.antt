@@ -11,13 +11,13 @@ use Rattle.integer.specs.Integer.{between, upTo}
 use Rattle.integer.proofs.Ranges.{upTo-in, upTo-out}
 use Rattle.backoff.specs.Limits.{orderLimit, wordLimit}
 use Rattle.backoff.specs.NineNumbers.{padded}
-use Rattle.list.specs.Table.{rowsOf, field, lengthOf, wordsOf, words}
-use Rattle.list.proofs.Table.{words-length}
+use Rattle.rows.specs.Table.{rowsOf, field, lengthOf, wordsOf, words}
+use Rattle.rows.proofs.Table.{words-length}
 use Rattle.row_order.specs.RowOrder.{rowAt, rowsAt, joined, sortBy, rowBefore, listOrder}
 use Rattle.row_order.proofs.Sorts.{sort-from}
 use Rattle.row_order.proofs.Rows.{member-of-row}
-use Rattle.arpa.specs.Reading.{rowOf}
-use Rattle.arpa.proofs.JoinedRows.{Eights, row-eight, joined-length}
+use Rattle.arpa_lines.specs.Reading.{rowOf}
+use Rattle.arpa_lines.proofs.JoinedRows.{Eights, row-eight, joined-length}
 
 -- ---- the rows of a table that is rows one after the other
 module _ (row t : List ℤ) (eight : length row ≡ 8) where

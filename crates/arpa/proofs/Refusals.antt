@@ -12,10 +12,10 @@ use Rattle.backoff.specs.Words.{sameWords}
 use Rattle.arpa_text.specs.declared.Count.{Count}
 use Rattle.arpa_text.specs.declared.Count.the-variants.{Announced, NotInForm}
 use Rattle.arpa_text.specs.Lines.{dataLine, sectionLine, readCount, Listed, readRow}
-use Rattle.arpa.specs.Words.{numberMet, numberGiven, withText}
-use Rattle.arpa.specs.Reading.{Reading, Step, goes, refusedBy, enter, firstSection, countStep, dataStep, closes, closeSection, rowOf, addRow, rowFits, recordFits, wordStep, someMissing, longerStep, rowStep, sectionStep, stageStep, lineStep, Lines, done, stopped, onward, lastPiece, readLines}
-use Rattle.arpa.specs.declared.Stage.{Stage}
-use Rattle.arpa.specs.declared.Stage.the-variants.{Start, Counts, Section, Ended}
+use Rattle.arpa_words.specs.Words.{numberMet, numberGiven, withText, someMissing}
+use Rattle.arpa_lines.specs.Reading.{Reading, Step, goes, refusedBy, enter, firstSection, countStep, dataStep, closes, closeSection, rowOf, addRow, rowFits, recordFits, wordStep, longerStep, rowStep, sectionStep, stageStep, lineStep, Lines, done, stopped, onward, lastPiece, readLines}
+use Rattle.arpa_lines.specs.declared.Stage.{Stage}
+use Rattle.arpa_lines.specs.declared.Stage.the-variants.{Start, Counts, Section, Ended}
 
 abbrev StepNumbered : Step → Type 0
 StepNumbered (goes r) = Unit {0}

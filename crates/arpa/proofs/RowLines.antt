@@ -21,10 +21,10 @@ use Rattle.arpa_text.specs.declared.Count.the-variants.{Announced, NotInForm as
 use Rattle.arpa_text.proofs.Parts.{parts-one, parts-more, before-other, lacks-or-has}
 use Rattle.arpa_text.proofs.Logs.{all-digits, digits-lack}
 use Rattle.arpa_text.proofs.Lines.{no-row, count-fields}
-use Rattle.arpa.specs.Reading.{rowOf}
+use Rattle.arpa_lines.specs.Reading.{rowOf}
 use Rattle.arpa.specs.Meaning.{rowLines, wordCount, textsIn, lineTexts, rowWith, lineRow}
-use Rattle.arpa.proofs.Fields.{read-texts}
-use Rattle.arpa.proofs.RowWords.{texts-count}
+use Rattle.arpa_lines.proofs.Fields.{read-texts}
+use Rattle.arpa_words.proofs.RowWords.{texts-count}
 
 -- no tab stands in the line
 abbrev pub NoTab : List ℕ → Type 0

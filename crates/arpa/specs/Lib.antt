@@ -1,7 +1,4 @@
--- What must be believed of the reading of an ARPA text: words and their texts, the reading line by line, the outcome, and what it means.
--- Held is cited by contracts of inner functions alone.
-pub mod Words
-pub mod Reading
+-- What must be believed of the reading of an ARPA text: the outcome, and what it means. Held is cited by contracts of inner functions alone.
 pub mod Outcome
 pub mod Meaning
 pub mod Held

@@ -1,25 +1,28 @@
--- What an accepted reading means, told without the reading's steps: as `reads-the-lines` states it. Assumes nothing.
+-- What the answers of the reader mean, told without the reading's steps: what is read of a text, and what refuses it. Assumes nothing.
 use mathlib.Core.Path.{_≡_}
 use mathlib.Core.Logic.{_↔_}
 use mathlib.Core.Bool.{Bool, false, cond, _&&_}
 use mathlib.Core.List.{List, [], _∷_, _++_, map, List·Memᴰ}
 use mathlib.Core.Option.{Option, none, some}
-use Prim.Native.Nat.{ℕ, _+_, _*_, _-_, _/_, _<_}
+use Prim.Native.Nat.{ℕ, suc, _+_, _*_, _-_, _/_, _≤_, _<_}
 use lib.Dec.{eqb, ltb}
 use lib.IntN.{ℤ}
 use lib.ListN.{length, getD, take}
-use Rattle.backoff.specs.Limits.{unknownWord, startWord, endWord}
+use Rattle.backoff.specs.Limits.{orderLimit, unknownWord, startWord, endWord}
+use Rattle.backoff.specs.Refusal.{shortSlice, lineForm, unlistedText, sectionCount}
 use Rattle.backoff.specs.Model.{AcceptedModel}
 use Rattle.backoff.specs.NineNumbers.{padded}
 use Rattle.backoff.specs.declared.Verdict.the-variants.{Accepted}
 use Rattle.list.specs.Check.{verdictFor}
 use Rattle.list.specs.ListModel.{modelOf}
+use Rattle.list.specs.Meaning.{VerdictMeans}
 use Rattle.row_order.specs.RowOrder.{sortBy, rowBefore, joined}
 use Rattle.word_index.specs.Texts.{textsFrom}
 use Rattle.arpa_text.specs.Parts.{parts, before}
-use Rattle.arpa_text.specs.Lines.{Listed, readRow}
-use Rattle.arpa.specs.Words.{unknownText, startText, endText, reservedNumber, numberMet, storeWith}
-use Rattle.arpa.specs.Reading.{rowOf}
+use Rattle.arpa_text.specs.Lines.{dataLine, sectionLine, endLine, readCount, Listed, readRow}
+use Rattle.arpa_text.specs.declared.Count.the-variants.{Announced}
+use Rattle.arpa_words.specs.Words.{unknownText, startText, endText, reservedNumber, numberMet, storeWith}
+use Rattle.arpa_lines.specs.Reading.{rowOf}
 
 -- the lines that have a tab: those of rows
 unfoldable pub rowLines : List (List ℕ) → List (List ℕ)
@@ -64,6 +67,10 @@ newTexts met (text ∷ texts) = newTexts (withNew met text) texts
 unfoldable pub numberStored : List ℕ → List ℕ → ℕ
 numberStored store text = numberMet (textsFrom store 1 (length store / 64 - 1)) text
 
+-- two texts of a store have one number exactly if they are equal
+abbrev pub EachItsOwn : List ℕ → Type 0
+EachItsOwn store = (u v : List ℕ) → 0 < numberStored store u → 0 < numberStored store v → (numberStored store u ≡ numberStored store v) ↔ (u ≡ v)
+
 -- an accepted call over a text: its row count, and the table and store that it left
 pub record ReadsTheLines (filling : Bool) (text : List ℕ) (rows : ℕ) (table : List ℤ) (store : List ℕ) : Type 0 where
   -- the rows are exactly the lines' rows, no more and no fewer, each with its words' numbers, its p and its b, in list order
@@ -76,14 +83,102 @@ pub record ReadsTheLines (filling : Bool) (text : List ℕ) (rows : ℕ) (table 
   pub start : numberStored store startText ≡ startWord
   pub end : numberStored store endText ≡ endWord
   pub others : (i : ℕ) → i < length (newTexts [] (wordTexts (rowLines (parts 10 text)))) → numberStored store (getD (newTexts [] (wordTexts (rowLines (parts 10 text)))) i []) ≡ 4 + i
-  -- two texts of the store have one number exactly if they are equal
-  pub same : (u v : List ℕ) → 0 < numberStored store u → 0 < numberStored store v → (numberStored store u ≡ numberStored store v) ↔ (u ≡ v)
+  pub same : EachItsOwn store
   -- each text of a row has a number
   pub known : (line : List ℕ) → List·Memᴰ line (rowLines (parts 10 text)) → (u : List ℕ) → List·Memᴰ u (lineTexts line) → 0 < numberStored store u
   -- the rows are an accepted list, as it is or to be filled: build accepts it or says 10, or filling accepts it or says 5, 1 or 15
   pub accepted : verdictFor filling (take (8 * rows) table) ≡ Accepted
 
--- what an answer means: its number 0 says that the lines are read, and that the rows are a back-off model if they are not to be filled
-pub record ReadMeans (filling : Bool) (text : List ℕ) (number rows : ℕ) (table : List ℤ) (store : List ℕ) : Type 0 where
+-- ---- what is wrong with a line
+
+-- where lines have come to: before `\data\`, behind these counts, behind so many lines of the section of length m, behind `\end\`
+pub data Position : Type 0 where
+  at-start : Position
+  in-counts : List ℕ → Position
+  in-section : List ℕ → ℕ → ℕ → Position
+  at-end : Position
+
+-- "a data section with counts, one section a length, an end line": a line behind the one position has its place in this form, and leads to the other
+pub data Leads : Position → List ℕ → Position → Type 0 where
+  -- "or is empty and skipped"
+  skipped : (q : Position) → Leads q [] q
+  data-line : Leads at-start dataLine (in-counts [])
+  -- "one to five lengths are announced, from 1 upwards, and their sections follow so"
+  count-line : (cs line : List ℕ) (c : ℕ) → length cs < orderLimit → readCount (suc (length cs)) line ≡ Announced c → Leads (in-counts cs) line (in-counts (cs ++ (c ∷ [])))
+  first-heading : (cs : List ℕ) → 1 ≤ length cs → Leads (in-counts cs) (sectionLine 1) (in-section cs 1 0)
+  row-of : (cs : List ℕ) (m k : ℕ) (line : List ℕ) (l : Listed) → readRow m line ≡ some l → Leads (in-section cs m k) line (in-section cs m (suc k))
+  next-heading : (cs : List ℕ) (m k : ℕ) → m < length cs → Leads (in-section cs m k) (sectionLine (suc m)) (in-section cs (suc m) 0)
+  end-line : (cs : List ℕ) (m k : ℕ) → length cs ≤ m → Leads (in-section cs m k) endLine at-end
+
+-- a text's number by the lines of rows: "`<unk>`, `<s>` and `</s>` become 1, 2, 3; the others count up from 4 as the one-word section brings them"
+unfoldable pub numberBy : List (List ℕ) → List ℕ → ℕ
+numberBy lines text = numberMet (unknownText ∷ startText ∷ endText ∷ newTexts [] (wordTexts lines)) text
+
+-- a text with a one-word line
+abbrev pub HasLine : List (List ℕ) → List ℕ → Type 0
+HasLine lines u = List·Memᴰ u (wordTexts (rowLines lines))
+
+-- The lent table has `room` numbers, the lent store `size` bytes.
+module _ (room size : ℕ) where
+  -- the number that meets a line behind the lines `earlier`, which have come to this position
+  pub data LineMeets (earlier : List (List ℕ)) : Position → List ℕ → ℕ → Type 0 where
+    -- "17 for a line not in this form"
+    not-in-form : (q : Position) (line : List ℕ) → ((q′ : Position) → Leads q line q′ → ⊥) → LineMeets earlier q line lineForm
+    -- "18 for a word without a one-word line"
+    no-word-line : (cs : List ℕ) (m k : ℕ) (line : List ℕ) (l : Listed) → readRow m line ≡ some l → (m ≡ 1 → ⊥)
+        → (u : List ℕ) → List·Memᴰ u (l .texts) → (HasLine earlier u → ⊥) → LineMeets earlier (in-section cs m k) line unlistedText
+    -- "19 for a section whose line count is not the one announced, .. the next heading or the end line"
+    heading-count : (cs : List ℕ) (m k : ℕ) → m < length cs → (k ≡ getD cs (m - 1) 0 → ⊥) → LineMeets earlier (in-section cs m k) (sectionLine (suc m)) sectionCount
+    end-count : (cs : List ℕ) (m k : ℕ) → length cs ≤ m → (k ≡ getD cs (m - 1) 0 → ⊥) → LineMeets earlier (in-section cs m k) endLine sectionCount
+    -- "15 with the line whose row or text no longer fits comes after that line's 17 and 18"
+    row-past : (cs : List ℕ) (m k : ℕ) (line : List ℕ) (l : Listed) → readRow m line ≡ some l → ((m ≡ 1 → ⊥) → (u : List ℕ) → List·Memᴰ u (l .texts) → HasLine earlier u)
+        → room < 8 * suc (length (rowLines earlier)) → LineMeets earlier (in-section cs m k) line shortSlice
+    text-past : (cs : List ℕ) (k : ℕ) (line : List ℕ) (l : Listed) → readRow 1 line ≡ some l
+        → (u : List ℕ) → List·Memᴰ u (l .texts) → size < 64 * suc (numberBy (rowLines (earlier ++ (line ∷ []))) u) → LineMeets earlier (in-section cs 1 k) line shortSlice
+
+  -- lines that have come to a position, and nothing meets one of them
+  pub data ReadTo : List (List ℕ) → Position → Type 0 where
+    no-lines : ReadTo [] at-start
+    one-more : (earlier : List (List ℕ)) (line : List ℕ) (q q′ : Position) → ReadTo earlier q → ((n : ℕ) → LineMeets earlier q line n → ⊥) → Leads q line q′
+        → ReadTo (earlier ++ (line ∷ [])) q′
+
+-- "Each line ends with LF": the pieces between the LFs are lines, but for the last
+unfoldable pub linesIn : List (List ℕ) → List (List ℕ)
+linesIn [] = []
+linesIn (piece ∷ []) = []
+linesIn (line ∷ next ∷ pieces) = line ∷ linesIn (next ∷ pieces)
+
+unfoldable pub lastIn : List (List ℕ) → List ℕ
+lastIn [] = []
+lastIn (piece ∷ []) = piece
+lastIn (line ∷ next ∷ pieces) = lastIn (next ∷ pieces)
+
+-- nothing meets a line, the last that is not empty is the end line, and nothing stands behind the last LF
+pub record AllRead (room size : ℕ) (text : List ℕ) : Type 0 where
+  pub lines : ReadTo room size (linesIn (parts 10 text)) at-end
+  pub last : lastIn (parts 10 text) ≡ []
+
+-- "the same rows in list order"
+unfoldable pub listOf : List ℕ → List ℤ
+listOf text = joined (sortBy rowBefore (map (lineRow (numberBy (rowLines (parts 10 text)))) (rowLines (parts 10 text))))
+
+module _ (filling : Bool) (room size : ℕ) (text : List ℕ) where
+  -- what refuses a text, by its number and place
+  pub data ReadRefusedBy : ℕ → ℕ → Type 0 where
+    -- 17, 18, 19 or 15 "with its line", and nothing at an earlier one
+    at-line : (earlier : List (List ℕ)) (line : List ℕ) (later : List (List ℕ)) → linesIn (parts 10 text) ≡ earlier ++ (line ∷ later)
+        → (q : Position) → ReadTo room size earlier q → (n : ℕ) → LineMeets room size earlier q line n → ReadRefusedBy n (suc (length earlier))
+    -- "17 for a line .. missing at the file's end": the end line, or the LF that ends a line
+    no-end-line : (q : Position) → ReadTo room size (linesIn (parts 10 text)) q → (q ≡ at-end → ⊥) → ReadRefusedBy lineForm (suc (length (linesIn (parts 10 text))))
+    no-line-end : (q : Position) → ReadTo room size (linesIn (parts 10 text)) q → (lastIn (parts 10 text) ≡ [] → ⊥) → ReadRefusedBy lineForm (suc (length (linesIn (parts 10 text))))
+    -- "The list checks then apply to it": 1, row by row 3 to 8, and 9
+    bad-list : AllRead room size text → (n p : ℕ) → (n ≡ 0 → ⊥) → VerdictMeans filling (listOf text) n p → ReadRefusedBy n p
+
+-- What an answer means, with the table and the store that it leaves: its number 0 says that all lines are read, and that the rows are a back-off model if they are not
+-- to be filled.
+pub record ReadMeans (filling : Bool) (text : List ℕ) (number place rows : ℕ) (table : List ℤ) (store : List ℕ) : Type 0 where
   pub lines : number ≡ 0 → ReadsTheLines filling text rows table store
   pub model : number ≡ 0 → filling ≡ false → AcceptedModel (modelOf (take (8 * rows) table))
+  pub all-read : number ≡ 0 → AllRead (length table) (length store) text
+  pub no-place : number ≡ 0 → place ≡ 0
+  pub refused : (number ≡ 0 → ⊥) → ReadRefusedBy filling (length table) (length store) text number place

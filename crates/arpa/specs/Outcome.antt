@@ -11,19 +11,19 @@ use Rattle.backoff.specs.declared.Verdict.the-variants.{Accepted, Refused}
 use Rattle.list.specs.Check.{verdictFor}
 use Rattle.row_order.specs.RowOrder.{joined, listOrder}
 use Rattle.arpa_text.specs.Parts.{parts}
-use Rattle.arpa.specs.Words.{storeWith}
-use Rattle.arpa.specs.Reading.{Reading, begun, Lines, done, stopped, readLines}
+use Rattle.arpa_words.specs.Words.{storeWith}
+use Rattle.arpa_lines.specs.Reading.{Reading, unread, Lines, done, stopped, readLines}
 use Rattle.arpa.specs.declared.Rows.{Rows}
 use Rattle.arpa.specs.declared.Rows.the-variants.{Read, Refused as NotRead}
 
 -- an answer's number, place and row count: 0 and 0 where nothing is refused, 0 rows where something is
-abbrev pub numberOf : Rows → ℕ
-numberOf (Read rows) = 0
-numberOf (NotRead number place) = number
+abbrev pub readNumber : Rows → ℕ
+readNumber (Read rows) = 0
+readNumber (NotRead number place) = number
 
-abbrev pub placeOf : Rows → ℕ
-placeOf (Read rows) = 0
-placeOf (NotRead number place) = place
+abbrev pub readPlace : Rows → ℕ
+readPlace (Read rows) = 0
+readPlace (NotRead number place) = place
 
 abbrev pub rowCount : Rows → ℕ
 rowCount (Read rows) = rows
@@ -54,7 +54,7 @@ linesOutcome filling room size (stopped number place) = refusedOutcome room size
 
 -- the whole text, a lent table of `room` numbers and a lent store of `size` bytes
 unfoldable pub readArpa : Bool → ℕ → ℕ → List ℕ → Outcome
-readArpa filling room size text = linesOutcome filling room size (readLines room size begun 1 (parts 10 text))
+readArpa filling room size text = linesOutcome filling room size (readLines room size unread 1 (parts 10 text))
 
 -- what a call leaves
 pub record Leaves (o : Outcome) (answer : Rows) (table : List ℤ) (store : List ℕ) : Type 0 where

@@ -18,10 +18,10 @@ use Rattle.backoff.specs.Words.{sameWords}
 use Rattle.backoff.specs.Model.{inProbability, inBackoff}
 use Rattle.backoff.specs.NineNumbers.{padded}
 use Rattle.backoff.proofs.Words.{same-refl}
-use Rattle.list.specs.Table.{rowsOf, lengthOf, orderOf, words, probabilityAt, backoffAt}
+use Rattle.rows.specs.Table.{rowsOf, lengthOf, orderOf, words, probabilityAt, backoffAt}
+use Rattle.rows.proofs.Table.{row-in, length-limit, words-length}
+use Rattle.rows.proofs.Good.{lengths-ascend}
 use Rattle.list.specs.Check.{verdict}
-use Rattle.list.proofs.Table.{row-in, length-limit, words-length}
-use Rattle.list.proofs.Good.{lengths-ascend}
 use Rattle.list.proofs.Check.{accepted-row, accepted-good, accepted-size, backoff-in}
 use Rattle.row_order.specs.RowOrder.{rowAt, rowsAt, listOrder}
 use Rattle.row_order.proofs.Rows.{joined-all}
@@ -29,12 +29,12 @@ use Rattle.row_order.proofs.Sorted.{accepted-listOrder}
 use Rattle.word_index.specs.Texts.{searchFrom}
 use Rattle.arpa_text.specs.Parts.{parts, before}
 use Rattle.arpa_text.specs.Lines.{dataLine, sectionLine, endLine, Listed, readCount, readRow, areTexts}
-use Rattle.arpa.specs.Words.{unknownText, startText, endText, noTexts, reservedNumber, numberGiven, withText, storeWith}
-use Rattle.arpa.specs.Reading.{Reading, begun, goes, announce, enter, firstSection, countStep, dataStep, closes, closeSection, rowOf, addRow, rowFits, recordFits, wordStep, longerStep, rowStep, sectionStep, stageStep, lineStep, done, onward, lastPiece, readLines}
+use Rattle.arpa_words.specs.Words.{unknownText, startText, endText, noTexts, reservedNumber, numberGiven, withText, storeWith}
+use Rattle.arpa_lines.specs.Reading.{Reading, unread, goes, announce, enter, firstSection, countStep, dataStep, closes, closeSection, rowOf, addRow, rowFits, recordFits, wordStep, longerStep, rowStep, sectionStep, stageStep, lineStep, done, onward, lastPiece, readLines}
 use Rattle.arpa.specs.Outcome.{ordered, linesOutcome, judged, readArpa}
 use Rattle.arpa_printed.specs.Printed.{printCount, rowsWith, wordText, rowLine, countLines, sectionLines, printed, Printable, ReadsBack}
-use Rattle.arpa.specs.declared.Stage.{Stage}
-use Rattle.arpa.specs.declared.Stage.the-variants.{Counts, Section, Ended}
+use Rattle.arpa_lines.specs.declared.Stage.{Stage}
+use Rattle.arpa_lines.specs.declared.Stage.the-variants.{Counts, Section, Ended}
 use Rattle.arpa.specs.declared.Rows.the-variants.{Read}
 use Rattle.arpa_printed.proofs.PrintedLines.{Lacks, AllLack, parts-of-lines, count-read, count-some, count-lacks, row-lead, row-lacks, row-read, row-closes-none}
 use Rattle.arpa_printed.proofs.PrintedRows.{countUp, count-rows, count-length, sectionRows, section-rows, one-word-rows, AllOf, all-of-length, row-of-words, AllKnown, words-known}
@@ -395,7 +395,7 @@ module _ (texts : List (List ℕ)) (t : List ℤ) (room size : ℕ) (is : Printa
       (later-sections counts c 1 (length texts) (map (rowAt t) ones) (omega arith) (omega (arith, counts-length t 1 (suc c))) counted
       (sym (ap length one-word ∙ count-length 0 (length texts)) ∙ counted 1 (omega arith) (omega arith)) (omega arith)))
 
-  text-reads : (c k : ℕ) → orderOf t ≡ suc c → length texts ≡ suc (suc (suc k)) → Reads room size begun (textLines (suc c)) (final (suc c))
+  text-reads : (c k : ℕ) → orderOf t ≡ suc c → length texts ≡ suc (suc (suc k)) → Reads room size unread (textLines (suc c)) (final (suc c))
   unfolding sectionLines lineStep enter sameWords
   text-reads c k e v =
       let counts = sectionCounts t 1 (suc c) in
@@ -434,12 +434,12 @@ module _ (texts : List (List ℕ)) (t : List ℤ) (room size : ℕ) (is : Printa
       let b = low .1 in
       let v = three-texts texts (is .end) in
       let e : orderOf t ≡ suc (orderOf t - 1) = omega arith in
-      let reads : Reads room size begun (textLines (orderOf t)) (final (orderOf t)) =
-      subst (λ (n : ℕ). Reads room size begun (textLines n) (final n)) (sym e) (text-reads (orderOf t - 1) (length texts - 3) e (omega arith)) in
+      let reads : Reads room size unread (textLines (orderOf t)) (final (orderOf t)) =
+      subst (λ (n : ℕ). Reads room size unread (textLines n) (final n)) (sym e) (text-reads (orderOf t - 1) (length texts - 3) e (omega arith)) in
       record {
         reads =
-            ap (λ (pieces : List (List ℕ)). linesOutcome false room size (readLines room size begun 1 pieces)) (parts-of-lines (textLines (orderOf t)) text-lacks)
-            ∙ ap (linesOutcome false room size) (lines-read room size (textLines (orderOf t)) begun (final (orderOf t)) 1 reads refl)
+            ap (λ (pieces : List (List ℕ)). linesOutcome false room size (readLines room size unread 1 pieces)) (parts-of-lines (textLines (orderOf t)) text-lacks)
+            ∙ ap (linesOutcome false room size) (lines-read room size (textLines (orderOf t)) unread (final (orderOf t)) 1 reads refl)
             ∙ ap (judged room size (final (orderOf t))) (ap verdict rows-ordered ∙ is .accepted)
             ∙ ap₂ (λ (n : ℕ) (l : List ℤ). record { answer = Read n; table = padded room l; store = storeWith size texts }) (rows-length t 0 (rowsOf t)) rows-ordered;
       }

@@ -24,7 +24,7 @@ use Rattle.arpa_text.specs.declared.Count.the-variants.{Announced}
 use Rattle.arpa_text.proofs.Parts.{parts-one, before-other}
 use Rattle.arpa_text.proofs.Logs.{few-enough, digits-lack, unsigned-point, round-negative}
 use Rattle.arpa_text.proofs.Lines.{count-fields, space-absent}
-use Rattle.arpa.specs.Reading.{closes}
+use Rattle.arpa_lines.specs.Reading.{closes}
 use Rattle.arpa_printed.specs.Printed.{withEnds, lastDigits, printSize, printLog, spaced, printRow, printCount}
 
 -- ---- parts

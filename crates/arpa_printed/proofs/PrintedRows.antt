@@ -18,15 +18,15 @@ use Rattle.backoff.specs.Limits.{orderLimit, wordLimit}
 use Rattle.backoff.specs.NineNumbers.{padded}
 use Rattle.backoff.specs.declared.Verdict.the-variants.{Accepted}
 use Rattle.backoff.proofs.NineNumbers.{length-padded}
-use Rattle.list.specs.Table.{rowsOf, field, lengthOf, wordOf, wordsOf, words, withoutFirst, withoutLast}
+use Rattle.rows.specs.Table.{rowsOf, field, lengthOf, wordOf, wordsOf, words, withoutFirst, withoutLast}
+use Rattle.rows.specs.Good.{GoodRow}
+use Rattle.rows.proofs.Table.{row-in, words-length, words-cons, words-snoc}
+use Rattle.rows.proofs.Good.{place-range, place-of}
 use Rattle.list.specs.Check.{verdict}
-use Rattle.list.specs.Good.{GoodRow}
-use Rattle.list.proofs.Table.{row-in, words-length, words-cons, words-snoc}
-use Rattle.list.proofs.Good.{place-range, place-of}
 use Rattle.list.proofs.Check.{first-listed, last-listed}
 use Rattle.row_order.specs.RowOrder.{rowAt, rowsAt}
 use Rattle.row_order.proofs.Rows.{row-field, row-length}
-use Rattle.arpa.specs.Reading.{rowOf}
+use Rattle.arpa_lines.specs.Reading.{rowOf}
 use Rattle.arpa_printed.specs.Printed.{rowsWith}
 
 -- ---- section by section

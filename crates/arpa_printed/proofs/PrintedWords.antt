@@ -9,11 +9,10 @@ use lib.Seq.{length-take-le, getD-take, take-suc}
 use borrow.Author.Tests.{ne-eqb, lt-leb}
 use Rattle.integer.proofs.Ranges.{and-both}
 use Rattle.backoff.proofs.Words.{same-refl, same-ne}
-use Rattle.list.specs.declared.Found.the-variants.{At, Nothing}
+use Rattle.row_search.specs.declared.Found.the-variants.{At, Nothing}
 use Rattle.word_index.specs.Texts.{searchFrom, givenBy}
 use Rattle.arpa_text.specs.Lines.{isText, areTexts}
-use Rattle.arpa.specs.Words.{unknownText, startText, endText, reservedNumber, numberMet, numberGiven, withText}
-use Rattle.arpa.specs.Reading.{someMissing}
+use Rattle.arpa_words.specs.Words.{unknownText, startText, endText, reservedNumber, numberMet, numberGiven, withText, someMissing}
 use Rattle.arpa_printed.specs.Printed.{wordText}
 use Rattle.arpa_printed.proofs.PrintedRows.{AllKnown}
 

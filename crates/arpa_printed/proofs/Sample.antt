@@ -10,19 +10,19 @@ use Rattle.integer.specs.Integer.{between, upTo}
 use Rattle.backoff.specs.Words.{sameWords}
 use Rattle.backoff.specs.Model.{inProbability, inBackoff}
 use Rattle.backoff.specs.NineNumbers.{padded}
-use Rattle.list.specs.Table.{rowsOf, field, lengthOf, orderOf, wordsOf, words, withoutFirst, withoutLast}
-use Rattle.list.specs.Order.{lastLess, precedes}
-use Rattle.list.specs.Search.{findBelow, findIn}
+use Rattle.rows.specs.Table.{rowsOf, field, lengthOf, orderOf, wordsOf, words, withoutFirst, withoutLast, placeFits, placesFit}
+use Rattle.rows.specs.Order.{lastLess, precedes}
+use Rattle.row_search.specs.Search.{findBelow, findIn}
 use Rattle.list.specs.Sample.{sample}
-use Rattle.list.specs.Check.{tableFits, placeFits, placesFit, backoffFits, fieldFault, isAfter, withoutFirsts, shorterListed, orderFault, rowFault, reservedListed, scan, verdictFor, verdict}
+use Rattle.list.specs.Check.{tableFits, backoffFits, fieldFault, isAfter, withoutFirsts, shorterListed, orderFault, rowFault, reservedListed, scan, verdictFor, verdict}
 use Rattle.row_order.specs.RowOrder.{insertBy, sortBy, rowAt, rowsAt, joined, numbersOf, rowBefore, listOrder}
 use Rattle.word_index.specs.Texts.{searchFrom}
 use Rattle.totals_text.specs.Columns.{allDigits, valueFrom}
 use Rattle.arpa_text.specs.Parts.{parts}
 use Rattle.arpa_text.specs.Logs.{digitsUpTo, fraction, unsigned, readLog, nearest, roundLog, readPoints}
 use Rattle.arpa_text.specs.Lines.{isCountHead, withoutSpace, countIn, readCount, allAbove, isText, areTexts, listedIn, readRow}
-use Rattle.arpa.specs.Words.{unknownText, startText, endText, reservedNumber, numberMet, numberGiven, withText, zeroed, recordOf, recordsOf, storeWith}
-use Rattle.arpa.specs.Reading.{announce, enter, firstSection, dataStep, closes, closeSection, rowOf, addRow, rowFits, recordFits, wordStep, someMissing, longerStep, rowStep, sectionStep, lineStep, readLines}
+use Rattle.arpa_words.specs.Words.{unknownText, startText, endText, reservedNumber, numberMet, numberGiven, withText, zeroed, recordOf, recordsOf, storeWith, someMissing}
+use Rattle.arpa_lines.specs.Reading.{announce, enter, firstSection, dataStep, closes, closeSection, rowOf, addRow, rowFits, recordFits, wordStep, longerStep, rowStep, sectionStep, lineStep, readLines}
 use Rattle.arpa.specs.Outcome.{refusedOutcome, ordered, readArpa}
 use Rattle.arpa_printed.specs.Printed.{withEnds, Printable}
 use Rattle.arpa_printed.specs.Sample.{the, cat, SampleRead}

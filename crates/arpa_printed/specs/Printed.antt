@@ -8,12 +8,12 @@ use lib.IntN.{ℤ, pos, negsuc}
 use lib.ListN.{length, getD}
 use Rattle.backoff.specs.NineNumbers.{padded}
 use Rattle.backoff.specs.declared.Verdict.the-variants.{Accepted}
-use Rattle.list.specs.Table.{rowsOf, lengthOf, orderOf, words, probabilityAt, backoffAt}
+use Rattle.rows.specs.Table.{rowsOf, lengthOf, orderOf, words, probabilityAt, backoffAt}
 use Rattle.list.specs.Check.{verdict}
 use Rattle.totals_text.specs.Columns.{digits}
 use Rattle.arpa_text.specs.Logs.{pointDecimals}
 use Rattle.arpa_text.specs.Lines.{dataLine, sectionLine, endLine, countHead, isText}
-use Rattle.arpa.specs.Words.{unknownText, startText, endText, storeWith}
+use Rattle.arpa_words.specs.Words.{unknownText, startText, endText, storeWith}
 use Rattle.arpa.specs.Outcome.{readArpa}
 use Rattle.arpa.specs.declared.Rows.the-variants.{Read}
 

@@ -7,7 +7,7 @@ use lib.ListN.{set, take}
 use Rattle.backoff.specs.NineNumbers.{padded}
 use Rattle.backoff.specs.Refusal.{shortSlice, lineForm, unlistedText, sectionCount}
 use Rattle.list.specs.Sample.{sample}
-use Rattle.arpa.specs.Words.{unknownText, startText, endText, storeWith}
+use Rattle.arpa_words.specs.Words.{unknownText, startText, endText, storeWith}
 use Rattle.arpa.specs.Outcome.{Outcome, readArpa, refusedOutcome}
 use Rattle.arpa_printed.specs.Printed.{withEnds}
 use Rattle.arpa.specs.declared.Rows.the-variants.{Read}

@@ -7,24 +7,26 @@ use Prim.Native.Nat.{ℕ, suc, _+_, _≤_, _<_}
 use native.Mathlib.Omega.{arith}
 use native.Mathlib.Numerals.{add-one}
 use lib.Dec.{eqb}
-use lib.ListN.{length, getD, take, drop, drop-of-length-le}
-use lib.Seq.{drop-cons, take-all}
-use borrow.Author.Tests.{eq-eqb, ne-eqb}
+use lib.ListN.{length, take, drop}
+use lib.Seq.{take-all}
+use borrow.Author.Tests.{ne-eqb}
+use Rattle.bytes.specs.Bytes.{indexOf, indexAfter, slice}
 use Rattle.integer.proofs.Ranges.{lt-or-ge}
 use Rattle.arpa_text.specs.Parts.{inFront, parts, before}
 
-module _ (c : ℕ) (text : List ℕ) (i : ℕ) where
-  pub before-here : i < length text → getD text i 0 ≡ c → before c (drop i text) ≡ 0
-  unfolding before
-  before-here h e = rw (drop-cons text i 0 h, eq-eqb (getD text i 0) c e) refl
+-- what the search for a byte finds
+before-is-index : (c : ℕ) (text : List ℕ) → indexOf c text ≡ before c text
+unfolding before indexOf indexAfter
+before-is-index c [] = refl
+before-is-index c (x ∷ text) = go (eqb x c) (before-is-index c text)
+  where
+    go : (t : Bool) → indexOf c text ≡ before c text → indexAfter t (indexOf c text) ≡ cond t 0 (suc (before c text))
+    go true e = refl
+    go false e = ap suc e
 
-  pub before-next : i < length text → (getD text i 0 ≡ c → ⊥) → before c (drop i text) ≡ suc (before c (drop (i + 1) text))
-  unfolding before
-  before-next h n = rw (drop-cons text i 0 h, ne-eqb (getD text i 0) c n, add-one i) refl
-
-  pub before-end : length text ≤ i → before c (drop i text) ≡ 0
-  unfolding before
-  before-end h = rw (drop-of-length-le text h) refl
+pub found-from : (c : ℕ) (text : List ℕ) (at : ℕ) → indexOf c (slice at (length text) text) ≡ before c (drop at text)
+unfolding slice
+found-from c text at = rw (take-all (length text) text (omega arith)) (before-is-index c (drop at text))
 
 -- a text without the byte is one part
 pub parts-one : (c : ℕ) (text : List ℕ) → before c text ≡ length text → parts c text ≡ text ∷ []

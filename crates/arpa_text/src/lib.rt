@@ -2,7 +2,7 @@
 // in specs/.
 ghost use mathlib.Core.Path.{_≡_};
 ghost use mathlib.Core.Bool.{true};
-ghost use Prim.Native.Nat.{_*_, _^_, _<_, _≤_};
+ghost use Prim.Native.Nat.{_+_, _*_, _^_, _<_, _≤_};
 ghost use lib.IntN.{pos};
 ghost use lib.ListN.{length, drop};
 ghost use Rattle.backoff.specs.Limits.{orderLimit};
@@ -62,14 +62,16 @@ pub fn find_byte(text: &[u8], byte: u8) -> usize
     ensures place { λ r. ⌜ r ≡ before byte (now (text .entry)) ⌝ }
     ensures within { λ r. ⌜ r ≤ length (now (text .entry)) ⌝ }
 {
-    let mut i = 0;
-    while i < text.len() {
-        if text[i] == byte {
-            return i;
-        }
-        i += 1;
-    }
-    i
+    bytes::scan::find(text, 0, text.len(), byte)
+}
+
+// Where the part that begins at `at` ends: at the next such byte, or behind the text where there is none.
+pub fn part_end(text: &[u8], at: usize, byte: u8) -> usize
+    requires { ⌜ at ≤ length (now text) ⌝ }
+    ensures place { λ r. ⌜ r ≡ at + before byte (drop at (now (text .entry))) ⌝ }
+    ensures within { λ r. ⌜ r ≤ length (now (text .entry)) ⌝ }
+{
+    bytes::scan::find(text, at, text.len(), byte)
 }
 
 // Whether two texts are the same.
@@ -220,7 +222,7 @@ fn are_texts(words: &[u8], m: usize) -> bool
     let mut at = 0;
     let mut left = m;
     while 0 < left {
-        let end = at + find_byte(&words[at..], SPACE);
+        let end = part_end(words, at, SPACE);
         if !is_text(&words[at..end]) {
             return false;
         }

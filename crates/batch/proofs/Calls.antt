@@ -78,15 +78,15 @@ module _ (o : Option Store) (r : Run) where
 
   -- ---- the three calls
 
-  start-refuses : (begun o .number ≡ 0 → ⊥) → isScored o r ≡ false
+  pub start-refuses : (begun o .number ≡ 0 → ⊥) → isScored o r ≡ false
   unfolding isScored
   start-refuses n = rw (ne-eqb (begun o .number) 0 n)
 
-  words-refuse : (wordsRun o r .number ≡ 0 → ⊥) → isScored o r ≡ false
+  pub words-refuse : (wordsRun o r .number ≡ 0 → ⊥) → isScored o r ≡ false
   unfolding isScored
   words-refuse n = and-no (eqb (begun o .number) 0) _ (rw (ne-eqb (wordsRun o r .number) 0 n))
 
-  closing-refuses : (closed o r .number ≡ 0 → ⊥) → isScored o r ≡ false
+  pub closing-refuses : (closed o r .number ≡ 0 → ⊥) → isScored o r ≡ false
   unfolding isScored
   closing-refuses n = and-no (eqb (begun o .number) 0) _ (and-no (eqb (wordsRun o r .number) 0) _ (ne-eqb (closed o r .number) 0 n))
 

@@ -1,5 +1,6 @@
 -- Laws of the ends of sentences and of the sizes that a sheet may have. Assumes nothing.
 use mathlib.Core.Path.{_≡_, refl, sym, ap, _∙_}
+use mathlib.Core.Logic.{_⊎_, inl, inr}
 use mathlib.Core.Bool.{Bool, true, false, cond, _||_}
 use mathlib.Core.List.{List, [], _∷_, _++_}
 use Prim.Native.Nat.{ℕ, zero, suc, _+_, _-_, _≤_, _<_}
@@ -8,7 +9,7 @@ use native.Mathlib.Numerals.{add-one}
 use lib.ListN.{length, take, drop, getD, drop-of-length-le}
 use lib.Seq.{take-suc, take-all, drop-cons}
 use lib.Dec.{ltb}
-use borrow.Author.Tests.{ltb-false}
+use borrow.Author.Tests.{ltb-true, ltb-false}
 use Rattle.backoff.specs.Limits.{runLimit}
 use Rattle.backoff.specs.Refusal.{wordCount, shortSlice}
 use Rattle.batch.specs.Sheet.{lastEnd, badEnd, sheetSize}
@@ -56,6 +57,30 @@ module _ (words : ℕ) where
   good-end k a [] i g h = absurd (omega arith)
   good-end k a (e ∷ es) zero g h = let f = good-head (ltb e a) (ltb words e) k _ g in (ltb-false e a (f .0), ltb-false words e (f .1 .0))
   good-end k a (e ∷ es) (suc i) g h = good-end (suc k) e es i (good-head (ltb e a) (ltb words e) k _ g .1 .1) (omega arith)
+
+  -- the first that does, numbered from suc k
+  pub record FirstBad (k a : ℕ) (es : List ℕ) : Type 0 where
+    pub i : ℕ
+    pub is : badEnd words (suc k) a es ≡ suc k + i
+    pub inside : i < length es
+    pub bad : (getD es i 0 < lastEnd a (take i es)) ⊎ (words < getD es i 0)
+    pub before : (j : ℕ) → j < i → (lastEnd a (take j es) ≤ getD es j 0) × (getD es j 0 ≤ words)
+
+  pub first-bad : (k a : ℕ) (es : List ℕ) → (badEnd words (suc k) a es ≡ 0 → ⊥) → FirstBad k a es
+  unfolding badEnd lastEnd
+  first-bad k a [] n = absurd (n refl)
+  first-bad k a (e ∷ es) n = go (ltb e a) refl (ltb words e) refl n (first-bad (suc k) e es)
+    where
+      later : ltb e a ≡ false → ltb words e ≡ false → (f : FirstBad (suc k) e es) → (j : ℕ) → j < suc (f .i) → (lastEnd a (take j (e ∷ es)) ≤ getD (e ∷ es) j 0) × (getD (e ∷ es) j 0 ≤ words)
+      later p q f zero l = (ltb-false e a p, ltb-false words e q)
+      later p q f (suc j) l = f .before j (omega arith)
+
+      go : (t : Bool) → ltb e a ≡ t → (u : Bool) → ltb words e ≡ u → (cond (t || u) (suc k) (badEnd words (suc (suc k)) e es) ≡ 0 → ⊥) → ((badEnd words (suc (suc k)) e es ≡ 0 → ⊥) → FirstBad (suc k) e es) → FirstBad k a (e ∷ es)
+      go true p u q n ih = record { i = 0; is = rw p (omega arith); inside = omega arith; bad = inl (ltb-true e a p); before = λ j l. absurd (omega arith) }
+      go false p true q n ih = record { i = 0; is = rw (p, q) (omega arith); inside = omega arith; bad = inr (ltb-true words e q); before = λ j l. absurd (omega arith) }
+      go false p false q n ih =
+          let f = ih n in
+          record { i = suc (f .i); is = rw (p, q) (omega (arith, f .is)); inside = omega (arith, f .inside); bad = f .bad; before = later p q f }
 
   good-from : (k a : ℕ) (es : List ℕ) → badEnd words (suc k) a es ≡ 0 → a ≤ lastEnd a es
   unfolding badEnd lastEnd

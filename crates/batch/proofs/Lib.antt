@@ -6,4 +6,8 @@ pub mod Sentences
 pub mod Calls
 pub mod Outcome
 pub mod Refusals
+pub mod FirstRefused
+pub mod MatchedLengths
+pub mod OwnRuns
+pub mod Verdict
 pub mod Meaning

@@ -1,147 +1,89 @@
--- A sentence that nothing refuses early is refused by 12 alone, over any lent arrays: 16 meets no state that start or a run returned. Assumes nothing.
-use mathlib.Core.Path.{_≡_, refl, sym, ap, _∙_}
+-- A sentence that nothing refuses early is refused by 12 alone, over any lent arrays, and exactly where its walks meet it. Assumes nothing.
+use mathlib.Core.Path.{_≡_, refl, sym, _∙_}
 use mathlib.Core.Logic.{_⊎_, inl, inr}
-use mathlib.Core.Bool.{true, false, cond, true≢false}
+use mathlib.Core.Bool.{true, false, true≢false}
 use mathlib.Core.List.{List, [], _∷_}
-use Prim.Native.Nat.{ℕ, _≤_, min}
+use mathlib.Core.Option.{Option}
+use Prim.Native.Nat.{_≤_}
 use native.Mathlib.Omega.{arith}
-use lib.ListN.{length, take}
+use lib.ListN.{length}
 use lib.IntN.{ℤ}
-use lib.Dec.{eqb}
-use borrow.Author.Tests.{eq-eqb, le-ltb}
-use Rattle.backoff.specs.Limits.{runLimit, orderLimit, startWord, endWord}
-use Rattle.backoff.specs.Refusal.{brokenNode}
-use Rattle.backoff.specs.Words.{areWords}
-use Rattle.backoff.specs.Model.{Model, live, reach}
-use Rattle.backoff.specs.Rule.{replaced}
-use Rattle.backoff.specs.State.{largest, State, empty, newest, liveLength, matchedFrom, nextFrom, stepNext, start}
-use Rattle.backoff.specs.Run.{Run, refusal, accepted, acceptedRun, runEnd}
-use Rattle.backoff.specs.NineNumbers.{nine, nineZeros, stateIn, stateOk}
-use Rattle.backoff.specs.Store.{Store, Step, scored, stuck, modelIn, step, runOver, refusedAt, brokenRun, ranAnswer, runOutcome, startStep, startOutcome}
-use Rattle.backoff.proofs.Climb.{largest-passes}
-use Rattle.backoff.proofs.Model.{live-listed}
-use Rattle.backoff.proofs.NineNumbers.{Bounded, length-nine, stateIn-nine, nine-ok, nextFrom-bounded}
-use Rattle.backoff.proofs.Store.{modelRan, runOver-cases}
+use borrow.Author.Tests.{le-ltb}
+use Rattle.backoff.specs.Limits.{runLimit, startWord, endWord}
+use Rattle.backoff.specs.Model.{Model}
+use Rattle.backoff.specs.State.{empty, start}
+use Rattle.backoff.specs.Run.{Run, refusal, runEnd}
+use Rattle.backoff.specs.NineNumbers.{nine}
+use Rattle.backoff.specs.Store.{Store}
 use Rattle.double_array.specs.DoubleArray.{isArray, storeIn, opened}
-use Rattle.double_array.proofs.DoubleArray.{opened-some, opened-order}
-use Rattle.score.specs.Meaning.{rowsIn}
-use Rattle.score.proofs.Rows.{rows-in-backoff, rows-in-words}
-use Rattle.score.proofs.Outcomes.{start-means, run-means}
+use Rattle.word_step.specs.Rows.{arrayModel}
+use Rattle.score.specs.Meaning.{Unwalkable, StuckWords, StuckSentence}
+use Rattle.score.proofs.Refusals.{stuck-split, stuck-both}
+use Rattle.score.proofs.Sentence.{Twelve, not-met, met, start-twelve, start-state, run-twelve, run-state}
 use Rattle.batch.specs.Sheet.{closingRun, begun, wordsRun, closed, isScored}
-use Rattle.batch.specs.Meaning.{ByTwelve}
-use Rattle.batch.proofs.Calls.{none-refuses}
+use Rattle.batch.specs.Meaning.{FullRun, ByTwelve}
+use Rattle.batch.proofs.Calls.{start-refuses, words-refuse, closing-refuses, none-refuses}
 
 -- a run whose slices are as long as its words
-pub fits-full : (q : Run) → length (q .words) ≤ runLimit → length (q .points) ≡ length (q .words) → length (q .lengths) ≡ length (q .words) → refusal q ≡ 0
+pub fits-full : (q : Run) → length (q .words) ≤ runLimit → FullRun q → refusal q ≡ 0
 unfolding refusal
-fits-full q few p l = rw (p, l, le-ltb runLimit (length (q .words)) few, le-ltb (length (q .words)) (length (q .words)) (omega arith))
+fits-full q few full = rw (full .points, full .lengths, le-ltb runLimit (length (q .words)) few, le-ltb (length (q .words)) (length (q .words)) (omega arith))
 
-module _ (base check : List ℤ) where
-  abbrev M : Model
-  M = rowsIn base check
-
+module _ (base check : List ℤ) (array : isArray base check ≡ true) (q : Run) (f : refusal q ≡ 0) where
   abbrev S : Store
   S = storeIn base check
 
-  -- a state of few words with back-offs in range
-  record Good (s : State) : Type 0 where
-    bounded : Bounded (reach M) s
-    words : areWords (s .words) ≡ true
+  abbrev M : Model
+  M = arrayModel base check
 
-  next-words : (s : State) (v : ℕ) → areWords (nextFrom M s v .words) ≡ true
-  unfolding nextFrom newest liveLength
-  next-words s v = go (largest-passes (λ i. live M (take i (v ∷ s .words))) (min (reach M) (matchedFrom M s v)))
+  abbrev o : Option Store
+  o = opened base check
+
+  -- what the sentence q is: scored, or refused by 12
+  pub data Judged : Type 0 where
+    scored : isScored o q ≡ true → (StuckSentence S (q .words) → ⊥) → Judged
+    refused : isScored o q ≡ false → ByTwelve o q → StuckSentence S (q .words) → Judged
+
+  words-twelve : begun o .number ≡ 0 → Twelve (StuckWords S (start M) (q .words)) (wordsRun o q .number)
+  unfolding wordsRun runEnd
+  words-twelve x = rw (start-state base check array x) (run-twelve base check array [] q f)
+
+  closed-twelve : begun o .number ≡ 0 → wordsRun o q .number ≡ 0 → Twelve (StuckWords S (runEnd M (start M) (q .words)) (endWord ∷ [])) (closed o q .number)
+  unfolding closed
+  closed-twelve x y = rw end (run-twelve base check array (q .words) closingRun (unfold refusal in refl))
     where
-      k : ℕ
-      k = largest (λ i. live M (take i (v ∷ s .words))) (min (reach M) (matchedFrom M s v))
+      state : begun o .state ≡ nine (start M)
+      state = unfold runEnd in start-state base check array x
 
-      go : (k ≡ 0) ⊎ (live M (take k (v ∷ s .words)) ≡ true) → areWords (take k (v ∷ s .words)) ≡ true
-      go (inl z) = rw z (unfold areWords in refl)
-      go (inr e) = rows-in-words base check (take k (v ∷ s .words)) (live-listed M (take k (v ∷ s .words)) e)
+      end : wordsRun o q .end ≡ nine (runEnd M (start M) (q .words))
+      end = unfold wordsRun in rw state (run-state base check array q (rw state at y))
 
-  next-good : (s : State) (v : ℕ) → Good (nextFrom M s v)
-  next-good s v = record { bounded = nextFrom-bounded M (rows-in-backoff base check) s v; words = next-words s v }
-
-  start-good : Good (start M)
-  unfolding start
-  start-good = next-good empty (replaced M startWord)
-
-  step-good : (s : State) (w : ℕ) → Good (stepNext M s w)
-  unfolding stepNext
-  step-good s w = elim (eqb w endWord) as (λ b. Good (cond b (start M) (nextFrom M s (replaced M w)))) [ true ↦ start-good | false ↦ next-good s (replaced M w) ]
-
-  end-good : (ws : List ℕ) (s : State) → Good s → Good (runEnd M s ws)
-  unfolding runEnd
-  end-good [] s g = g
-  end-good (w ∷ ws) s g = end-good ws (stepNext M s w) (step-good s w)
-
-  -- ---- the three calls of a sentence
-
-  module _ (array : isArray base check ≡ true) where
-    order : S .order ≤ orderLimit
-    unfolding storeIn
-    order = opened-order base check array .1
-
-    module _ (s : State) (g : Good s) where
-      good-ok : stateOk (S .order) (nine s) ≡ true
-      good-ok = nine-ok (S .order) s order (unfold modelIn reach in g .bounded) (g .words)
-
-      good-in : stateIn (nine s) ≡ s
-      good-in = stateIn-nine s (unfold modelIn reach in omega (arith, g .bounded .few, order)) (g .bounded .even)
-
-      run-number : (r : Run) → refusal r ≡ 0 → (runOutcome (opened base check) (nine s) r .number ≡ 0) ⊎ (runOutcome (opened base check) (nine s) r .number ≡ brokenNode)
-      unfolding runOutcome acceptedRun brokenRun
-      run-number r f = rw (eq-eqb _ 9 (length-nine s), opened-some base check array, good-ok, fits) (go (runOver-cases S (r .words) (stateIn (nine s)) 1))
+  pub judged : Judged
+  judged = first (start-twelve base check array)
+    where
+      none : (Unwalkable S empty startWord → ⊥) → (StuckWords S (start M) (q .words) → ⊥) → (StuckWords S (runEnd M (start M) (q .words)) (endWord ∷ []) → ⊥) → StuckSentence S (q .words) → ⊥
+      none m n k (inl u) = m u
+      none m n k (inr t) = go (stuck-split S (endWord ∷ []) (q .words) (start M) t)
         where
-          fits : accepted r ≡ true
-          fits = unfold accepted in eq-eqb (refusal r) 0 f
+          go : StuckWords S (start M) (q .words) ⊎ StuckWords S (runEnd M (start M) (q .words)) (endWord ∷ []) → ⊥
+          go (inl u) = n u
+          go (inr u) = k u
 
-          go : ((j : ℕ) × (runOver S (r .words) (stateIn (nine s)) 1 ≡ refusedAt j)) ⊎ (runOver S (r .words) (stateIn (nine s)) 1 ≡ modelRan M (stateIn (nine s)) (r .words)) → (ranAnswer (nine s) r (runOver S (r .words) (stateIn (nine s)) 1) .number ≡ 0) ⊎ (ranAnswer (nine s) r (runOver S (r .words) (stateIn (nine s)) 1) .number ≡ brokenNode)
-          go (inl (j, e)) = inr (rw e)
-          go (inr e) = inl (rw e)
+      third : begun o .number ≡ 0 → (Unwalkable S empty startWord → ⊥) → wordsRun o q .number ≡ 0 → (StuckWords S (start M) (q .words) → ⊥) → Twelve (StuckWords S (runEnd M (start M) (q .words)) (endWord ∷ [])) (closed o q .number) → Judged
+      third x m y n (not-met z k) = scored (none-refuses o q x y z) (none m n k)
+      third x m y n (met z t) = refused (closing-refuses o q (λ e. let g = sym e ∙ z in omega arith)) (inr (inr z)) (inr (stuck-both S (endWord ∷ []) (q .words) (start M) (inr t)))
 
-      -- the state that it leaves is good too
-      run-end : (r : Run) → runOutcome (opened base check) (nine s) r .number ≡ 0 → runOutcome (opened base check) (nine s) r .end ≡ nine (runEnd M s (r .words))
-      run-end r z = run-means base check (nine s) r .accepted z .end ∙ ap (λ (t : State). nine (runEnd M t (r .words))) good-in
+      second : begun o .number ≡ 0 → (Unwalkable S empty startWord → ⊥) → Twelve (StuckWords S (start M) (q .words)) (wordsRun o q .number) → Judged
+      second x m (not-met y n) = third x m y n (closed-twelve x y)
+      second x m (met y t) = refused (words-refuse o q (λ e. let g = sym e ∙ y in omega arith)) (inr (inl y)) (inr (stuck-both S (endWord ∷ []) (q .words) (start M) (inl t)))
 
-    start-number : (startOutcome (opened base check) nineZeros .number ≡ 0) ⊎ (startOutcome (opened base check) nineZeros .number ≡ brokenNode)
-    unfolding startOutcome
-    start-number = rw (opened-some base check array) (go (step S empty startWord))
-      where
-        go : (t : Step) → (startStep t .number ≡ 0) ⊎ (startStep t .number ≡ brokenNode)
-        go (scored x y u) = inl refl
-        go stuck = inr refl
+      first : Twelve (Unwalkable S empty startWord) (begun o .number) → Judged
+      first (not-met x m) = second x m (words-twelve x)
+      first (met x u) = refused (start-refuses o q (λ e. let g = sym e ∙ x in omega arith)) (inl x) (inl u)
 
-    module _ (q : Run) (f : refusal q ≡ 0) (x : begun (opened base check) .number ≡ 0) where
-      begun-state : begun (opened base check) .state ≡ nine (start M)
-      begun-state = start-means base check nineZeros refl .accepted x
-
-      words-is : wordsRun (opened base check) q ≡ runOutcome (opened base check) (nine (start M)) q
-      unfolding wordsRun
-      words-is = ap (λ (l : List ℤ). runOutcome (opened base check) l q) begun-state
-
-      words-number : (wordsRun (opened base check) q .number ≡ 0) ⊎ (wordsRun (opened base check) q .number ≡ brokenNode)
-      words-number = rw words-is (run-number (start M) start-good q f)
-
-      module _ (y : wordsRun (opened base check) q .number ≡ 0) where
-        words-end : wordsRun (opened base check) q .end ≡ nine (runEnd M (start M) (q .words))
-        words-end = rw words-is (run-end (start M) start-good q (rw words-is at y))
-
-        closed-number : (closed (opened base check) q .number ≡ 0) ⊎ (closed (opened base check) q .number ≡ brokenNode)
-        unfolding closed
-        closed-number = rw words-end (run-number (runEnd M (start M) (q .words)) (end-good (q .words) (start M) start-good) closingRun (unfold refusal in refl))
-
-    pub refused-by-12 : (q : Run) → refusal q ≡ 0 → isScored (opened base check) q ≡ false → ByTwelve (opened base check) q
-    refused-by-12 q f n = first start-number
-      where
-        third : begun (opened base check) .number ≡ 0 → wordsRun (opened base check) q .number ≡ 0 → (closed (opened base check) q .number ≡ 0) ⊎ (closed (opened base check) q .number ≡ brokenNode) → ByTwelve (opened base check) q
-        third x y (inl z) = absurd (true≢false (sym (none-refuses (opened base check) q x y z) ∙ n))
-        third x y (inr z) = inr (inr z)
-
-        second : begun (opened base check) .number ≡ 0 → (wordsRun (opened base check) q .number ≡ 0) ⊎ (wordsRun (opened base check) q .number ≡ brokenNode) → ByTwelve (opened base check) q
-        second x (inl y) = third x y (closed-number q f x y)
-        second x (inr y) = inr (inl y)
-
-        first : (begun (opened base check) .number ≡ 0) ⊎ (begun (opened base check) .number ≡ brokenNode) → ByTwelve (opened base check) q
-        first (inl x) = second x (words-number q f x)
-        first (inr x) = inl x
+  pub refused-by-12 : isScored o q ≡ false → ByTwelve o q
+  refused-by-12 n = go judged
+    where
+      go : Judged → ByTwelve o q
+      go (scored e s) = absurd (true≢false (sym e ∙ n))
+      go (refused e b s) = b

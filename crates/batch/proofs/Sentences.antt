@@ -18,7 +18,7 @@ use Rattle.backoff.specs.Run.{Run}
 use Rattle.backoff.specs.Runs.{flat}
 use Rattle.backoff.specs.Store.{Store}
 use Rattle.backoff.proofs.Runs.{flat-one}
-use Rattle.score.proofs.Written.{drop-more}
+use Rattle.word_step.proofs.Written.{drop-more}
 use Rattle.batch.specs.Sheet.{stretch, sentence, sentences, lastEnd, wordsRun, closed, isScored, sentenceTotal, wordPoints, wordBytes, closingBytes, totalOf, firstRefused, badEnd}
 use Rattle.batch.specs.Inner.{counted, Tallied, AllScored, OneRefused}
 use Rattle.batch.proofs.Ends.{lastEnd-next, good-end, good-last}

@@ -142,28 +142,30 @@ fullSheet o ends rs =
       matched = matchedOf o rs 1 ∷ matchedOf o rs 2 ∷ matchedOf o rs 3 ∷ matchedOf o rs 4 ∷ matchedOf o rs 5 ∷ [];
     }
 
-unfoldable pub acceptedSheet : Option Store → List ℕ → Run → Outcome
-acceptedSheet o ends r =
-    record {
-      sheet = fullSheet o ends (sentences 0 ends r);
-      points = wordPoints o (sentences 0 ends r) ++ drop (lastEnd 0 ends) (r .points);
-      lengths = wordBytes o (sentences 0 ends r) ++ drop (lastEnd 0 ends) (r .lengths);
-    }
+-- the sheet of these ends over the words, points and lengths of r
+module _ (o : Option Store) (ends : List ℕ) (r : Run) where
+  unfoldable pub acceptedSheet : Outcome
+  acceptedSheet =
+      record {
+        sheet = fullSheet o ends (sentences 0 ends r);
+        points = wordPoints o (sentences 0 ends r) ++ drop (lastEnd 0 ends) (r .points);
+        lengths = wordBytes o (sentences 0 ends r) ++ drop (lastEnd 0 ends) (r .lengths);
+      }
 
--- 12 comes last
-unfoldable pub scoredSheet : Option Store → List ℕ → Run → Outcome
-scoredSheet o ends r =
-    cond (eqb (firstRefused o 1 (sentences 0 ends r)) 0)
-    (acceptedSheet o ends r)
-    (brokenSheet (firstRefused o 1 (sentences 0 ends r)) (lastEnd 0 ends) r)
+  -- 12 comes last
+  unfoldable pub scoredSheet : Outcome
+  scoredSheet =
+      cond (eqb (firstRefused o 1 (sentences 0 ends r)) 0)
+      acceptedSheet
+      (brokenSheet (firstRefused o 1 (sentences 0 ends r)) (lastEnd 0 ends) r)
 
--- what meets the sheet of these ends over the words, points and lengths of r
-unfoldable pub met : Option Store → List ℕ → Run → Refusal
-met o ends r = earlyRefusal o (length (r .words)) ends (length (r .points)) (length (r .lengths))
+  -- what meets it before any word is scored
+  unfoldable pub met : Refusal
+  met = earlyRefusal o (length (r .words)) ends (length (r .points)) (length (r .lengths))
 
--- the sheet; an early refusal comes "with nothing written"
-unfoldable pub sheetOutcome : Option Store → List ℕ → Run → Outcome
-sheetOutcome o ends r =
-    cond (eqb (met o ends r .number) 0)
-    (scoredSheet o ends r)
-    (record { sheet = refusedSheet (met o ends r .number) (met o ends r .place); points = r .points; lengths = r .lengths })
+  -- an early refusal comes "with nothing written"
+  unfoldable pub sheetOutcome : Outcome
+  sheetOutcome =
+      cond (eqb (met .number) 0)
+      scoredSheet
+      (record { sheet = refusedSheet (met .number) (met .place); points = r .points; lengths = r .lengths })

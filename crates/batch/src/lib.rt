@@ -1,7 +1,8 @@
 // The hourly batch sheet: sentences cut from one slice of words, each scored from start's state and closed with a 3.
+use carried_state::State;
 use score::Started;
-use score::State;
 ghost use mathlib.Core.Path.{_≡_};
+ghost use mathlib.Core.Bool.{true};
 ghost use mathlib.Core.List.{List, [], _++_};
 ghost use Prim.Native.Nat.{ℕ, _+_, _%_, _≤_, _<_};
 ghost use lib.ListN.{length, take, getD, replicate};
@@ -9,10 +10,11 @@ ghost use lib.IntN.{pos};
 ghost use Rattle.backoff.specs.Limits.{runLimit};
 ghost use Rattle.backoff.specs.Refusal.{brokenNode};
 ghost use Rattle.backoff.specs.Run.{written};
-ghost use Rattle.backoff.specs.NineNumbers.{nineZeros};
+ghost use Rattle.backoff.specs.NineNumbers.{nineZeros, stateOk};
 ghost use Rattle.backoff.specs.Store.{startOutcome, runOutcome};
-ghost use Rattle.double_array.specs.DoubleArray.{opened};
-ghost use Rattle.score.specs.Answers.{numbersOf, startedOf};
+ghost use Rattle.double_array.specs.DoubleArray.{isArray, orderIn, opened};
+ghost use Rattle.carried_state.specs.Numbers.{numbersOf};
+ghost use Rattle.score.specs.Answers.{startedOf};
 ghost use Rattle.batch.specs.Sheet.{closingRun, lastEnd, badEnd, sheetSize, earlyRefusal, refusedSheet, scoredSheet, met, sheetOutcome};
 ghost use Rattle.batch.specs.Meaning.{SheetMeans};
 ghost use Rattle.batch.specs.Inner.{closingOf, SentenceIs, counted, Tallied, countedSheet, bytesSheet, ScoredAs};
@@ -176,12 +178,14 @@ fn count_words(lengths: &[u8], counts: &mut [u32; 9])
 
 // The closing 3, from the state that a sentence's words left.
 fn close(base: &[i32], check: &[i32], end: State) -> Sentence
+    requires { ⌜ isArray (now base) (now check) ≡ true ⌝ }
+    requires { ⌜ stateOk (orderIn (now check)) (numbersOf end) ≡ true ⌝ }
     ensures { λ r. ⌜ r ≡ closingOf (runOutcome (opened (now (base .entry)) (now (check .entry))) (numbersOf end) closingRun) ⌝ }
 {
     let words = [backoff::END_WORD];
     let mut points = [0i32];
     let mut lengths = [0u8];
-    let ran = score::run(base, check, end, &words, &mut points, &mut lengths);
+    let ran = score::run_passed(base, check, end, &words, &mut points, &mut lengths);
     if ran.number != 0 {
         return Sentence::Refused;
     }
@@ -200,14 +204,16 @@ fn score_sentence(
     points: &mut [i32],
     lengths: &mut [u8],
 ) -> Sentence
+    requires { ⌜ isArray (now base) (now check) ≡ true ⌝ }
     requires { ⌜ startedOf started ≡ startOutcome (opened (now base) (now check)) nineZeros ⌝ }
+    requires { ⌜ (length (now words) ≤ runLimit) × ((length (now words) ≤ length (now points)) × (length (now words) ≤ length (now lengths))) ⌝ }
     ensures { λ r. ⌜ SentenceIs (opened (now (base .entry)) (now (check .entry))) (record { words = now (words .entry); points = now (points .entry); lengths = now (lengths .entry) }) r (now (points .exit)) (now (lengths .exit)) ⌝ }
 {
     if started.number != 0 {
         return Sentence::Refused;
     }
     let state = started.state;
-    let ran = score::run(base, check, state, words, points, lengths);
+    let ran = score::run_passed(base, check, state, words, points, lengths);
     if ran.number != 0 {
         return Sentence::Refused;
     }
@@ -232,8 +238,10 @@ fn score_sentences(
     lengths: &mut [u8],
     counts: &mut [u32; 9],
 ) -> Scored
+    requires { ⌜ isArray (now base) (now check) ≡ true ⌝ }
     requires { ⌜ startedOf started ≡ startOutcome (opened (now base) (now check)) nineZeros ⌝ }
     requires { ⌜ badEnd (length (now words)) 1 0 (now ends) ≡ 0 ⌝ }
+    requires { ⌜ length (now words) ≤ runLimit ⌝ }
     requires { ⌜ (length (now ends) ≤ runLimit) × ((lastEnd 0 (now ends) ≤ length (now points)) × (lastEnd 0 (now ends) ≤ length (now lengths))) ⌝ }
     requires { ⌜ Tallied [] [] (now counts) ⌝ }
     ensures { λ r. ⌜ ScoredAs (opened (now (base .entry)) (now (check .entry))) (now (ends .entry)) (record { words = now (words .entry); points = now (points .entry); lengths = now (lengths .entry) }) r (now (points .exit)) (now (lengths .exit)) (now (counts .exit)) ⌝ }
@@ -342,7 +350,7 @@ pub fn score_batch(
     lengths: &mut [u8],
 ) -> Sheet
     ensures outcome { λ r. ⌜ record { sheet = r; points = now (points .exit); lengths = now (lengths .exit) } ≡ sheetOutcome (opened (now (base .entry)) (now (check .entry))) (now (ends .entry)) (record { words = now (words .entry); points = now (points .entry); lengths = now (lengths .entry) }) ⌝ }
-    ensures meaning { λ r. ⌜ SheetMeans (now (ends .entry)) (record { words = now (words .entry); points = now (points .entry); lengths = now (lengths .entry) }) (record { sheet = r; points = now (points .exit); lengths = now (lengths .exit) }) ⌝ }
+    ensures meaning { λ r. ⌜ SheetMeans (now (base .entry)) (now (check .entry)) (now (ends .entry)) (record { words = now (words .entry); points = now (points .entry); lengths = now (lengths .entry) }) (record { sheet = r; points = now (points .exit); lengths = now (lengths .exit) }) ⌝ }
 {
     let early = early_refusal(base, check, words.len(), ends, points.len(), lengths.len());
     if early.number != 0 {

@@ -22,13 +22,13 @@ use Rattle.backoff.specs.declared.Verdict.{Verdict}
 use Rattle.backoff.specs.declared.Verdict.the-variants.{Accepted, Refused}
 use Rattle.backoff.proofs.Model.{model-ext}
 use Rattle.backoff.proofs.Store.{entryOf-lookEntry, lookEntry-sound, Whole}
-use Rattle.list.specs.Table.{rowsOf, orderOf, words}
-use Rattle.list.specs.Search.{findIn}
+use Rattle.rows.specs.Table.{rowsOf, orderOf, words}
+use Rattle.row_search.specs.Search.{findIn}
+use Rattle.row_search.specs.declared.Found.{Found}
+use Rattle.row_search.specs.declared.Found.the-variants.{At, Nothing}
+use Rattle.row_search.proofs.Search.{found-words}
 use Rattle.list.specs.Check.{tableFits, verdict}
 use Rattle.list.specs.ListModel.{entryAt, modelOf}
-use Rattle.list.specs.declared.Found.{Found}
-use Rattle.list.specs.declared.Found.the-variants.{At, Nothing}
-use Rattle.list.proofs.Search.{found-words}
 use Rattle.list.proofs.Check.{accepted-size, number-accepted}
 use Rattle.list.proofs.ListModel.{accepted-model}
 use Rattle.double_array.specs.DoubleArray.{freeCheck, headCheck, baseAt, checkAt, lookRow, sizesOk, orderOk, headOk, isArray, orderIn, storeIn, opened}
@@ -37,9 +37,9 @@ use Rattle.placing.specs.Placing.{slots}
 use Rattle.placing.proofs.NodeByNode.{placing-head}
 use Rattle.placing.proofs.Slots.{length-slots, getD-slots}
 use Rattle.placing.proofs.Walk.{lookNode, look-placed}
-use Rattle.build.specs.ListTrie.{rootOf, nodesOf, placedList, rowSlots}
+use Rattle.list_trie.specs.ListTrie.{rootOf, nodesOf, placedList, rowSlots}
 use Rattle.build.specs.Build.{Built, untouched, emptied, filled, checkedBuild, buildOutcome}
-use Rattle.build.proofs.ListTrie.{nodeAt-root, nodes-ready, row-marker, nodes-sound, nodeIf, findNode-listed}
+use Rattle.list_trie.proofs.ListTrie.{nodeAt-root, nodes-ready, row-marker, nodes-sound, nodeIf, findNode-listed}
 
 -- BASE and CHECK hold the list, all of it and only it: 11 lets them pass, and they have for any words what the list has
 pub record HoldsList (t base check : List ℤ) : Type 0 where

@@ -15,7 +15,7 @@ use Rattle.backoff.specs.Refusal.{noRoom}
 use Rattle.backoff.specs.Run.{written}
 use Rattle.backoff.specs.declared.Verdict.{Verdict}
 use Rattle.backoff.specs.declared.Verdict.the-variants.{Accepted, Refused}
-use Rattle.list.specs.Table.{rowsOf, orderOf}
+use Rattle.rows.specs.Table.{rowsOf, orderOf}
 use Rattle.list.specs.Check.{tableFits, verdict}
 use Rattle.list.proofs.Check.{accepted-size, table-passes}
 use Rattle.double_array.specs.DoubleArray.{freeCheck, sizesOk}
@@ -24,10 +24,10 @@ use Rattle.placing.specs.Placing.{Placed, slots, usedSlots}
 use Rattle.placing.proofs.Placing.{Inv, below-top}
 use Rattle.placing.proofs.NodeByNode.{placing-inv, placing-head}
 use Rattle.placing.proofs.Slots.{length-slots, take-slots, slots-past, usedSlots-slots}
-use Rattle.build.specs.ListTrie.{rootOf, nodesOf, placedList, rowSlots}
+use Rattle.list_trie.specs.ListTrie.{rootOf, nodesOf, placedList, rowSlots}
 use Rattle.build.specs.Build.{Built, untouched, emptied, filled, buildOutcome}
 use Rattle.build.specs.FewestSlots.{fewest, cutBase, cutCheck, Lent, Leaves, FewestSlots}
-use Rattle.build.proofs.ListTrie.{nodeAt-root, nodes-ready}
+use Rattle.list_trie.proofs.ListTrie.{nodeAt-root, nodes-ready}
 use Rattle.build.proofs.Built.{AcceptedBuild, outcome-filled, build-accepted}
 use Rattle.build.proofs.Outcome.{length-rowSlots}
 

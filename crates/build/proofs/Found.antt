@@ -13,12 +13,12 @@ use Rattle.backoff.specs.Refusal.{wordCount}
 use Rattle.backoff.specs.Model.{listed}
 use Rattle.backoff.specs.Store.{lookEntry}
 use Rattle.backoff.specs.declared.Verdict.the-variants.{Accepted}
-use Rattle.list.specs.Table.{orderOf}
-use Rattle.list.specs.Search.{findIn}
+use Rattle.rows.specs.Table.{orderOf}
+use Rattle.row_search.specs.Search.{findIn}
+use Rattle.row_search.specs.declared.Found.{Found as Row}
+use Rattle.row_search.specs.declared.Found.the-variants.{At, Nothing}
 use Rattle.list.specs.Check.{verdict}
 use Rattle.list.specs.ListModel.{entryAt, modelOf}
-use Rattle.list.specs.declared.Found.{Found as Row}
-use Rattle.list.specs.declared.Found.the-variants.{At, Nothing}
 use Rattle.list.proofs.ListModel.{accepted-model}
 use Rattle.double_array.specs.DoubleArray.{lookRow, orderIn, storeIn}
 use Rattle.double_array.specs.Lookup.{lookupOf, lookupOutcome}

@@ -14,10 +14,9 @@ use Rattle.backoff.specs.Run.{written}
 use Rattle.backoff.specs.declared.Verdict.{Verdict}
 use Rattle.backoff.specs.declared.Verdict.the-variants.{Accepted, Refused}
 use Rattle.double_array.specs.DoubleArray.{freeCheck, headCheck, sizesOk}
-use Rattle.double_array.proofs.DoubleArray.{sizes-told, opened-some}
-use Rattle.list.specs.Table.{rowsOf, orderOf, words}
+use Rattle.double_array.proofs.DoubleArray.{sizes-told}
+use Rattle.rows.specs.Table.{rowsOf, orderOf, words}
 use Rattle.list.specs.Check.{verdict, tableFits}
-use Rattle.list.proofs.ListModel.{accepted-model}
 use Rattle.placing.specs.Trie.{nodeAt}
 use Rattle.placing.specs.Placing.{update, placeAll, unplaced, slots}
 use Rattle.placing.proofs.NodeByNode.{Head, placing-inv, placing-head}
@@ -25,11 +24,11 @@ use Rattle.free_slots.specs.Chain.{Unlinked}
 use Rattle.free_slots.proofs.Chain.{update-kept}
 use Rattle.free_slots.proofs.Following.{links-run-through-the-free-slots}
 use Rattle.free_slots.proofs.Linking.{fresh-linked}
-use Rattle.build.specs.ListTrie.{nodesOf, placedList, slotsFrom, rowSlots}
-use Rattle.build.specs.Build.{untouched, filled, emptied, checkedBuild, buildOutcome, IsBuilt, BuildMeans}
-use Rattle.build.specs.Steps.{Passed, placedNodes, Filled, Tried, Wiped}
-use Rattle.build.proofs.Built.{build-accepted, build-holds}
-use Rattle.build.proofs.ListTrie.{nodes-ready}
+use Rattle.list_trie.specs.ListTrie.{nodesOf, placedList, slotsFrom, rowSlots}
+use Rattle.build.specs.Build.{untouched, filled, emptied, checkedBuild, buildOutcome, IsBuilt}
+use Rattle.list_trie.specs.Steps.{placedNodes, Filled, Tried}
+use Rattle.build.specs.Steps.{Passed, Wiped}
+use Rattle.list_trie.proofs.ListTrie.{nodes-ready}
 
 -- ---- before the first node
 
@@ -129,19 +128,6 @@ written-part {A} k new old e =
 -- ---- the outcome of build
 
 module _ (t B C : List ℤ) (W : List ℕ) where
-  -- what "accepted" means follows from the outcome
-  pub answers : {r : Verdict} {B′ C′ : List ℤ} {W′ : List ℕ} → IsBuilt (buildOutcome t B C W) r B′ C′ W′
-      → IsBuilt (buildOutcome t B C W) r B′ C′ W′ × (r ≡ Accepted → BuildMeans t (length B) B′ C′)
-  answers b = (
-    b,
-    λ e.
-        let accepted : buildOutcome t B C W .answer ≡ Accepted = sym (b .answer-is) ∙ e in
-        let k = build-accepted t B C W accepted in
-        let h = build-holds t B C W accepted in
-        rw (b .base-is, b .check-is)
-        (record { accepted = accepted-model t (k .accepted); room = k .room; opens = opened-some _ _ (h .array); model = h .model }),
-  )
-
   untouched-is : (v : Verdict) → IsBuilt (untouched t B C W v) v B C W
   unfolding untouched
   untouched-is v = record { answer-is = refl; base-is = refl; check-is = refl; work-is = refl }

@@ -1,4 +1,4 @@
--- The sample list built, number for number, by computation; what document 01 marks of it is in grader's MarkedCases. Assumes nothing.
+-- The sample list built, number for number, by computation; what document 01 marks of it is in MarkedCases of theorems. Assumes nothing.
 use mathlib.Core.Path.{_≡_, refl}
 use mathlib.Core.List.{List, [], _∷_}
 use Prim.Native.Nat.{ℕ}
@@ -10,16 +10,16 @@ use Rattle.backoff.specs.Model.{inProbability, inBackoff}
 use Rattle.backoff.specs.Refusal.{noRoom}
 use Rattle.backoff.specs.Run.{written}
 use Rattle.backoff.specs.declared.Verdict.the-variants.{Accepted, Refused}
-use Rattle.list.specs.Table.{rowsOf, field, lengthOf, orderOf, wordsOf, words, withoutFirst, withoutLast}
-use Rattle.list.specs.Order.{lastLess, precedes}
-use Rattle.list.specs.Search.{findBelow, findIn}
-use Rattle.list.specs.Check.{tableFits, placeFits, placesFit, backoffFits, fieldFault, isAfter, withoutFirsts, shorterListed, orderFault, rowFault, reservedListed, scan, verdictFor}
+use Rattle.rows.specs.Table.{rowsOf, field, lengthOf, orderOf, wordsOf, words, withoutFirst, withoutLast, placeFits, placesFit}
+use Rattle.rows.specs.Order.{lastLess, precedes}
+use Rattle.row_search.specs.Search.{findBelow, findIn}
+use Rattle.list.specs.Check.{tableFits, backoffFits, fieldFault, isAfter, withoutFirsts, shorterListed, orderFault, rowFault, reservedListed, scan, verdictFor}
 use Rattle.list.specs.ListModel.{anyBelow, extendedIn, continuedIn}
 use Rattle.list.specs.Sample.{sample}
 use Rattle.double_array.specs.DoubleArray.{freeCheck, sizesOk}
 use Rattle.placing.specs.Trie.{children}
-use Rattle.placing.specs.Placing.{isFree, update, isOpen, allOpen, fits, search, firstFit, own, reach, give, settle, placeAt, withMarker, withoutMarker, place, placeAll, unplaced, placing, slots}
-use Rattle.build.specs.ListTrie.{nodeOf, rootOf, nodesFrom, nodesOf, placedList, slotsFrom, rowSlots}
+use Rattle.placing.specs.Placing.{isFree, update, isOpen, allOpen, fits, search, firstFit, own, topWith, give, settle, placeAt, withMarker, withoutMarker, place, placeAll, unplaced, placing, slots}
+use Rattle.list_trie.specs.ListTrie.{nodeOf, rootOf, nodesFrom, nodesOf, placedList, slotsFrom, rowSlots}
 use Rattle.build.specs.Build.{Built, untouched, emptied, filled, buildOutcome}
 
 -- the sample built into N slots, and a work slice one longer than the rows; what the slices held is 7 throughout
@@ -37,5 +37,5 @@ pub record SampleCases : Type 0 where
   pub too-few : sampleBuilt 19 ≡ record { answer = Refused noRoom 0; base = replicate 19 (pos 0); check = replicate 19 freeCheck; work = 0 ∷ 0 ∷ 0 ∷ 0 ∷ 0 ∷ 0 ∷ 0 ∷ 0 ∷ 0 ∷ 7 ∷ [] }
 
 pub sample-cases : SampleCases
-unfolding between upTo sameWords inProbability inBackoff written rowsOf field lengthOf orderOf wordsOf words withoutFirst withoutLast lastLess precedes findBelow findIn tableFits placeFits placesFit backoffFits fieldFault isAfter withoutFirsts shorterListed orderFault rowFault reservedListed scan verdictFor anyBelow extendedIn continuedIn sizesOk children isFree update isOpen allOpen fits search firstFit own reach give settle placeAt withMarker withoutMarker place placeAll unplaced placing slots nodeOf rootOf nodesFrom nodesOf placedList slotsFrom rowSlots untouched emptied filled buildOutcome
+unfolding between upTo sameWords inProbability inBackoff written rowsOf field lengthOf orderOf wordsOf words withoutFirst withoutLast lastLess precedes findBelow findIn tableFits placeFits placesFit backoffFits fieldFault isAfter withoutFirsts shorterListed orderFault rowFault reservedListed scan verdictFor anyBelow extendedIn continuedIn sizesOk children isFree update isOpen allOpen fits search firstFit own topWith give settle placeAt withMarker withoutMarker place placeAll unplaced placing slots nodeOf rootOf nodesFrom nodesOf placedList slotsFrom rowSlots untouched emptied filled buildOutcome
 sample-cases = record { enough = refl; too-few = refl }

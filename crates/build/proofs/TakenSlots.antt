@@ -9,16 +9,16 @@ use lib.Dec.{eqb}
 use lib.IntN.{ℤ}
 use lib.ListN.{length}
 use Rattle.backoff.specs.declared.Verdict.the-variants.{Accepted}
-use Rattle.list.specs.Table.{rowsOf, lengthOf, orderOf}
+use Rattle.rows.specs.Table.{rowsOf, lengthOf, orderOf}
+use Rattle.rows.proofs.Table.{row-in, words-length}
 use Rattle.list.specs.Check.{verdict}
-use Rattle.list.proofs.Table.{row-in, words-length}
 use Rattle.placing.specs.Trie.{longestNodes}
 use Rattle.placing.specs.Placing.{takenSlots}
 use Rattle.placing.proofs.TakenSlots.{taken-slots}
-use Rattle.build.specs.ListTrie.{nodeOf, rootOf, nodesFrom, nodesOf, placedList}
+use Rattle.list_trie.specs.ListTrie.{nodeOf, rootOf, nodesFrom, nodesOf, placedList}
 use Rattle.build.specs.Build.{buildOutcome}
 use Rattle.build.specs.TakenSlots.{longestFrom}
-use Rattle.build.proofs.ListTrie.{length-nodesOf, nodes-ready}
+use Rattle.list_trie.proofs.ListTrie.{length-nodesOf, nodes-ready}
 use Rattle.build.proofs.Built.{build-accepted}
 
 longest-rows : (t : List ℤ) (i k : ℕ) → i + k ≤ rowsOf t → longestNodes (orderOf t) (nodesFrom t i k) ≡ longestFrom t i k

@@ -2,23 +2,19 @@
 use mathlib.Core.Path.{_≡_}
 use mathlib.Core.Bool.{cond, _&&_}
 use mathlib.Core.List.{List}
-use mathlib.Core.Option.{some}
-use Prim.Native.Nat.{ℕ, _≤_}
+use Prim.Native.Nat.{ℕ}
 use lib.Dec.{leb}
 use lib.ListN.{length, replicate}
 use lib.IntN.{ℤ, pos}
 use Rattle.backoff.specs.Refusal.{tableLength, arrayLength, noRoom}
-use Rattle.backoff.specs.Model.{AcceptedModel}
-use Rattle.backoff.specs.Store.{modelIn}
 use Rattle.backoff.specs.Run.{written}
 use Rattle.backoff.specs.declared.Verdict.{Verdict}
 use Rattle.backoff.specs.declared.Verdict.the-variants.{Accepted, Refused}
-use Rattle.double_array.specs.DoubleArray.{freeCheck, sizesOk, storeIn, opened}
-use Rattle.list.specs.Table.{rowsOf}
+use Rattle.double_array.specs.DoubleArray.{freeCheck, sizesOk}
+use Rattle.rows.specs.Table.{rowsOf}
 use Rattle.list.specs.Check.{tableFits, verdict}
-use Rattle.list.specs.ListModel.{modelOf}
 use Rattle.placing.specs.Placing.{slots}
-use Rattle.build.specs.ListTrie.{placedList, rowSlots}
+use Rattle.list_trie.specs.ListTrie.{placedList, rowSlots}
 
 -- what build answers, and what the lent slices hold when it returns
 pub record Built : Type 0 where
@@ -70,10 +66,3 @@ pub record IsBuilt (outcome : Built) (answer : Verdict) (base check : List ℤ) 
   pub base-is : base ≡ outcome .base
   pub check-is : check ≡ outcome .check
   pub work-is : work ≡ outcome .work
-
--- what "accepted" says: the list is an accepted model, the placing rule keeps below slot N, and the array holds the list, all of it and only it
-pub record BuildMeans (table : List ℤ) (N : ℕ) (base check : List ℤ) : Type 0 where
-  pub accepted : AcceptedModel (modelOf table)
-  pub room : placedList table .top ≤ N
-  pub opens : opened base check ≡ some (storeIn base check)
-  pub model : modelIn (storeIn base check) ≡ modelOf table

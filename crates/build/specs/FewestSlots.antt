@@ -9,7 +9,7 @@ use Rattle.backoff.specs.Refusal.{noRoom}
 use Rattle.backoff.specs.Run.{written}
 use Rattle.backoff.specs.declared.Verdict.the-variants.{Accepted, Refused}
 use Rattle.double_array.specs.DoubleArray.{freeCheck, sizesOk}
-use Rattle.list.specs.Table.{rowsOf}
+use Rattle.rows.specs.Table.{rowsOf}
 use Rattle.placing.specs.Placing.{usedSlots}
 use Rattle.build.specs.Build.{Built, buildOutcome, IsBuilt}
 

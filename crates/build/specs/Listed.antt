@@ -7,11 +7,11 @@ use lib.ListN.{length}
 use lib.IntN.{ℤ}
 use Rattle.backoff.specs.Limits.{orderLimit}
 use Rattle.backoff.specs.Refusal.{wordCount}
-use Rattle.list.specs.Table.{probabilityAt, backoffAt}
-use Rattle.list.specs.Search.{findIn}
+use Rattle.rows.specs.Table.{probabilityAt, backoffAt}
+use Rattle.row_search.specs.Search.{findIn}
+use Rattle.row_search.specs.declared.Found.{Found as Row}
+use Rattle.row_search.specs.declared.Found.the-variants.{At, Nothing}
 use Rattle.list.specs.ListModel.{extendedIn}
-use Rattle.list.specs.declared.Found.{Found as Row}
-use Rattle.list.specs.declared.Found.the-variants.{At, Nothing}
 use Rattle.double_array.specs.declared.Lookup.{Lookup}
 use Rattle.double_array.specs.declared.Lookup.the-variants.{Found, NotFound, Refused}
 

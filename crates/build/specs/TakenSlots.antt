@@ -4,7 +4,7 @@ use mathlib.Core.List.{List}
 use Prim.Native.Nat.{ℕ, zero, suc}
 use lib.Dec.{eqb}
 use lib.IntN.{ℤ}
-use Rattle.list.specs.Table.{lengthOf, orderOf}
+use Rattle.rows.specs.Table.{lengthOf, orderOf}
 
 -- how many of the k rows from row i on have n words: "They give up their marker"
 unfoldable pub longestFrom : List ℤ → ℕ → ℕ → ℕ

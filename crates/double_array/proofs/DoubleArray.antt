@@ -452,13 +452,17 @@ module _ (base check : List ℤ) (k s : ℕ) where
   look-broken [] e = rw e
   look-broken (w ∷ ws) e = rw e
 
--- a node whose BASE is negative has no child,
-pub negative-childless : (base check : List ℤ) (s : ℕ) {c : ℕ} → baseAt base check s ≡ negsuc c → (w : ℕ) → childAt base check s w ≡ Nothing
-negative-childless base check s b w = go (childAt base check s w) refl
+-- there is no child where no slot is the child's
+pub child-absent : (base check : List ℤ) (s w : ℕ) → ((t : ℕ) → childAt base check s w ≡ At t → ⊥) → childAt base check s w ≡ Nothing
+child-absent base check s w h = go (childAt base check s w) refl
   where
     go : (r : Child) → childAt base check s w ≡ r → r ≡ Nothing
-    go (At t) e = let l = child-told base check s w t e .some-base in absurd (omega (zarith, b))
+    go (At t) e = absurd (h t e)
     go Nothing e = refl
+
+-- a node whose BASE is negative has no child,
+pub negative-childless : (base check : List ℤ) (s : ℕ) {c : ℕ} → baseAt base check s ≡ negsuc c → (w : ℕ) → childAt base check s w ≡ Nothing
+negative-childless base check s b w = child-absent base check s w (λ t e. let l = child-told base check s w t e .some-base in absurd (omega (zarith, b)))
 
 -- so that no walk goes on from a sound node of n words
 pub look-below-longest : (base check : List ℤ) (s : ℕ) (p b : ℤ) (e f : Bool) (w : ℕ) (ws : List ℕ) → markerAt base check (orderIn check) s ≡ Sound p b e f → lookFrom base check (orderIn check) s (w ∷ ws) ≡ absent

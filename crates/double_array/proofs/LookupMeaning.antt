@@ -15,7 +15,7 @@ use Rattle.backoff.specs.Limits.{orderLimit}
 use Rattle.backoff.specs.Refusal.{arrayHead, brokenNode, wordCount}
 use Rattle.backoff.specs.Store.{Look, absent, broken, here, Store, modelIn}
 use Rattle.double_array.specs.DoubleArray.{lookFrom, isArray, orderIn, storeIn, opened}
-use Rattle.double_array.specs.Lookup.{lookupOf, lookupIn, lookupOutcome, numberOf, placeOf, foundOf, pOf, bOf, leftOf, IsRow, IsNoRow, RefusedBy, no-array, word-count, broken-node, LookupMeans}
+use Rattle.double_array.specs.Lookup.{lookupOf, lookupIn, lookupOutcome, lookupNumber, lookupPlace, foundOf, pOf, bOf, leftOf, IsRow, IsNoRow, RefusedBy, no-array, word-count, broken-node, LookupMeans}
 use Rattle.double_array.specs.declared.Lookup.{Lookup}
 use Rattle.double_array.specs.declared.Lookup.the-variants.{Found, NotFound, Refused}
 use Rattle.double_array.proofs.DoubleArray.{opened-some, opened-none, opened-order, look-row}
@@ -27,7 +27,7 @@ reverse-take l k d h = rw (take-suc l k d h, reverse-append (take k l) (getD l k
 module _ (base check : List ℤ) (ws : List ℕ) where
   -- what an answer means, by the numbers that the caller reads
   abbrev pub AnswerMeans : Lookup → Type 0
-  AnswerMeans r = LookupMeans base check ws (numberOf r) (placeOf r) (foundOf r) (pOf r) (bOf r) (leftOf r)
+  AnswerMeans r = LookupMeans base check ws (lookupNumber r) (lookupPlace r) (foundOf r) (pOf r) (bOf r) (leftOf r)
 
   -- an answer of one kind means nothing of the other two
   found-means : (p b : ℤ) (left : Bool) → IsRow base check ws p b (cond left 1 0) → AnswerMeans (Found p b left)

@@ -31,16 +31,16 @@ lookupIn (some S) ws =
 unfoldable pub lookupOutcome : List ℤ → List ℤ → List ℕ → Lookup
 lookupOutcome base check ws = lookupIn (opened base check) ws
 
--- what an answer says as the caller from C reads it: "a refused lookup [returns] two zeros"
-abbrev pub numberOf : Lookup → ℕ
-numberOf (Found p b left) = 0
-numberOf NotFound = 0
-numberOf (Refused n k) = n
+-- what an answer says as the caller from C reads it: "A refused run returns .., a refused lookup two zeros"
+abbrev pub lookupNumber : Lookup → ℕ
+lookupNumber (Found p b left) = 0
+lookupNumber NotFound = 0
+lookupNumber (Refused n k) = n
 
-abbrev pub placeOf : Lookup → ℕ
-placeOf (Found p b left) = 0
-placeOf NotFound = 0
-placeOf (Refused n k) = k
+abbrev pub lookupPlace : Lookup → ℕ
+lookupPlace (Found p b left) = 0
+lookupPlace NotFound = 0
+lookupPlace (Refused n k) = k
 
 abbrev pub foundOf : Lookup → ℕ
 foundOf (Found p b left) = 1

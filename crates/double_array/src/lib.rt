@@ -9,7 +9,7 @@ ghost use lib.IntN.{negsuc};
 ghost use Rattle.backoff.specs.Limits.{wordLimit, orderLimit, slotLimit};
 ghost use Rattle.backoff.specs.Model.{inProbability, inBackoff};
 ghost use Rattle.double_array.specs.DoubleArray.{freeCheck, headCheck, markerCheck, markerBase, markerOf, keptMarker, markerAt, childSlot, wordAt, ownedBy, onEitherSide, childAt, rootChild, lookMarker, lookFrom, sizesOk, orderOk, headOk, isArray, orderIn};
-ghost use Rattle.double_array.specs.Lookup.{lookupOf, lookupOutcome, numberOf, placeOf, foundOf, pOf, bOf, leftOf, LookupMeans};
+ghost use Rattle.double_array.specs.Lookup.{lookupOf, lookupOutcome, lookupNumber, lookupPlace, foundOf, pOf, bOf, leftOf, LookupMeans};
 
 // CHECK of a free slot; its BASE is 0.
 pub const FREE: i32 = -2147483648;
@@ -307,7 +307,7 @@ fn walk(base: &[i32], check: &[i32], order: usize, words: &[u32]) -> Lookup
 // The paper's lookup: the p, b and left extension of the row that the words are, oldest first.
 pub fn look_up(base: &[i32], check: &[i32], words: &[u32]) -> Lookup
     ensures outcome { λ r. ⌜ r ≡ lookupOutcome (now (base .entry)) (now (check .entry)) (now (words .entry)) ⌝ }
-    ensures meaning { λ r. ⌜ LookupMeans (now (base .entry)) (now (check .entry)) (now (words .entry)) (numberOf r) (placeOf r) (foundOf r) (pOf r) (bOf r) (leftOf r) ⌝ }
+    ensures meaning { λ r. ⌜ LookupMeans (now (base .entry)) (now (check .entry)) (now (words .entry)) (lookupNumber r) (lookupPlace r) (foundOf r) (pOf r) (bOf r) (leftOf r) ⌝ }
 {
     if !is_array(base, check) {
         return Lookup::Refused {

@@ -10,10 +10,10 @@ use lib.ListN.{take, length-take}
 use lib.Seq.{take-take}
 use lib.IntN.{ℤ, pos, _+ℤ_}
 use Rattle.backoff.specs.Limits.{unknownWord}
-use Rattle.backoff.specs.Model.{Model, listed, probability, backoff, reach}
+use Rattle.backoff.specs.Model.{Model, listed, probability, backoff}
 use Rattle.backoff.specs.Rule.{Score, addPoints, replaced, scoreAfter, historyLength, rule, grow, rulePoints, history}
 use Rattle.backoff.proofs.Model.{dead-backoff, unlisted-dead}
-use Rattle.backoff.proofs.Rule.{scoreAfter-here, scoreAfter-down, take-map, historyLength-length, historyLength-reach}
+use Rattle.backoff.proofs.Rule.{historyLength-same, scoreAfter-here, scoreAfter-down, take-map, historyLength-length, historyLength-reach}
 use Rattle.filling.specs.Added.{ownPoints, Kept, Added, Extends}
 
 module _ (M : Model) where
@@ -102,10 +102,6 @@ module _ (M N : Model) (E : Extends M N) where
   replaced-all-alike [] = refl
   replaced-all-alike (w ∷ h) = ap₂ _∷_ (replaced-alike w) (replaced-all-alike h)
 
-  historyLength-alike : (g : List ℕ) → historyLength N g ≡ historyLength M g
-  unfolding historyLength reach
-  historyLength-alike g = rw (E .order-as)
-
   module _ (u : listed M (unknownWord ∷ []) ≡ true) (h : List ℕ) (w : ℕ) where
     abbrev g : List ℕ
     g = map (replaced M) h
@@ -142,7 +138,7 @@ module _ (M N : Model) (E : Extends M N) where
     rule-alike =
         ap (λ (s : Score). s .points)
         (ap₂ (λ (t : List ℕ) (x : ℕ). scoreAfter N (historyLength N t) t x) (replaced-all-alike h) (replaced-alike w)
-        ∙ ap (λ (n : ℕ). scoreAfter N n g v) (historyLength-alike g))
+        ∙ ap (λ (n : ℕ). scoreAfter N n g v) (historyLength-same M N (E .order-as) g))
         ∙ scoreAfter-alike (historyLength M g) (omega arith)
 
   -- so the p of an added row is the same, whichever of the rows are there already

@@ -10,12 +10,12 @@ use Rattle.integer.proofs.Ranges.{lt-or-ge, and-left, and-right, and-both}
 use Rattle.backoff.specs.Refusal.{rowProbability}
 use Rattle.backoff.specs.Model.{inProbability}
 use Rattle.backoff.specs.declared.Verdict.the-variants.{Accepted}
-use Rattle.list.specs.Table.{rowsOf, probabilityAt, backoffAt, lengthOf, words}
-use Rattle.list.specs.Search.{findIn, isAt}
+use Rattle.rows.specs.Table.{rowsOf, probabilityAt, backoffAt, lengthOf, words}
+use Rattle.row_search.specs.Search.{findIn, isAt}
+use Rattle.row_search.specs.declared.Found.{Found}
+use Rattle.row_search.specs.declared.Found.the-variants.{At, Nothing}
+use Rattle.row_search.proofs.Search.{found-words, finds}
 use Rattle.list.specs.Check.{verdictFor}
-use Rattle.list.specs.declared.Found.{Found}
-use Rattle.list.specs.declared.Found.the-variants.{At, Nothing}
-use Rattle.list.proofs.Search.{found-words, finds}
 use Rattle.list.proofs.Check.{checked-good, checked-row}
 use Rattle.filling.specs.Filled.{withoutFirstWords, filledProbability, filledBackoff, filledTable}
 use Rattle.filling.specs.Fill.{addable, allAddable, neededFault}

@@ -7,14 +7,14 @@ use native.Mathlib.Omega.{arith}
 use lib.ListN.{length, length-reverse}
 use lib.IntN.{ℤ}
 use Rattle.backoff.specs.Model.{listed, probability, backoff, probabilityOf, backoffOf}
-use Rattle.list.specs.Table.{rowsOf, probabilityAt, backoffAt, orderOf, words}
-use Rattle.list.specs.Search.{findIn, isAt}
-use Rattle.list.specs.Good.{Good}
+use Rattle.rows.specs.Table.{rowsOf, probabilityAt, backoffAt, orderOf, words}
+use Rattle.rows.specs.Good.{Good}
+use Rattle.rows.proofs.Table.{row-in, words-length}
+use Rattle.row_search.specs.Search.{findIn, isAt}
+use Rattle.row_search.specs.declared.Found.{Found}
+use Rattle.row_search.specs.declared.Found.the-variants.{At, Nothing}
+use Rattle.row_search.proofs.Search.{found-words, finds}
 use Rattle.list.specs.ListModel.{entryAt, modelOf}
-use Rattle.list.specs.declared.Found.{Found}
-use Rattle.list.specs.declared.Found.the-variants.{At, Nothing}
-use Rattle.list.proofs.Table.{row-in, words-length}
-use Rattle.list.proofs.Search.{found-words, finds}
 use Rattle.list.proofs.ListModel.{listed-found, probability-found, backoff-found, length-order}
 use Rattle.filling.specs.Added.{ownPoints, Kept, Added, Extends}
 use Rattle.filling.specs.Filled.{addedProbability, filledProbability, filledBackoff, filledTable}
@@ -153,57 +153,52 @@ module _ (t : List ℤ) (g : Good t (rowsOf t)) where
 
   -- ---- which rows
 
-  pub filled-adds-only : (ws : List ℕ) (p b : ℤ) → AddsOnly t T ws p b
-  filled-adds-only ws p b = record { has = has; lent = lent; added = added }
-    where
-      has : Lent T ws p b → Lent t ws p b ⊎ AddedTo t ws p b
-      has r = go (findIn t (words T (r .at))) refl
-        where
-          go : (f : Found) → findIn t (words T (r .at)) ≡ f → Lent t ws p b ⊎ AddedTo t ws p b
-          go (At i) e =
-              let w = found-words t (words T (r .at)) i e in
-              inl
-              (record {
-                at = i;
-                within = w .0;
-                same = w .1 ∙ r .same;
-                probability-is = sym (row-probability (r .at) (r .within) (At i) e) ∙ r .probability-is;
-                backoff-is = sym (row-backoff (r .at) (r .within) (At i) e) ∙ r .backoff-is;
-              })
-          go Nothing e =
-              let d = filled-end t g (r .at) (r .within) in
-              inr
-              (record {
-                at = d .at;
-                within = d .within;
-                front = d .front;
-                same = d .same ∙ ap (λ (vs : List ℕ). d .front ++ vs) (r .same);
-                two = omega (arith, absent-long (r .at) (r .within) e, ap length (r .same));
-                absent = ap (findIn t) (sym (r .same)) ∙ e;
-                probability-is = ap (addedProbability t) (sym (r .same)) ∙ sym (row-probability (r .at) (r .within) Nothing e) ∙ r .probability-is;
-                backoff-is = sym (row-backoff (r .at) (r .within) Nothing e) ∙ r .backoff-is;
-              })
+  lent-or-added : (ws : List ℕ) (p b : ℤ) (r : Lent T ws p b) (f : Found) → findIn t (words T (r .at)) ≡ f → Lent t ws p b ⊎ AddedTo t ws p b
+  lent-or-added ws p b r (At i) e =
+      let w = found-words t (words T (r .at)) i e in
+      inl
+      (record {
+        at = i;
+        within = w .0;
+        same = w .1 ∙ r .same;
+        probability-is = sym (row-probability (r .at) (r .within) (At i) e) ∙ r .probability-is;
+        backoff-is = sym (row-backoff (r .at) (r .within) (At i) e) ∙ r .backoff-is;
+      })
+  lent-or-added ws p b r Nothing e =
+      let d = filled-end t g (r .at) (r .within) in
+      inr
+      (record {
+        at = d .at;
+        within = d .within;
+        front = d .front;
+        same = d .same ∙ ap (λ (vs : List ℕ). d .front ++ vs) (r .same);
+        two = omega (arith, absent-long (r .at) (r .within) e, ap length (r .same));
+        absent = ap (findIn t) (sym (r .same)) ∙ e;
+        probability-is = ap (addedProbability t) (sym (r .same)) ∙ sym (row-probability (r .at) (r .within) Nothing e) ∙ r .probability-is;
+        backoff-is = sym (row-backoff (r .at) (r .within) Nothing e) ∙ r .backoff-is;
+      })
 
-      lent : Lent t ws p b → Lent T ws p b
-      lent r =
-          let q = filled-finds (words t (r .at)) (lent-end (r .at) (r .within)) in
-          let e : findIn t (words T (q .0)) ≡ At (r .at) = ap (findIn t) (q .2) ∙ finds t g (r .at) (r .within) in
-          record {
-            at = q .0;
-            within = q .1;
-            same = q .2 ∙ r .same;
-            probability-is = row-probability (q .0) (q .1) (At (r .at)) e ∙ r .probability-is;
-            backoff-is = row-backoff (q .0) (q .1) (At (r .at)) e ∙ r .backoff-is;
-          }
-
-      added : AddedTo t ws p b → Lent T ws p b
-      added r =
-          let q = filled-finds ws (record { at = r .at; within = r .within; front = r .front; same = r .same; long = inr (r .two) }) in
-          let e : findIn t (words T (q .0)) ≡ Nothing = ap (findIn t) (q .2) ∙ r .absent in
-          record {
-            at = q .0;
-            within = q .1;
-            same = q .2;
-            probability-is = row-probability (q .0) (q .1) Nothing e ∙ ap (addedProbability t) (q .2) ∙ r .probability-is;
-            backoff-is = row-backoff (q .0) (q .1) Nothing e ∙ r .backoff-is;
-          }
+  pub filled-adds-only : AddsOnly t T
+  filled-adds-only = record {
+    has = λ ws p b r. lent-or-added ws p b r (findIn t (words T (r .at))) refl;
+    lent = λ ws p b r.
+        let q = filled-finds (words t (r .at)) (lent-end (r .at) (r .within)) in
+        let e : findIn t (words T (q .0)) ≡ At (r .at) = ap (findIn t) (q .2) ∙ finds t g (r .at) (r .within) in
+        record {
+          at = q .0;
+          within = q .1;
+          same = q .2 ∙ r .same;
+          probability-is = row-probability (q .0) (q .1) (At (r .at)) e ∙ r .probability-is;
+          backoff-is = row-backoff (q .0) (q .1) (At (r .at)) e ∙ r .backoff-is;
+        };
+    added = λ ws p b r.
+        let q = filled-finds ws (record { at = r .at; within = r .within; front = r .front; same = r .same; long = inr (r .two) }) in
+        let e : findIn t (words T (q .0)) ≡ Nothing = ap (findIn t) (q .2) ∙ r .absent in
+        record {
+          at = q .0;
+          within = q .1;
+          same = q .2;
+          probability-is = row-probability (q .0) (q .1) Nothing e ∙ ap (addedProbability t) (q .2) ∙ r .probability-is;
+          backoff-is = row-backoff (q .0) (q .1) Nothing e ∙ r .backoff-is;
+        };
+  }

@@ -11,15 +11,15 @@ use Rattle.integer.proofs.Ranges.{and-left}
 use Rattle.backoff.specs.Limits.{unknownWord, startWord, endWord}
 use Rattle.backoff.specs.Model.{listed}
 use Rattle.backoff.specs.Rule.{rule, rulePoints}
-use Rattle.backoff.specs.Refusal.{numberOf}
+use Rattle.backoff.specs.Refusal.{numberOf, placeOf}
 use Rattle.backoff.specs.Run.{written}
 use Rattle.backoff.specs.declared.Verdict.{Verdict}
 use Rattle.backoff.specs.declared.Verdict.the-variants.{Accepted, Refused}
-use Rattle.list.specs.Search.{findIn, isAt}
+use Rattle.row_search.specs.Search.{findIn, isAt}
+use Rattle.row_search.proofs.Search.{find-unique}
 use Rattle.list.specs.Check.{reservedListed, verdictFor}
 use Rattle.list.specs.ListModel.{modelOf}
 use Rattle.list.proofs.Check.{checked-good, checked-reserved, checked-size, accepted-refused}
-use Rattle.list.proofs.Search.{find-unique}
 use Rattle.list.proofs.ListModel.{listed-found}
 use Rattle.filling.specs.Added.{Extends}
 use Rattle.filling.specs.Filled.{filledRows, filledTable}
@@ -28,7 +28,7 @@ use Rattle.filling.specs.Meaning.{FilledList, FillMeans}
 use Rattle.filling.proofs.Alike.{rule-alike, rulePoints-alike}
 use Rattle.filling.proofs.FilledTable.{filled-length, filled-rows, filled-good}
 use Rattle.filling.proofs.FilledModel.{filled-order, filled-extends, filled-adds-only}
-use Rattle.filling.proofs.Refusals.{fill-accepted, fill-number}
+use Rattle.filling.proofs.Refusals.{fill-accepted, fill-number, refused-told}
 use Rattle.filling.proofs.FilledAccepted.{filled-accepted}
 
 -- of a list that the checks let pass for filling, whether or not 5, 1 or 15 then refuse it
@@ -75,7 +75,7 @@ written-length new old l = omega (arith, length-append new (drop (length new) ol
 
 module _ (t second : List ℤ) where
   abbrev Means : Filled → Type 0
-  Means o = FillMeans t second (numberOf (o .answer)) (o .rows) (o .table)
+  Means o = FillMeans t second (numberOf (o .answer)) (placeOf (o .answer)) (o .rows) (o .table)
 
   accepted-means : fillVerdict t (length second) ≡ Accepted → Means (filledBy t second Accepted)
   accepted-means e =
@@ -88,7 +88,9 @@ module _ (t second : List ℤ) where
         filled = λ _. rw (part .0) (filled-list t (length second) e);
         counted = λ _. rw (part .0) (filled-rows t g);
         rest = λ _. part .1;
+        no-place = λ _. refl;
         as-long = written-length (filledTable t) second fits;
+        refused = λ n. absurd (n refl);
         untouched = λ n. absurd (n refl);
       }
 
@@ -99,7 +101,9 @@ module _ (t second : List ℤ) where
         filled = λ z. absurd (never z);
         counted = λ z. absurd (never z);
         rest = λ z. absurd (never z);
+        no-place = λ z. absurd (never z);
         as-long = refl;
+        refused = λ _. refused-told t second n p never e;
         untouched = λ _. (refl, refl);
       }
 
@@ -112,8 +116,8 @@ module _ (t second : List ℤ) where
       go (Refused n p) e = refused-means n p e
 
   -- whatever a call leaves
-  pub fill-means : (number place rows : ℕ) (table : List ℤ) → IsFilled (fillOutcome t second) number place rows table → FillMeans t second number rows table
-  fill-means number place rows table x = rw (x .number-is, x .rows-are, x .table-is) outcome-means
+  pub fill-means : (number place rows : ℕ) (table : List ℤ) → IsFilled (fillOutcome t second) number place rows table → FillMeans t second number place rows table
+  fill-means number place rows table x = rw (x .number-is, x .place-is, x .rows-are, x .table-is) outcome-means
 
   -- the rows that an accepted call leaves are the filled list
   pub filled-means : fillOutcome t second .answer ≡ Accepted → FilledList t (take (8 * fillOutcome t second .rows) (fillOutcome t second .table))

@@ -16,21 +16,23 @@ use Rattle.backoff.specs.Limits.{orderLimit}
 use Rattle.backoff.specs.Words.{areWords, radix, key}
 use Rattle.backoff.specs.declared.Verdict.the-variants.{Accepted}
 use Rattle.backoff.proofs.Words.{first-some, first-limit, words-rest}
-use Rattle.list.specs.Table.{rowsOf, lengthOf, orderOf, wordsOf, words}
-use Rattle.list.specs.Search.{findIn}
+use Rattle.rows.specs.Table.{rowsOf, lengthOf, orderOf, wordsOf, words}
+use Rattle.rows.specs.Good.{GoodRow, Good}
+use Rattle.rows.specs.Keys.{keyOf, rowKey}
+use Rattle.rows.proofs.Table.{row-in, words-length, length-limit}
+use Rattle.rows.proofs.Good.{lengths-ascend, are-words, ascend-key}
+use Rattle.rows.proofs.Keys.{key-unique}
+use Rattle.row_search.specs.Search.{findIn}
+use Rattle.row_search.specs.ByKey.{Bracket}
+use Rattle.row_search.specs.declared.Found.{Found}
+use Rattle.row_search.specs.declared.Found.the-variants.{At, Nothing}
+use Rattle.row_search.proofs.ByKey.{keys-ascend}
+use Rattle.row_search.proofs.Search.{found-words}
 use Rattle.list.specs.Check.{verdictFor}
-use Rattle.list.specs.Good.{GoodRow, Good}
-use Rattle.list.specs.Keys.{keyOf, rowKey, Bracket}
-use Rattle.list.specs.declared.Found.{Found}
-use Rattle.list.specs.declared.Found.the-variants.{At, Nothing}
-use Rattle.list.proofs.Table.{row-in, words-length, length-limit}
-use Rattle.list.proofs.Good.{lengths-ascend, are-words, ascend-key}
-use Rattle.list.proofs.Keys.{key-unique}
-use Rattle.list.proofs.Search.{keys-ascend, found-words}
 use Rattle.list.proofs.ListModel.{length-order}
 use Rattle.list.proofs.Check.{checked-good, checked-size}
 use Rattle.filling.specs.Filled.{filledTable}
-use Rattle.filling.specs.Next.{zeros, power, lastWords, endKey, Candidate, Least, Best}
+use Rattle.filling.specs.Next.{zeros, power, lastWords, endKey, Candidate, Least, Best, Filling, ComesNext}
 use Rattle.filling.proofs.WithoutFirstWords.{areWords-behind}
 use Rattle.filling.proofs.FilledRows.{EndOf, last-alone, end-words, end-some}
 use Rattle.filling.proofs.FilledTable.{filled-end, filled-good}
@@ -354,167 +356,100 @@ module _ (t : List ℤ) (a : verdictFor true t ≡ Accepted) where
       let q = end-some t good (words T j) e .1 in
       (e .at, e .within, omega arith, sym (ap (drop (lengthOf t (e .at) - lengthOf T j)) (e .same) ∙ drop-at (e .front) (words T j) (lengthOf t (e .at) - lengthOf T j) p))
 
-  module _ (m floor place r : ℕ) (some : 0 < m) (low : power (m - 1) ≤ floor) (high : floor ≤ power m) (h : Least t m floor (suc (orderOf t)) r) (b : Bracket T floor place place) where
-    -- a row of m words from there on is a candidate
-    candidate : (j : ℕ) → j < rowsOf T → lengthOf T j ≡ m → floor ≤ rowKey T j → (i : ℕ) × Candidate t m floor (suc (orderOf t)) i × (words T j ≡ lastWords t i m)
-    unfolding rowKey
-    candidate j l e f =
-        let c = row-is-last-words j l in
-        let s : words T j ≡ lastWords t (c .0) m = c .3 ∙ ap (lastWords t (c .0)) e in
-        let o = length-order t good (checked-size true t a .0) (c .0) (c .1) in
-        (c .0, record { within = c .1; long = let q = c .2 in omega arith; short = omega arith; above = rw (ap key s) at f }, s)
-
-    from-floor : (j : ℕ) → j < rowsOf T → floor ≤ rowKey T j → m ≤ lengthOf T j
-    unfolding rowKey
-    from-floor j l f =
-        let c = long-enough (m - 1) (words T j) (row-words T goodT j l) (omega arith) in
-        omega (arith, row-size T goodT j l)
-
-    -- the least candidate's last words are the next row
-    module _ (l : r < rowsOf t) where
-      pub next-place : (place < rowsOf T) × (words T place ≡ lastWords t r m)
-      unfolding rowKey
-      next-place =
-          let c = h .one l in
-          let d = last-words-end r m l some (c .long) in
-          let p = filled-finds t good (lastWords t r m) d in
-          let j = p .0 in
-          let k : rowKey T j ≡ endKey t r m = ap key (p .2) in
-          let up : place ≤ j = ⊎-elim (λ q. absurd (let u = b .below j q in let v = c .above in omega arith)) (λ q. q) (lt-or-ge j place) in
-          let w : place < rowsOf T = let q = p .1 in omega arith in
-          let f = b .above place (omega arith) w in
-          let n = from-floor place w f in
-          let size : lengthOf T place ≡ m = let q = lengths-ascend T goodT place j up (p .1) in omega (arith, row-size T goodT j (p .1), ap length (p .2), last-size t r m l (c .long)) in
-          let x = candidate place w size f in
-          let y = h .least (x .0) (x .1) .1 in
-          let z = keys-ascend T goodT place j up (p .1) in
-          let same : key (words T place) ≡ key (lastWords t r m) = omega (arith, ap key (x .2)) in
-          (w, key-unique (words T place) (lastWords t r m) (row-words T goodT place w) (end-words t good (lastWords t r m) d) same)
-
-      pub next-row : words T place ≡ lastWords t r m
-      next-row = next-place .1
-
-      pub next-bracket : Bracket T (endKey t r m + 1) (place + 1) (place + 1)
-      unfolding rowKey
-      next-bracket =
-          let w = next-place .0 in
-          let e : rowKey T place ≡ endKey t r m = ap key next-row in
-          record {
-            order = omega arith;
-            within = omega arith;
-            below = λ j q. let u = keys-ascend T goodT j place (omega arith) w in omega arith;
-            above = λ j q n. let u = ascend-key T (rowsOf T) place j goodT (omega arith) n in omega arith;
-          }
-
-      pub next-low : power (m - 1) ≤ endKey t r m + 1
-      next-low = let c = h .one l .above in omega arith
-
-      pub next-high : endKey t r m + 1 ≤ power m
-      next-high =
-          let c = h .one l in
-          let e = key-below (lastWords t r m) (end-words t good (lastWords t r m) (last-words-end r m l some (c .long))) in
-          let q : key (lastWords t r m) < power m = rw (last-size t r m l (c .long)) at e in
-          omega arith
-
-    -- no candidate: the next row has more words
-    pub next-length : r ≡ rowsOf t → Bracket T (power m) place place
-    unfolding rowKey
-    next-length e = record {
-      order = omega arith;
-      within = b .within;
-      below = λ j q.
-          let v = b .below j q in
-          omega arith;
-      above = λ j q w.
-          ⊎-elim
-          (λ (u : rowKey T j < power m).
-          let f = b .above j q w in
-          let n = from-floor j w f in
-          let s = short-enough m (words T j) (row-words T goodT j w) u in
-          let c = candidate j w (omega (arith, row-size T goodT j w)) f in
-          absurd (let v = h .least (c .0) (c .1) .0 in omega arith))
-          (λ u. u)
-          (lt-or-ge (rowKey T j) (power m));
-    }
-
-  -- past the longest rows there is no row left
-  pub next-end : (floor place : ℕ) → power (orderOf t) ≤ floor → Bracket T floor place place → place ≡ rowsOf T
-  unfolding rowKey
-  next-end floor place n b = ⊎-elim (λ l. absurd (longer l)) (λ l. let w = b .within in omega arith) (lt-or-ge place (rowsOf T))
-    where
-      longer : place < rowsOf T → ⊥
-      longer l =
-          let v = b .above place (omega arith) l in
-          let f = long-enough (orderOf t) (words T place) (row-words T goodT place l) (omega arith) in
-          let o = length-order T goodT (omega arith) place l in
-          omega (arith, filled-order t good (checked-size true t a .0), row-size T goodT place l)
-
-  pub next-start : Bracket T (power 0) 0 0
-  unfolding rowKey
-  next-start = record {
-    order = omega arith;
-    within = omega arith;
-    below = λ j q. absurd (omega arith);
-    above = λ j q w. ⊎-elim (λ u. absurd (let s = short-enough 0 (words T j) (row-words T goodT j w) u in let n = goodT .row j w .some in omega (arith, row-size T goodT j w))) (λ u. u) (lt-or-ge (rowKey T j) (power 0));
-  }
-
-  -- ---- filling under way: the next row has m words or more, and a key from the floor on
-
-  pub record Filling (n m high low place : ℕ) : Type 0 where
-    pub order-is : n ≡ orderOf t
-    pub some : 0 < m
-    pub within : m ≤ suc n
-    pub from : power (m - 1) ≤ keyOf high low
-    pub to : keyOf high low ≤ power m
-    pub bracket : Bracket T (keyOf high low) place place
-
   order-five : orderOf t ≤ orderLimit
   unfolding orderOf
   order-five = length-limit t (rowsOf t - 1)
 
-  pub filling-starts : (n : ℕ) → n ≡ orderOf t → Filling n 1 0 1 0
-  unfolding power zeros
-  filling-starts n e = record { order-is = e; some = omega arith; within = omega arith; from = omega arith; to = omega arith; bracket = next-start }
+  -- ---- filling under way
 
-  module _ (n m high low place : ℕ) (f : Filling n m high low place) where
+  pub filling-starts : (n : ℕ) → n ≡ orderOf t → Filling t n 1 0 1 0
+  unfolding power zeros rowKey
+  filling-starts n e = record {
+    order-is = e;
+    some = omega arith;
+    within = omega arith;
+    from = omega arith;
+    to = omega arith;
+    bracket = record {
+      order = omega arith;
+      within = omega arith;
+      below = λ j q. absurd (omega arith);
+      above = λ j q w. ⊎-elim (λ u. absurd (let s = short-enough 0 (words T j) (row-words T goodT j w) u in let n = goodT .row j w .some in omega (arith, row-size T goodT j w))) (λ u. u) (lt-or-ge (rowKey T j) (power 0));
+    };
+  }
+
+  module _ (n m high low place : ℕ) (f : Filling t n m high low place) where
+    abbrev floor : ℕ
+    floor = keyOf high low
+
+    -- past the longest rows there is no row left
     pub filling-ends : n < m → place ≡ rowsOf T
-    filling-ends l =
-        let e : m - 1 ≡ orderOf t = let w = f .within in omega (arith, f .order-is) in
-        next-end (keyOf high low) place (rw e at (f .from)) (f .bracket)
+    unfolding rowKey
+    filling-ends n-short = ⊎-elim (λ l. absurd (longer l)) (λ l. let w = f .bracket .within in omega arith) (lt-or-ge place (rowsOf T))
+      where
+        past : m - 1 ≡ orderOf t
+        past = let w = f .within in omega (arith, f .order-is)
+
+        longer : place < rowsOf T → ⊥
+        longer l =
+            let v = f .bracket .above place (omega arith) l in
+            let from : power (orderOf t) ≤ floor = rw past at (f .from) in
+            let e = long-enough (orderOf t) (words T place) (row-words T goodT place l) (omega arith) in
+            let o = length-order T goodT (omega arith) place l in
+            omega (arith, filled-order t good (checked-size true t a .0), row-size T goodT place l)
 
     module _ (l : m ≤ n) where
-      pub filling-asks : (0 < m) × (m ≤ n) × (n ≤ orderLimit) × (power (m - 1) ≤ keyOf high low) × (keyOf high low ≤ power m)
+      pub filling-asks : (0 < m) × (m ≤ n) × (n ≤ orderLimit) × (power (m - 1) ≤ floor) × (floor ≤ power m)
       filling-asks = (f .some, l, omega (arith, order-five, f .order-is), f .from, f .to)
 
-      module _ (r high′ low′ : ℕ) (b : Best t m (keyOf high low) (suc n) r high′ low′) where
-        best : Least t m (keyOf high low) (suc (orderOf t)) r
+      pub zeros-room : zeros m 1 ≤ power orderLimit
+      unfolding power
+      zeros-room = power-le m orderLimit (omega (arith, order-five, f .order-is))
+
+      module _ (r high′ low′ : ℕ) (b : Best t m floor (suc n) r high′ low′) where
+        best : Least t m floor (suc (orderOf t)) r
         best = rw (f .order-is) at (b .least)
 
-        module _ (w : r < rowsOf t) where
-          pub filling-row : (place < rowsOf T) × (words T place ≡ lastWords t r m)
-          filling-row = next-place m (keyOf high low) place r (f .some) (f .from) (f .to) best (f .bracket) w
+        -- a row of m words from the floor on is a candidate
+        candidate : (j : ℕ) → j < rowsOf T → lengthOf T j ≡ m → floor ≤ rowKey T j → (i : ℕ) × Candidate t m floor (suc (orderOf t)) i × (words T j ≡ lastWords t i m)
+        unfolding rowKey
+        candidate j l e h =
+            let c = row-is-last-words j l in
+            let s : words T j ≡ lastWords t (c .0) m = c .3 ∙ ap (lastWords t (c .0)) e in
+            let o = length-order t good (checked-size true t a .0) (c .0) (c .1) in
+            (c .0, record { within = c .1; long = let q = c .2 in omega arith; short = omega arith; above = rw (ap key s) at h }, s)
 
-          pub filling-high : high′ < radix
-          unfolding power zeros
-          filling-high =
-              let u = next-high m (keyOf high low) place r (f .some) (f .from) (f .to) best (f .bracket) w in
-              let v = power-le m orderLimit (omega (arith, order-five, f .order-is)) in
-              let x = b .key-is w in
-              omega arith
+        from-floor : (j : ℕ) → j < rowsOf T → floor ≤ rowKey T j → m ≤ lengthOf T j
+        unfolding rowKey
+        from-floor j l h =
+            let s = f .some in
+            let low = f .from in
+            let c = long-enough (m - 1) (words T j) (row-words T goodT j l) (omega arith) in
+            omega (arith, row-size T goodT j l)
 
-          pub filling-on : (high″ low″ : ℕ) → keyOf high″ low″ ≡ keyOf high′ low′ + 1 → Filling n m high″ low″ (place + 1)
-          filling-on high″ low″ e =
-              let x : keyOf high″ low″ ≡ endKey t r m + 1 = e ∙ ap (λ (k : ℕ). k + 1) (b .key-is w) in
-              record {
-                order-is = f .order-is;
-                some = f .some;
-                within = f .within;
-                from = rw x (next-low m (keyOf high low) place r (f .some) (f .from) (f .to) best (f .bracket) w);
-                to = rw x (next-high m (keyOf high low) place r (f .some) (f .from) (f .to) best (f .bracket) w);
-                bracket = rw x (next-bracket m (keyOf high low) place r (f .some) (f .from) (f .to) best (f .bracket) w);
-              }
+        -- no candidate: the next row has more words
+        next-length : r ≡ rowsOf t → Bracket T (power m) place place
+        unfolding rowKey
+        next-length e = record {
+          order = omega arith;
+          within = f .bracket .within;
+          below = λ j q.
+              let v = f .bracket .below j q in
+              let h = f .to in
+              omega arith;
+          above = λ j q w.
+              ⊎-elim
+              (λ (u : rowKey T j < power m).
+              let h = f .bracket .above j q w in
+              let n = from-floor j w h in
+              let s = short-enough m (words T j) (row-words T goodT j w) u in
+              let c = candidate j w (omega (arith, row-size T goodT j w)) h in
+              absurd (let v = best .least (c .0) (c .1) .0 in omega arith))
+              (λ u. u)
+              (lt-or-ge (rowKey T j) (power m));
+        }
 
-        pub filling-longer : r ≡ rowsOf t → (high″ low″ : ℕ) → keyOf high″ low″ ≡ zeros m 1 → Filling n (m + 1) high″ low″ place
+        pub filling-longer : r ≡ rowsOf t → (high″ low″ : ℕ) → keyOf high″ low″ ≡ zeros m 1 → Filling t n (m + 1) high″ low″ place
         unfolding power
         filling-longer e high″ low″ x =
             let y : m + 1 - 1 ≡ m = omega arith in
@@ -524,9 +459,77 @@ module _ (t : List ℤ) (a : verdictFor true t ≡ Accepted) where
               within = omega arith;
               from = rw (x, y) (omega arith);
               to = rw x (power-le m (m + 1) (omega arith));
-              bracket = rw x (next-length m (keyOf high low) place r (f .some) (f .from) (f .to) best (f .bracket) e);
+              bracket = rw x (next-length e);
             }
 
-    pub zeros-room : m ≤ n → zeros m 1 ≤ power orderLimit
-    unfolding power
-    zeros-room l = power-le m orderLimit (omega (arith, order-five, f .order-is))
+  -- the least candidate's last words are the next row
+  module _ (n place m r high low : ℕ) (x : ComesNext t n place m r high low) (l : m ≤ n) where
+    abbrev f : Filling t n m (x .floor-high) (x .floor-low) place
+    f = x .filling
+
+    abbrev b : Best t m (keyOf (x .floor-high) (x .floor-low)) (suc n) r high low
+    b = x .best l
+
+    abbrev w : r < rowsOf t
+    w = x .one l
+
+    abbrev most : Least t m (keyOf (x .floor-high) (x .floor-low)) (suc (orderOf t)) r
+    most = best n m (x .floor-high) (x .floor-low) place f l r high low b
+
+    pub next-words : (place < rowsOf T) × (words T place ≡ lastWords t r m)
+    unfolding rowKey
+    next-words =
+        let c = most .one w in
+        let d = last-words-end r m w (f .some) (c .long) in
+        let p = filled-finds t good (lastWords t r m) d in
+        let j = p .0 in
+        let k : rowKey T j ≡ endKey t r m = ap key (p .2) in
+        let up : place ≤ j = ⊎-elim (λ q. absurd (let u = f .bracket .below j q in let v = c .above in omega arith)) (λ q. q) (lt-or-ge j place) in
+        let within : place < rowsOf T = let q = p .1 in omega arith in
+        let h = f .bracket .above place (omega arith) within in
+        let n = from-floor n m (x .floor-high) (x .floor-low) place f l r high low b place within h in
+        let size : lengthOf T place ≡ m = let q = lengths-ascend T goodT place j up (p .1) in omega (arith, row-size T goodT j (p .1), ap length (p .2), last-size t r m w (c .long)) in
+        let z = candidate _ m (x .floor-high) (x .floor-low) place f l r high low b place within size h in
+        let y = most .least (z .0) (z .1) .1 in
+        let v = keys-ascend T goodT place j up (p .1) in
+        let same : key (words T place) ≡ key (lastWords t r m) = omega (arith, ap key (z .2)) in
+        (within, key-unique (words T place) (lastWords t r m) (row-words T goodT place within) (end-words t good (lastWords t r m) d) same)
+
+    next-bracket : Bracket T (endKey t r m + 1) (place + 1) (place + 1)
+    unfolding rowKey
+    next-bracket =
+        let w = next-words .0 in
+        let e : rowKey T place ≡ endKey t r m = ap key (next-words .1) in
+        record {
+          order = omega arith;
+          within = omega arith;
+          below = λ j q. let u = keys-ascend T goodT j place (omega arith) w in omega arith;
+          above = λ j q n. let u = ascend-key T (rowsOf T) place j goodT (omega arith) n in omega arith;
+        }
+
+    next-least : endKey t r m + 1 ≤ power m
+    next-least =
+        let c = most .one w in
+        let e = key-below (lastWords t r m) (end-words t good (lastWords t r m) (last-words-end r m w (f .some) (c .long))) in
+        let q : key (lastWords t r m) < power m = rw (last-size t r m w (c .long)) at e in
+        omega arith
+
+    pub next-high : high < radix
+    unfolding power zeros
+    next-high =
+        let u = next-least in
+        let v = power-le m orderLimit (omega (arith, order-five, f .order-is)) in
+        let y = b .key-is w in
+        omega arith
+
+    pub next-on : (high′ low′ : ℕ) → keyOf high′ low′ ≡ keyOf high low + 1 → Filling t n m high′ low′ (place + 1)
+    next-on high′ low′ e =
+        let y : keyOf high′ low′ ≡ endKey t r m + 1 = e ∙ ap (λ (k : ℕ). k + 1) (b .key-is w) in
+        record {
+          order-is = f .order-is;
+          some = f .some;
+          within = f .within;
+          from = rw y (let c = most .one w .above in let h = f .from in omega arith);
+          to = rw y next-least;
+          bracket = rw y next-bracket;
+        }

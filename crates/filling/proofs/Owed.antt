@@ -21,13 +21,13 @@ use Rattle.backoff.specs.Model.{inProbability, inBackoff}
 use Rattle.backoff.specs.declared.Verdict.the-variants.{Accepted}
 use Rattle.integer.specs.Integer.{between}
 use Rattle.integer.proofs.Parts.{drop-take}
-use Rattle.list.specs.Table.{rowsOf, probabilityAt, backoffAt, orderOf, wordOf, wordsOf}
-use Rattle.list.specs.Search.{findIn, isAt}
+use Rattle.rows.specs.Table.{rowsOf, probabilityAt, backoffAt, orderOf, wordOf, wordsOf}
+use Rattle.rows.specs.Good.{Good}
+use Rattle.row_search.specs.Search.{findIn, isAt}
+use Rattle.row_search.specs.declared.Found.{Found}
+use Rattle.row_search.specs.declared.Found.the-variants.{At, Nothing}
+use Rattle.row_search.proofs.Search.{found-words, finds-nothing}
 use Rattle.list.specs.Check.{verdictFor}
-use Rattle.list.specs.Good.{Good}
-use Rattle.list.specs.declared.Found.{Found}
-use Rattle.list.specs.declared.Found.the-variants.{At, Nothing}
-use Rattle.list.proofs.Search.{found-words, finds-nothing}
 use Rattle.list.proofs.Check.{checked-row, backoff-in}
 use Rattle.filling.specs.Filled.{filledBackoff}
 use Rattle.filling.specs.Points.{wordsFrom, pointsBy, placePoints, rowProbability, IsRow}

@@ -14,15 +14,15 @@ use Rattle.backoff.specs.Model.{Model, backoff, reach}
 use Rattle.backoff.specs.Rule.{Score, addPoints, replaced, textRule}
 use Rattle.backoff.specs.declared.Verdict.the-variants.{Accepted}
 use Rattle.backoff.proofs.Rule.{rule-is-textRule}
-use Rattle.list.specs.Table.{rowsOf, probabilityAt, lengthOf, orderOf, wordOf, wordsOf}
-use Rattle.list.specs.Search.{findIn}
+use Rattle.rows.specs.Table.{rowsOf, probabilityAt, lengthOf, orderOf, wordOf, wordsOf}
+use Rattle.rows.specs.Good.{Good}
+use Rattle.rows.proofs.Table.{row-in, length-limit}
+use Rattle.row_search.specs.Search.{findIn}
+use Rattle.row_search.specs.declared.Found.{Found}
+use Rattle.row_search.specs.declared.Found.the-variants.{At, Nothing}
+use Rattle.row_search.proofs.Search.{finds}
 use Rattle.list.specs.Check.{verdictFor}
-use Rattle.list.specs.Good.{Good}
 use Rattle.list.specs.ListModel.{modelOf}
-use Rattle.list.specs.declared.Found.{Found}
-use Rattle.list.specs.declared.Found.the-variants.{At, Nothing}
-use Rattle.list.proofs.Table.{row-in, length-limit}
-use Rattle.list.proofs.Search.{finds}
 use Rattle.list.proofs.ListModel.{length-order}
 use Rattle.list.proofs.Check.{checked-good, checked-size}
 use Rattle.filling.specs.Added.{ownPoints}

@@ -1,15 +1,16 @@
--- What it says of a list that filling it is not refused. Assumes nothing.
-use mathlib.Core.Path.{_≡_, refl, sym, ap, _∙_}
+-- What it says of a list that filling it is not refused, and what that it is. Assumes nothing.
+use mathlib.Core.Path.{_≡_, refl, sym, ap, _∙_, subst}
 use mathlib.Core.Logic.{⊎-elim}
-use mathlib.Core.Bool.{Bool, true, false, cond}
-use mathlib.Core.List.{List, [], _∷_, List·Memᴰ·head, List·Memᴰ·tail}
+use mathlib.Core.Bool.{Bool, true, false, cond, _&&_, _||_, true≢false}
+use mathlib.Core.List.{List, [], _∷_, _++_, List·Memᴰ·head, List·Memᴰ·tail}
 use Prim.Native.Nat.{ℕ, zero, suc, _+_, _*_, _-_, _≤_, _<_}
+use native.Mathlib.Nat.{not-suc-le-zero}
 use native.Mathlib.Omega.{arith}
 use lib.Dec.{leb}
 use lib.ListN.{length, getD, drop}
 use lib.Seq.{drop-cons}
 use lib.IntN.{ℤ}
-use borrow.Author.Tests.{leb-true, le-leb, lt-leb}
+use borrow.Author.Tests.{leb-true, leb-false, le-leb, lt-leb}
 use Rattle.integer.proofs.Ranges.{lt-or-ge, and-left, and-right}
 use Rattle.backoff.specs.Limits.{rowLimit}
 use Rattle.backoff.specs.Refusal.{numberOf, placeOf, tableLength, rowProbability, shortSlice}
@@ -17,18 +18,22 @@ use Rattle.backoff.specs.Model.{inProbability}
 use Rattle.backoff.specs.Run.{written}
 use Rattle.backoff.specs.declared.Verdict.{Verdict}
 use Rattle.backoff.specs.declared.Verdict.the-variants.{Accepted, Refused}
-use Rattle.list.specs.Table.{rowsOf, lengthOf, words}
-use Rattle.list.specs.Search.{findIn, isAt}
+use Rattle.rows.specs.Table.{rowsOf, lengthOf, words}
+use Rattle.rows.proofs.Table.{row-in, words-length}
+use Rattle.row_search.specs.Search.{findIn, isAt}
+use Rattle.row_search.specs.declared.Found.{Found}
+use Rattle.row_search.specs.declared.Found.the-variants.{At, Nothing}
 use Rattle.list.specs.Check.{refuse, verdictFor}
-use Rattle.list.specs.declared.Found.the-variants.{Nothing}
-use Rattle.list.proofs.Table.{row-in, words-length}
+use Rattle.list.specs.Meaning.{NoneMeets}
+use Rattle.list.proofs.Meaning.{no-row, none-meets, refused-verdict}
 use Rattle.list.proofs.Check.{cond-accepted, refuse-accepted, refuse-number, accepted-refused, checked-number}
 use Rattle.filling.specs.Filled.{withoutFirstWords, addedProbability, filledRows, filledTable}
 use Rattle.filling.specs.Fill.{addable, allAddable, neededFault, sizeVerdict, neededScan, andThen, fillVerdict, filledBy, fillOutcome, IsFilled}
 use Rattle.filling.specs.Steps.{FirstNeeding, Checks}
+use Rattle.filling.specs.Meaning.{OutOfRange, AllInRange, FillRefusedBy, bad-list, added-probability, too-many-rows, too-short}
 use Rattle.filling.specs.Next.{lastWords}
 use Rattle.filling.proofs.Ascending.{In}
-use Rattle.filling.proofs.WithoutFirstWords.{without-nil, without-more, without-none}
+use Rattle.filling.proofs.WithoutFirstWords.{without-nil, without-more, without-none, in-behind, behind-in}
 use Rattle.filling.proofs.Next.{last-size, last-all}
 
 pub record Fills (t : List ℤ) (size : ℕ) : Type 0 where
@@ -220,6 +225,106 @@ module _ (t : List ℤ) where
         checks-none l =
             let v : fillVerdict t size ≡ Accepted = sized ∙ rw (le-leb (length (filledRows t)) rowLimit (omega arith), le-leb (8 * length (filledRows t)) size (omega arith)) in
             record { number-is = sym (ap numberOf v); place-is = sym (ap placeOf v); accepted = λ _. v; rows-are = λ _. c }
+
+-- ---- what a refusal means
+
+module _ (t : List ℤ) where
+  not-addable : (rows : List (List ℕ)) → allAddable t rows ≡ false → (ws : List ℕ) × In ws rows × (addable t ws ≡ false)
+  unfolding allAddable
+  not-addable [] e = absurd (true≢false e)
+  not-addable (ws ∷ rows) e = go (addable t ws) refl e (not-addable rows)
+    where
+      go : (b : Bool) → addable t ws ≡ b → (b && allAddable t rows) ≡ false → (allAddable t rows ≡ false → (vs : List ℕ) × In vs rows × (addable t vs ≡ false)) → (vs : List ℕ) × In vs (ws ∷ rows) × (addable t vs ≡ false)
+      go true q h ih = let r = ih h in (r .0, List·Memᴰ·tail (r .1), r .2)
+      go false q h ih = (ws, List·Memᴰ·head refl, q)
+
+  absent-out : (ws : List ℕ) → addable t ws ≡ false → (findIn t ws ≡ Nothing) × (inProbability (addedProbability t ws) ≡ false)
+  unfolding addable
+  absent-out ws e = go (findIn t ws) refl e
+    where
+      go : (f : Found) → findIn t ws ≡ f → (isAt f || inProbability (addedProbability t ws)) ≡ false → (findIn t ws ≡ Nothing) × (inProbability (addedProbability t ws) ≡ false)
+      go (At j) q h = absurd (true≢false h)
+      go Nothing q h = (q, h)
+
+  -- 5 at row i, and that no row needs a p outside its range
+
+  out-of-range : (i : ℕ) → i < rowsOf t → allAddable t (withoutFirstWords (words t i)) ≡ false → OutOfRange t i
+  out-of-range i l e =
+      let r = not-addable (withoutFirstWords (words t i)) e in
+      let o = absent-out (r .0) (r .2) in
+      let b = in-behind (words t i) (r .0) (r .1) in
+      record {
+        ws = r .0;
+        p = addedProbability t (r .0);
+        added = record { at = i; within = l; front = b .first ∷ b .front; same = b .same; two = b .two; absent = o .0; probability-is = refl; backoff-is = refl };
+        needed = refl;
+        outside = o .1;
+      }
+
+  fault-out : (i : ℕ) → i < rowsOf t → (neededFault t i ≡ 0 → ⊥) → OutOfRange t i
+  unfolding neededFault
+  fault-out i l n = go (allAddable t (withoutFirstWords (words t i))) refl n
+    where
+      go : (b : Bool) → allAddable t (withoutFirstWords (words t i)) ≡ b → (cond b 0 rowProbability ≡ 0 → ⊥) → OutOfRange t i
+      go true q h = absurd (h refl)
+      go false q h = out-of-range i l q
+
+  front-word : (ws front : List ℕ) (i : ℕ) → i < rowsOf t → words t i ≡ front ++ ws → 2 ≤ length ws → findIn t ws ≡ Nothing → In ws (withoutFirstWords (words t i))
+  front-word ws [] i l e two n = absurd (no-row t ws (ap isAt n) i l e)
+  front-word ws (v ∷ front) i l e two n = rw e (behind-in front v ws two)
+
+  passed-in-range : (i : ℕ) → neededFault t i ≡ 0 → OutOfRange t i → ⊥
+  passed-in-range i e o =
+      let a = o .added in
+      let within : i < rowsOf t = subst (λ (j : ℕ). j < rowsOf t) (o .needed) (a .within) in
+      let same : words t i ≡ a .front ++ o .ws = ap (words t) (sym (o .needed)) ∙ a .same in
+      let m = front-word (o .ws) (a .front) i within same (a .two) (a .absent) in
+      true≢false (sym (needed-in-range t i (o .ws) e m (a .absent)) ∙ ap inProbability (a .probability-is) ∙ o .outside)
+
+module _ (t second : List ℤ) (none : NoneMeets true t) where
+  -- no row before row i needs a p outside its range
+  abbrev Passed : ℕ → Type 0
+  Passed i = (j : ℕ) → j < i → neededFault t j ≡ 0
+
+  first-out : (i : ℕ) → Passed i → (j : ℕ) → OutOfRange t j → i ≤ j
+  first-out i h j o = ⊎-elim (λ (l : j < i). absurd (passed-in-range t j (h j l) o)) (λ (l : i ≤ j). l) (lt-or-ge j i)
+
+  all-in-range : Passed (rowsOf t) → AllInRange t
+  all-in-range h i o = let l = o .added .within in let z = o .needed in passed-in-range t i (h i (omega arith)) o
+
+  sizes-told : AllInRange t → (n p : ℕ) → sizeVerdict t (length second) ≡ Refused n p → FillRefusedBy t second n p
+  unfolding sizeVerdict
+  sizes-told all n p e = go (leb (length (filledRows t)) rowLimit) refl (leb (8 * length (filledRows t)) (length second)) refl e
+    where
+      go : (b : Bool) → leb (length (filledRows t)) rowLimit ≡ b → (c : Bool) → leb (8 * length (filledRows t)) (length second) ≡ c → cond b (cond c Accepted (Refused shortSlice 0)) (Refused tableLength 0) ≡ Refused n p → FillRefusedBy t second n p
+      go true q true r h = absurd (accepted-refused n p (sym h))
+      go true q false r h = let x : shortSlice ≡ n = cc in let y : 0 ≡ p = cc in rw (← x, ← y) (too-short none all (leb-true _ _ q) (leb-false _ _ r))
+      go false q c r h = let x : tableLength ≡ n = cc in let y : 0 ≡ p = cc in rw (← x, ← y) (too-many-rows none all (leb-false _ _ q))
+
+  needed-told : (i f : ℕ) → i < rowsOf t → Passed i → neededFault t i ≡ suc f → FillRefusedBy t second (suc f) (suc i)
+  needed-told i f l h e =
+      let some : neededFault t i ≡ 0 → ⊥ = λ z. omega arith in
+      rw (sym e ∙ fault-five t i some) (added-probability none i (fault-out t i l some) (first-out i h))
+
+  scan-told : (i k n p : ℕ) → i + k ≡ rowsOf t → Passed i → neededScan t (length second) i k ≡ Refused n p → FillRefusedBy t second n p
+  unfolding neededScan
+  scan-told i zero n p s h e = sizes-told (all-in-range (λ j l. h j (omega arith))) n p e
+  scan-told i (suc k) n p s h e = go (neededFault t i) refl e (λ z. scan-told (suc i) k n p (omega arith) (more z))
+    where
+      more : neededFault t i ≡ 0 → Passed (suc i)
+      more z j l = ⊎-elim (h j) (λ (m : i ≤ j). let w : j ≡ i = omega arith in rw w z) (lt-or-ge j i)
+
+      go : (f : ℕ) → neededFault t i ≡ f → refuse f i (neededScan t (length second) (suc i) k) ≡ Refused n p → (neededFault t i ≡ 0 → neededScan t (length second) (suc i) k ≡ Refused n p → FillRefusedBy t second n p) → FillRefusedBy t second n p
+      go zero q r ih = ih q r
+      go (suc f) q r ih = let x : suc f ≡ n = cc in let y : i + 1 ≡ p = cc in let z : suc i ≡ p = omega arith in rw (← x, ← z) (needed-told i f (omega arith) h q)
+
+pub refused-told : (t second : List ℤ) (n p : ℕ) → (n ≡ 0 → ⊥) → fillVerdict t (length second) ≡ Refused n p → FillRefusedBy t second n p
+unfolding fillVerdict
+refused-told t second n p some e = go (verdictFor true t) refl e
+  where
+    go : (v : Verdict) → verdictFor true t ≡ v → andThen v (neededScan t (length second) 0 (rowsOf t)) ≡ Refused n p → FillRefusedBy t second n p
+    go Accepted q h = scan-told t second (none-meets true t q) 0 (rowsOf t) n p (omega arith) (λ j l. absurd (not-suc-le-zero l)) h
+    go (Refused m k) q h = bad-list n p some (refused-verdict true t n p (q ∙ h))
 
 pub checks-as : (t : List ℤ) (size n p rows n′ p′ : ℕ) → n′ ≡ n → p′ ≡ p → Checks t size n p rows → Checks t size n′ p′ rows
 checks-as t size n p rows n′ p′ e f c = rw (e, f) c

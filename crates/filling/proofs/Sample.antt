@@ -5,10 +5,10 @@ use Rattle.backoff.specs.Words.{sameWords}
 use Rattle.backoff.specs.Model.{inProbability, inBackoff, listed, probability, backoff, reach}
 use Rattle.backoff.specs.Rule.{addPoints, replaced, scoreAfter, historyLength, rule}
 use Rattle.backoff.specs.declared.Verdict.the-variants.{Accepted, Refused}
-use Rattle.list.specs.Table.{rowsOf, field, lengthOf, orderOf, wordsOf, words, withoutFirst, withoutLast, lastWord}
-use Rattle.list.specs.Order.{lastLess, precedes}
-use Rattle.list.specs.Search.{findBelow, findIn}
-use Rattle.list.specs.Check.{tableFits, placeFits, placesFit, backoffFits, fieldFault, isAfter, withoutFirsts, shorterListed, orderFault, rowFault, reservedListed, scan, verdictFor, verdict}
+use Rattle.rows.specs.Table.{rowsOf, field, lengthOf, orderOf, wordsOf, words, withoutFirst, withoutLast, lastWord, placeFits, placesFit}
+use Rattle.rows.specs.Order.{lastLess, precedes}
+use Rattle.row_search.specs.Search.{findBelow, findIn}
+use Rattle.list.specs.Check.{tableFits, backoffFits, fieldFault, isAfter, withoutFirsts, shorterListed, orderFault, rowFault, reservedListed, scan, verdictFor, verdict}
 use Rattle.list.specs.ListModel.{anyBelow, extendedIn, continuedIn, modelOf}
 use Rattle.filling.specs.Added.{ownPoints}
 use Rattle.filling.specs.Filled.{rowsFrom, withoutFirstWords, allWithoutFirstWords, insert, insertAll, filledRows, addedProbability, filledRow, tableOf, filledTable}

@@ -12,18 +12,17 @@ use Rattle.backoff.specs.Limits.{wordLimit}
 use Rattle.backoff.specs.Words.{areWords}
 use Rattle.backoff.specs.Run.{written}
 use Rattle.backoff.specs.declared.Verdict.the-variants.{Accepted}
-use Rattle.list.specs.Table.{rowsOf, field, orderOf, wordOf, wordsOf, words}
-use Rattle.list.specs.Search.{findIn}
+use Rattle.rows.specs.Table.{rowsOf, field, wordOf, wordsOf, words}
+use Rattle.rows.specs.Good.{Good}
+use Rattle.rows.proofs.Table.{word-range}
+use Rattle.rows.proofs.Rows.{written-back}
+use Rattle.row_search.specs.Search.{findIn}
 use Rattle.list.specs.Check.{verdictFor}
-use Rattle.list.specs.Good.{Good}
-use Rattle.list.proofs.Table.{word-range}
-use Rattle.list.proofs.Rows.{written-back}
 use Rattle.list.proofs.Check.{checked-good, checked-size}
 use Rattle.filling.specs.Filled.{filledProbability, filledBackoff, filledRow, filledRows, filledTable}
 use Rattle.filling.specs.Points.{wordsFrom}
 use Rattle.filling.proofs.FilledRows.{filled-few}
 use Rattle.filling.proofs.FilledTable.{filled-length, filled-rows, filled-own}
-use Rattle.filling.proofs.Next.{Filling, filling-starts, filling-ends}
 
 module _ (t : List ℤ) (from k j : ℕ) where
   pub place-default : k ≤ j → pos 0 ≡ pos (getD (wordsFrom t from k) j 0)
@@ -85,54 +84,44 @@ module _ (t : List ℤ) (a : verdictFor true t ≡ Accepted) where
       size = length-take-le 8 (drop (8 * p) T) (omega (arith, length-drop (8 * p) T, long))
 
   -- the second table once its first rows are written
-  pub record Writing (second : List ℤ) (n m high low start : ℕ) (filled : List ℤ) : Type 0 where
-    pub place : ℕ
+  pub record Writing (second : List ℤ) (place start : ℕ) (filled : List ℤ) : Type 0 where
     pub at : start ≡ 8 * place
-    pub filling : Filling t a n m high low place
     pub room : length T ≤ length second
     pub rows : filled ≡ take (8 * place) T ++ drop (8 * place) second
 
-  pub writing-starts : (second : List ℤ) (n : ℕ) → n ≡ orderOf t → 8 * length (filledRows t) ≤ length second → Writing second n 1 0 1 0 second
-  writing-starts second n e h = record { place = 0; at = omega arith; filling = filling-starts t a n e; room = omega (arith, filled-length t good); rows = refl }
+  pub writing-starts : (second : List ℤ) → 8 * length (filledRows t) ≤ length second → Writing second 0 0 second
+  writing-starts second h = record { at = omega arith; room = omega (arith, filled-length t good); rows = refl }
 
-  module _ (second : List ℤ) (n m high low start : ℕ) (filled : List ℤ) (w : Writing second n m high low start filled) where
-    start-length : length (take (8 * w .place) T) ≡ 8 * w .place
-    start-length = let b = w .filling .bracket .within in length-take-le (8 * w .place) T (omega (arith, long))
+  module _ (second : List ℤ) (place start : ℕ) (filled : List ℤ) (w : Writing second place start filled) (within : place ≤ rowsOf T) where
+    start-length : length (take (8 * place) T) ≡ 8 * place
+    start-length = length-take-le (8 * place) T (omega (arith, long))
 
     pub writing-length : length filled ≡ length second
     writing-length =
-        let b = w .filling .bracket .within in
         let r = w .room in
-        ap length (w .rows) ∙ omega (arith, length-append (take (8 * w .place) T) (drop (8 * w .place) second), start-length, length-drop (8 * w .place) second, long)
+        ap length (w .rows) ∙ omega (arith, length-append (take (8 * place) T) (drop (8 * place) second), start-length, length-drop (8 * place) second, long)
 
-    pub writing-ends : n < m → filled ≡ written T second
+    pub writing-ends : place ≡ rowsOf T → filled ≡ written T second
     unfolding written
-    writing-ends l =
-        let e = filling-ends t a n m high low (w .place) (w .filling) l in
-        let z : 8 * w .place ≡ length T = omega (arith, long) in
+    writing-ends e =
+        let z : 8 * place ≡ length T = omega (arith, long) in
         w .rows ∙ rw z (ap (λ (x : List ℤ). x ++ drop (length T) second) (take-length T))
 
-    pub writing-same : (m′ high′ low′ : ℕ) → Filling t a n m′ high′ low′ (w .place) → Writing second n m′ high′ low′ start filled
-    writing-same m′ high′ low′ f = record { place = w .place; at = w .at; filling = f; room = w .room; rows = w .rows }
-
-    module _ (l : w .place < rowsOf T) where
+    module _ (l : place < rowsOf T) where
       pub writing-room : (start + 8 ≤ length filled) × (start + 8 ≤ 3145680)
       writing-room =
           let r = w .room in
           (omega (arith, w .at, writing-length, long), omega (arith, w .at, filled-rows t good, filled-few t good, checked-size true t a .1))
 
-      pub writing-on : (new : List ℤ) (high′ low′ : ℕ) → new ≡ filledRow t (words T (w .place)) → Filling t a n m high′ low′ (w .place + 1)
-          → Writing second n m high′ low′ (start + 8) (take start filled ++ (new ++ drop (start + 8 - start) (drop start filled)))
-      writing-on new high′ low′ e f = record {
-        place = w .place + 1;
+      pub writing-on : (new : List ℤ) → new ≡ filledRow t (words T place) → Writing second (place + 1) (start + 8) (take start filled ++ (new ++ drop (start + 8 - start) (drop start filled)))
+      writing-on new e = record {
         at = omega (arith, w .at);
-        filling = f;
         room = w .room;
         rows = whole;
       }
         where
           p : ℕ
-          p = w .place
+          p = place
 
           front : take start filled ≡ take (8 * p) T
           front = ap₂ (λ (k : ℕ) (x : List ℤ). take k x) (w .at) (w .rows) ∙ take-at (take (8 * p) T) (drop (8 * p) second) (8 * p) start-length

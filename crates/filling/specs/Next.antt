@@ -5,8 +5,10 @@ use Prim.Native.Nat.{ℕ, zero, suc, _*_, _-_, _≤_, _<_}
 use lib.ListN.{drop}
 use lib.IntN.{ℤ}
 use Rattle.backoff.specs.Words.{radix, key}
-use Rattle.list.specs.Table.{rowsOf, lengthOf, words}
-use Rattle.list.specs.Keys.{keyOf}
+use Rattle.rows.specs.Table.{rowsOf, lengthOf, orderOf, words}
+use Rattle.rows.specs.Keys.{keyOf}
+use Rattle.row_search.specs.ByKey.{Bracket}
+use Rattle.filling.specs.Filled.{filledTable}
 
 -- the key k with j zeros put in front
 unfoldable pub zeros : ℕ → ℕ → ℕ
@@ -42,3 +44,20 @@ pub record Best (t : List ℤ) (m floor to row high low : ℕ) : Type 0 where
   pub least : Least t m floor to row
   pub key-is : row < rowsOf t → keyOf high low ≡ endKey t row m
   pub absent : row < rowsOf t → m < lengthOf t row → (i : ℕ) → i < rowsOf t → lengthOf t i ≡ m → endKey t i m ≡ endKey t row m → ⊥
+
+-- filling under way: the rows of the filled list ahead of row `place` are done, and the next one has m words or more, and a key from the floor on
+pub record Filling (t : List ℤ) (n m high low place : ℕ) : Type 0 where
+  pub order-is : n ≡ orderOf t
+  pub some : 0 < m
+  pub within : m ≤ suc n
+  pub from : power (m - 1) ≤ keyOf high low
+  pub to : keyOf high low ≤ power m
+  pub bracket : Bracket (filledTable t) (keyOf high low) place place
+
+-- what was found from a floor on: the last m words of the row come next, with their key; no row is left if m is above the order
+pub record ComesNext (t : List ℤ) (n place m row high low : ℕ) : Type 0 where
+  pub floor-high : ℕ
+  pub floor-low : ℕ
+  pub filling : Filling t n m floor-high floor-low place
+  pub one : m ≤ n → row < rowsOf t
+  pub best : m ≤ n → Best t m (keyOf floor-high floor-low) (suc n) row high low

@@ -7,10 +7,10 @@ use lib.ListN.{length}
 use lib.IntN.{ℤ}
 use Rattle.backoff.specs.Refusal.{numberOf, placeOf, rowProbability}
 use Rattle.backoff.specs.declared.Verdict.the-variants.{Accepted}
-use Rattle.list.specs.Table.{rowsOf, lengthOf}
-use Rattle.list.specs.Search.{findIn}
+use Rattle.rows.specs.Table.{rowsOf, lengthOf}
+use Rattle.row_search.specs.Search.{findIn}
+use Rattle.row_search.specs.declared.Found.the-variants.{Nothing}
 use Rattle.list.specs.Check.{verdictFor}
-use Rattle.list.specs.declared.Found.the-variants.{Nothing}
 use Rattle.filling.specs.Filled.{filledProbability, filledBackoff, filledRows}
 use Rattle.filling.specs.Fill.{neededFault, fillVerdict}
 use Rattle.filling.specs.Next.{lastWords}

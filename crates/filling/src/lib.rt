@@ -2,7 +2,7 @@
 ghost use mathlib.Core.Path.{_≡_};
 ghost use mathlib.Core.Bool.{true, false};
 ghost use mathlib.Core.List.{[], _∷_};
-ghost use Prim.Native.Nat.{suc, _+_, _*_, _-_, _<_, _≤_};
+ghost use Prim.Native.Nat.{ℕ, suc, _+_, _*_, _-_, _<_, _≤_};
 ghost use lib.IntN.{pos};
 ghost use lib.ListN.{length, getD};
 ghost use Rattle.backoff.specs.Limits.{orderLimit};
@@ -10,26 +10,27 @@ ghost use Rattle.backoff.specs.Refusal.{numberOf, placeOf};
 ghost use Rattle.backoff.specs.Words.{areWords, radix, key};
 ghost use Rattle.backoff.specs.Run.{written};
 ghost use Rattle.backoff.specs.declared.Verdict.the-variants.{Accepted};
-ghost use Rattle.list.specs.Table.{rowsOf, lengthOf, orderOf};
-ghost use Rattle.list.specs.Search.{findIn, isAt};
+ghost use Rattle.rows.specs.Table.{rowsOf, lengthOf, orderOf};
+ghost use Rattle.rows.specs.Good.{GoodRow, Good};
+ghost use Rattle.rows.specs.Keys.{keyOf};
+ghost use Rattle.row_search.specs.Search.{findIn, isAt};
+ghost use Rattle.row_search.specs.ByKey.{Bracket};
 ghost use Rattle.list.specs.Check.{verdictFor};
-ghost use Rattle.list.specs.Good.{GoodRow, Good};
-ghost use Rattle.list.specs.Keys.{keyOf, Bracket};
 ghost use Rattle.filling.specs.Filled.{filledBackoff, filledRow, filledRows, filledTable};
 ghost use Rattle.filling.specs.Points.{wordsFrom, placePoints, IsRow};
 ghost use Rattle.filling.specs.Fill.{addable, neededFault, fillOutcome, IsFilled};
 ghost use Rattle.filling.specs.Meaning.{FillMeans};
 ghost use Rattle.filling.specs.Steps.{NoneNeeding, FirstNeeding, Counts, IsEnd, endProbability, endBackoff, Checks};
-ghost use Rattle.filling.specs.Next.{zeros, power, lastWords, endKey, Best};
+ghost use Rattle.filling.specs.Next.{zeros, power, lastWords, endKey, Best, Filling, ComesNext};
 use backoff::LEAST_PROBABILITY;
 use backoff::ROW_LIMIT;
 use backoff::ROW_PROBABILITY;
 use backoff::SHORT_SLICE;
 use backoff::TABLE_LENGTH;
 use backoff::Verdict;
-use list::Found;
-use list::Key;
-use list::Span;
+use row_search::Found;
+use row_search::Span;
+use rows::Key;
 
 const LOW_MAX: u64 = 18446744073709551615;
 
@@ -43,7 +44,7 @@ fn with_zeros(k: Key, j: usize) -> Key
     let mut shifted = k;
     let mut i = 0;
     while i < j {
-        shifted = list::key_shifted(shifted);
+        shifted = extensions::key_shifted(shifted);
         i += 1;
     }
     shifted
@@ -74,7 +75,7 @@ fn end_key(table: &[i32], i: usize, k: usize, m: usize) -> Key
     let start = 8 * i;
     let end = start + (k + 1);
     let first = end - m;
-    list::key_of(&table[first..end])
+    rows::key_of(&table[first..end])
 }
 
 // The row whose last words come next, with their key; no row if `row` is the number of rows.
@@ -90,9 +91,9 @@ fn first_from(table: &[i32], k: Key, near: usize) -> usize
 {
     if near == 0 {
         let to = table.len() / 8;
-        return list::first_not_below(table, k, Span { from: 0, to });
+        return extensions::first_not_below(table, k, Span { from: 0, to });
     }
-    list::lower_bound(table, k, near)
+    extensions::lower_bound(table, k, near)
 }
 
 // The first row of k words or more whose last m words, if it has k, are not below the floor. From floor to floor it only moves on, so `near` has
@@ -124,12 +125,12 @@ fn better(
     if rows <= row {
         return best;
     }
-    if list::length_of(table, row) != k {
+    if rows::length_of(table, row) != k {
         return best;
     }
     let key = end_key(table, row, k, m);
     if best.row < rows {
-        if !list::key_less(key, best.key) {
+        if !rows::key_less(key, best.key) {
             return best;
         }
     }
@@ -154,6 +155,39 @@ fn next_row(table: &[i32], m: usize, n: usize, floor: Key, near: &mut [usize; 6]
     best
 }
 
+// The last `words` words of a row, which come next, with their key; none are left if `words` is above the order.
+struct NextEnd {
+    words: usize,
+    row: usize,
+    key: Key,
+}
+
+// Of the last words of all rows, m or more, the least whose key is not below the floor.
+fn next_end(table: &[i32], n: usize, m: usize, floor: Key, near: &mut [usize; 6]) -> NextEnd
+    requires { ⌜ (verdictFor true (now table) ≡ Accepted) × ((place : ℕ) × Filling (now table) n m (floor .high) (floor .low) place) ⌝ }
+    ensures { λ r. ⌜ ((place : ℕ) → Filling (now (table .entry)) n m (floor .high) (floor .low) place → ComesNext (now (table .entry)) n place (r .words) (r .row) (r .key .high) (r .key .low)) ⌝ }
+{
+    let rows = table.len() / 8;
+    let mut words = m;
+    let mut from = floor;
+    while words <= n {
+        let next = next_row(table, words, n, from, near);
+        if next.row < rows {
+            let row = next.row;
+            let key = next.key;
+            return NextEnd { words, row, key };
+        }
+        from = with_zeros(Key { high: 0, low: 1 }, words);
+        *near = [0; 6];
+        words += 1;
+    }
+    NextEnd {
+        words,
+        row: rows,
+        key: from,
+    }
+}
+
 // ---- p of an added row
 
 // A sequence as the list has it: p and b are 0 if it is unlisted.
@@ -168,7 +202,7 @@ fn row_of(table: &[i32], from: usize, past: usize) -> Row
     requires { ⌜ (verdictFor true (now table) ≡ Accepted) × (from ≤ past) × (past ≤ length (now table)) × (past - from ≤ orderLimit) × (areWords (wordsFrom (now table) from (past - from)) ≡ true) ⌝ }
     ensures { λ r. ⌜ IsRow (now (table .entry)) (wordsFrom (now (table .entry)) from (past - from)) r ⌝ }
 {
-    let found = list::find_row(table, &table[from..past]);
+    let found = row_search::find_row(table, &table[from..past]);
     let Found::At(i) = found else {
         return Row {
             listed: false,
@@ -178,8 +212,8 @@ fn row_of(table: &[i32], from: usize, past: usize) -> Row
     };
     Row {
         listed: true,
-        p: list::field(table, i, 6),
-        b: list::field(table, i, 7),
+        p: rows::field(table, i, 6),
+        b: rows::field(table, i, 7),
     }
 }
 
@@ -222,7 +256,7 @@ fn is_addable(table: &[i32], i: usize, k: usize, m: usize) -> bool
     if row.listed {
         return true;
     }
-    list::in_range(end_points(table, from, past), LEAST_PROBABILITY, 0)
+    rows::in_range(end_points(table, from, past), LEAST_PROBABILITY, 0)
 }
 
 // 5 where row i needs a row whose p is out of range, else 0.
@@ -230,7 +264,7 @@ fn needed_fault(table: &[i32], i: usize) -> u32
     requires { ⌜ (verdictFor true (now table) ≡ Accepted) × (i < rowsOf (now table)) ⌝ }
     ensures { λ r. ⌜ r ≡ neededFault (now (table .entry)) i ⌝ }
 {
-    let k = list::length_of(table, i);
+    let k = rows::length_of(table, i);
     let mut m = k;
     while 2 < m {
         m -= 1;
@@ -279,7 +313,7 @@ fn end_probability(table: &[i32], i: usize, k: usize, m: usize) -> i32
         let from = past - m;
         return end_points(table, from, past);
     }
-    list::field(table, i, 6)
+    rows::field(table, i, 6)
 }
 
 // b of that row.
@@ -288,7 +322,7 @@ fn end_backoff(table: &[i32], i: usize, k: usize, m: usize) -> i32
     ensures { λ r. ⌜ r ≡ endBackoff (now (table .entry)) i m ⌝ }
 {
     if k == m {
-        return list::field(table, i, 7);
+        return rows::field(table, i, 7);
     }
     0
 }
@@ -298,8 +332,8 @@ fn end_fits(table: &[i32], i: usize, m: usize) -> bool
     requires { ⌜ IsEnd (now table) i (lengthOf (now table) i) m ⌝ }
     ensures { λ r. ⌜ r ≡ addable (now (table .entry)) (lastWords (now (table .entry)) i m) ⌝ }
 {
-    let k = list::length_of(table, i);
-    list::in_range(end_probability(table, i, k, m), LEAST_PROBABILITY, 0)
+    let k = rows::length_of(table, i);
+    rows::in_range(end_probability(table, i, k, m), LEAST_PROBABILITY, 0)
 }
 
 // How many rows the filled list has, and whether the p of each is in range.
@@ -312,23 +346,14 @@ fn count_rows(table: &[i32], n: usize) -> Counted
     requires { ⌜ (verdictFor true (now table) ≡ Accepted) × (n ≡ orderOf (now table)) ⌝ }
     ensures { λ r. ⌜ Counts (now (table .entry)) (r .rows) (r .fits) ⌝ }
 {
-    let rows = table.len() / 8;
     let mut near: [usize; 6] = [0; 6];
-    let mut m = 1;
-    let mut floor = Key { high: 0, low: 1 };
+    let mut next = next_end(table, n, 1, Key { high: 0, low: 1 }, &mut near);
     let mut count = 0;
     let mut fits = true;
-    while m <= n {
-        let next = next_row(table, m, n, floor, &mut near);
-        if next.row < rows {
-            fits = fits & end_fits(table, next.row, m);
-            floor = key_after(next.key);
-            count += 1;
-        } else {
-            floor = with_zeros(Key { high: 0, low: 1 }, m);
-            near = [0; 6];
-            m += 1;
-        }
+    while next.words <= n {
+        fits = fits & end_fits(table, next.row, next.words);
+        count += 1;
+        next = next_end(table, n, next.words, key_after(next.key), &mut near);
     }
     Counted { rows: count, fits }
 }
@@ -358,7 +383,7 @@ fn check_needed(table: &[i32], size: usize) -> Checked
     ensures { λ r. ⌜ Checks (now (table .entry)) size (r .number) (r .place) (r .rows) ⌝ }
 {
     let rows = table.len() / 8;
-    let counted = count_rows(table, list::length_of(table, rows - 1));
+    let counted = count_rows(table, rows::length_of(table, rows - 1));
     let count = counted.rows;
     let i = needing_row(table, counted.fits);
     if i < rows {
@@ -450,30 +475,16 @@ fn write_rows(table: &[i32], n: usize, filled: &mut [i32])
     requires { ⌜ (verdictFor true (now table) ≡ Accepted) × (n ≡ orderOf (now table)) × (8 * length (filledRows (now table)) ≤ length (now filled)) ⌝ }
     ensures { λ _. ⌜ now (filled .exit) ≡ written (filledTable (now (table .entry))) (now (filled .entry)) ⌝ }
 {
-    let rows = table.len() / 8;
     let mut near: [usize; 6] = [0; 6];
-    let mut m = 1;
-    let mut floor = Key { high: 0, low: 1 };
+    let mut next = next_end(table, n, 1, Key { high: 0, low: 1 }, &mut near);
     let mut start = 0;
-    while m <= n {
-        let next = next_row(table, m, n, floor, &mut near);
-        if next.row < rows {
-            let end = start + 8;
-            let row = next.row;
-            write_row(
-                table,
-                row,
-                list::length_of(table, row),
-                m,
-                &mut filled[start..end],
-            );
-            floor = key_after(next.key);
-            start = end;
-        } else {
-            floor = with_zeros(Key { high: 0, low: 1 }, m);
-            near = [0; 6];
-            m += 1;
-        }
+    while next.words <= n {
+        let end = start + 8;
+        let row = next.row;
+        let k = rows::length_of(table, row);
+        write_row(table, row, k, next.words, &mut filled[start..end]);
+        start = end;
+        next = next_end(table, n, next.words, key_after(next.key), &mut near);
     }
 }
 
@@ -489,7 +500,7 @@ pub struct Answer {
 // Fills a pruned list: writes the complete one into the second table, or nothing where it is refused.
 pub fn fill(table: &[i32], filled: &mut [i32]) -> Answer
     ensures outcome { λ r. ⌜ IsFilled (fillOutcome (now (table .entry)) (now (filled .entry))) (r .number) (r .place) (r .rows) (now (filled .exit)) ⌝ }
-    ensures meaning { λ r. ⌜ FillMeans (now (table .entry)) (now (filled .entry)) (r .number) (r .rows) (now (filled .exit)) ⌝ }
+    ensures meaning { λ r. ⌜ FillMeans (now (table .entry)) (now (filled .entry)) (r .number) (r .place) (r .rows) (now (filled .exit)) ⌝ }
 {
     let checked = check_all(table, filled.len());
     if checked.number != 0 {
@@ -500,7 +511,7 @@ pub fn fill(table: &[i32], filled: &mut [i32]) -> Answer
         };
     }
     let last = table.len() / 8 - 1;
-    write_rows(table, list::length_of(table, last), filled);
+    write_rows(table, rows::length_of(table, last), filled);
     Answer {
         number: 0,
         rows: checked.rows as u32,

@@ -17,13 +17,13 @@ use Rattle.backoff.specs.Refusal.{tableLength, arrayLength}
 use Rattle.backoff.specs.Run.{written}
 use Rattle.backoff.specs.declared.Verdict.{Verdict}
 use Rattle.backoff.specs.declared.Verdict.the-variants.{Accepted, Refused}
-use Rattle.list.specs.Table.{rowsOf, probabilityAt, orderOf, words}
+use Rattle.rows.specs.Table.{rowsOf, probabilityAt, orderOf, words}
 use Rattle.list.specs.Check.{tableFits, verdict}
 use Rattle.list.proofs.Check.{accepted-row}
 use Rattle.double_array.specs.DoubleArray.{childSlot, sizesOk}
 use Rattle.placing.specs.Trie.{Node, childOf, children}
-use Rattle.placing.specs.Placing.{Room, isFree, update, isOpen, allOpen, fits, search, firstFit, own, reach, give, Placed, settle, placeAt, withMarker, withoutMarker, place, placeAll, placing}
-use Rattle.build.specs.ListTrie.{nodeOf, rootOf, nodesFrom, nodesOf, placedList, slotsFrom, rowSlots}
+use Rattle.placing.specs.Placing.{Room, isFree, update, isOpen, allOpen, fits, search, firstFit, own, topWith, give, Placed, settle, placeAt, withMarker, withoutMarker, place, placeAll, placing}
+use Rattle.list_trie.specs.ListTrie.{nodeOf, rootOf, nodesFrom, nodesOf, placedList, slotsFrom, rowSlots}
 use Rattle.build.specs.Build.{Built, untouched, emptied, filled, checkedBuild, buildOutcome}
 use Rattle.finer.specs.FinerList.{OlderPoints, takenOver}
 use Rattle.finer.proofs.FinerList.{length-times, rows-times, orderOf-times, words-times, taken-over-verdict}
@@ -96,7 +96,7 @@ module _ {P Q : Placed} (A : PlacedAlike P Q) (m n : Node) (e : m .words ≡ n .
             (update-same (own behind d t ws (P .check)) (own behind d t ws (Q .check)) (own-same behind d t ws (P .check) (Q .check) (A .free)) d (negsuc (m .cost)) (negsuc (n .cost))
             (marker-taken (m .cost) c ∙ sym (marker-taken (n .cost) f)));
         slot = ap₂ (λ (us : List ℕ) (g : List ℕ → ℕ). give us behind d g) e (A .slot);
-        top = ap (λ (x : ℕ). reach x behind d ws) (A .top);
+        top = ap (λ (x : ℕ). topWith x behind d ws) (A .top);
       }
 
   marked-same : PlacedAlike (withMarker m ws P) (withMarker n ws Q)

@@ -18,13 +18,13 @@ use Rattle.backoff.specs.Model.{inProbability, inBackoff}
 use Rattle.backoff.specs.Refusal.{wordCount}
 use Rattle.backoff.specs.declared.Verdict.{Verdict}
 use Rattle.backoff.proofs.Model.{model-ext}
-use Rattle.list.specs.Table.{rowsOf, field, probabilityAt, backoffAt, lengthOf, orderOf, wordsOf, words, withoutFirst, withoutLast, lastWord}
-use Rattle.list.specs.Order.{precedes}
-use Rattle.list.specs.Search.{findBelow, findIn, isAt}
-use Rattle.list.specs.Check.{placeFits, placesFit, backoffFits, fieldFault, isAfter, withoutFirsts, shorterListed, orderFault, orElse, rowFault, reservedListed, refuse, scan, verdictFor}
+use Rattle.rows.specs.Table.{rowsOf, field, probabilityAt, backoffAt, lengthOf, orderOf, wordsOf, words, withoutFirst, withoutLast, lastWord, placeFits, placesFit}
+use Rattle.rows.specs.Order.{precedes}
+use Rattle.row_search.specs.Search.{findBelow, findIn, isAt}
+use Rattle.row_search.specs.declared.Found.{Found}
+use Rattle.row_search.specs.declared.Found.the-variants.{At, Nothing}
+use Rattle.list.specs.Check.{backoffFits, fieldFault, isAfter, withoutFirsts, shorterListed, orderFault, orElse, rowFault, reservedListed, refuse, scan, verdictFor}
 use Rattle.list.specs.ListModel.{anyBelow, extendedIn, continuedIn, entryAt, modelOf}
-use Rattle.list.specs.declared.Found.{Found}
-use Rattle.list.specs.declared.Found.the-variants.{At, Nothing}
 use Rattle.double_array.specs.declared.Lookup.the-variants.{Refused as NoLookup}
 use Rattle.build.specs.Listed.{answerAt, listedAnswer}
 use Rattle.finer.specs.Times.{times, timesEntry, timesModel}

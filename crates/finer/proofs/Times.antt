@@ -13,12 +13,12 @@ use Rattle.backoff.specs.Limits.{unknownWord, startWord, endWord}
 use Rattle.backoff.specs.Model.{Entry, Model, isSome, probabilityOf, backoffOf, extendedOf, continuedOf, listed, probability, backoff, extended, continued, live, reach}
 use Rattle.backoff.specs.Rule.{Score, addPoints, lengthByte, replaced, rowScore, scoreAfter, historyLength, rule, ruleByte, grow, rulePoints, ruleBytes}
 use Rattle.backoff.specs.State.{State, largest, climb, empty, backoffsOf, newest, liveLength, stateOf, after, walk, matchedFrom, pointsFrom, extendedFrom, nextFrom, stepPoints, stepByte, start, stepNext}
-use Rattle.backoff.specs.Run.{Run, Answer, refusal, accepted, refusedRun, acceptedRun, front, runPoints, runBytes, runEnd, run, first, plain}
+use Rattle.backoff.specs.Run.{Run, Answer, refusal, accepted, refusedRun, acceptedRun, front, runPoints, runBytes, runEnd, run, first, plain, Call}
 use Rattle.backoff.specs.NineNumbers.{padded, nine}
 use Rattle.backoff.proofs.NineNumbers.{length-padded}
 use lib.Seq.{take-at, drop-at}
 use Rattle.backoff.specs.Runs.{answers, lastState, standingPoints, standingLengths, Alike, AllAlike, done, more}
-use Rattle.backoff.proofs.Rule.{scoreAfter-here, scoreAfter-down, length-rulePoints, length-ruleBytes}
+use Rattle.backoff.proofs.Rule.{historyLength-same, scoreAfter-here, scoreAfter-down, length-rulePoints, length-ruleBytes}
 use Rattle.backoff.proofs.Run.{length-runPoints, length-runBytes}
 use Rattle.backoff.proofs.Runs.{standing-written, standing-refused, alike-refusal, alike-accepted}
 use Rattle.finer.specs.Times.{times, timesEntry, timesModel, timesScore, timesState, timesNine, AnsweredTimes, ScoreTimes}
@@ -81,13 +81,13 @@ module _ (k : ℕ) (M : Model) where
   unfolding replaced
   replaced-times = λ i w. ap (λ (f : List ℕ → Bool). cond (f (w ∷ [])) w unknownWord) listed-times i
 
-  reach-times : reach N ≡ reach M
-  unfolding reach timesModel
-  reach-times = refl
+  order-times : N .order ≡ M .order
+  unfolding timesModel
+  order-times = refl
 
-  historyLength-times : (g : List ℕ) → historyLength N g ≡ historyLength M g
-  unfolding historyLength
-  historyLength-times g = ap (λ (n : ℕ). min n (length g)) reach-times
+  reach-times : reach N ≡ reach M
+  unfolding reach
+  reach-times = rw order-times
 
   row-times : (l : List ℕ) (n : ℕ) → rowScore N l n ≡ timesScore k (rowScore M l n)
   unfolding timesScore
@@ -116,7 +116,7 @@ module _ (k : ℕ) (M : Model) where
   unfolding rule
   rule-times h w =
       ap (λ (f : ℕ → ℕ). scoreAfter N (historyLength N (map f h)) (map f h) (f w)) replaced-times
-      ∙ ap (λ (n : ℕ). scoreAfter N n (map (replaced M) h) (replaced M w)) (historyLength-times (map (replaced M) h))
+      ∙ ap (λ (n : ℕ). scoreAfter N n (map (replaced M) h) (replaced M w)) (historyLength-same M N order-times (map (replaced M) h))
       ∙ scoreAfter-times (historyLength M (map (replaced M) h)) (map (replaced M) h) (replaced M w)
 
   pub ruleByte-times : (h : List ℕ) (w : ℕ) → ruleByte N h w ≡ ruleByte M h w
@@ -160,7 +160,7 @@ module _ (k : ℕ) (M : Model) where
     unfolding stateOf
     stateOf-times g =
         newest-times (liveLength N (historyLength N g) g) g
-        ∙ ap (λ (n : ℕ). timesState k (newest M n g)) (liveLength-times (historyLength N g) g ∙ ap (λ (n : ℕ). liveLength M n g) (historyLength-times g))
+        ∙ ap (λ (n : ℕ). timesState k (newest M n g)) (liveLength-times (historyLength N g) g ∙ ap (λ (n : ℕ). liveLength M n g) (historyLength-same M N order-times g))
 
     pub after-times : (h : List ℕ) → after N h ≡ timesState k (after M h)
     unfolding after
@@ -312,7 +312,7 @@ module _ (k : ℕ) (M : Model) where
 
 -- ---- lists of runs
 
-module _ {S : Type 0} (k : ℕ) (scale : S → S) (call finer : S → Run → Answer S) (each : (s : S) (r q : Run) → Alike r q → AnsweredTimes k scale r q (call s r) (finer (scale s) q)) where
+module _ {S : Type 0} (k : ℕ) (scale : S → S) (call finer : Call S) (each : (s : S) (r q : Run) → Alike r q → AnsweredTimes k scale r q (call s r) (finer (scale s) q)) where
   -- one run of each list, then the rest
   times-more : (s : S) {r q : Run} (a : Alike r q) {rs qs : List Run} → ScoreTimes k scale call finer (call s r .end) (finer (scale s) q .end) rs qs → ScoreTimes k scale call finer s (scale s) (r ∷ rs) (q ∷ qs)
   unfolding answers lastState standingPoints standingLengths

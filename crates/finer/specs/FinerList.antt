@@ -6,7 +6,7 @@ use Prim.Native.Nat.{ℕ, suc, _%_, _<_}
 use lib.Dec.{leb}
 use lib.IntN.{ℤ, pos, negℤ}
 use Rattle.integer.specs.Integer.{between}
-use Rattle.list.specs.Table.{rowsOf, probabilityAt, backoffAt}
+use Rattle.rows.specs.Table.{rowsOf, probabilityAt, backoffAt}
 use Rattle.double_array.specs.declared.Lookup.{Lookup}
 use Rattle.double_array.specs.declared.Lookup.the-variants.{Found, NotFound, Refused}
 use Rattle.finer.specs.Times.{times}

@@ -8,7 +8,7 @@ use lib.IntN.{ℤ, pos, _*ℤ_}
 use Rattle.backoff.specs.Model.{Entry, Model}
 use Rattle.backoff.specs.Rule.{Score}
 use Rattle.backoff.specs.State.{State}
-use Rattle.backoff.specs.Run.{Run, Answer}
+use Rattle.backoff.specs.Run.{Run, Answer, Call}
 use Rattle.backoff.specs.Runs.{answers, lastState, standing, standingPoints, standingLengths}
 
 abbrev pub times : ℕ → ℤ → ℤ
@@ -46,7 +46,7 @@ pub record AnsweredTimes {S : Type 0} (k : ℕ) (scale : S → S) (r q : Run) (a
 
 -- The same of a whole list of runs, qs by `finer` from the state t against rs by `call` from the state s: each run's refusal, total and end state, what stands
 -- for the words of each accepted run, and the last state.
-pub record ScoreTimes {S : Type 0} (k : ℕ) (scale : S → S) (call finer : S → Run → Answer S) (s t : S) (rs qs : List Run) : Type 0 where
+pub record ScoreTimes {S : Type 0} (k : ℕ) (scale : S → S) (call finer : Call S) (s t : S) (rs qs : List Run) : Type 0 where
   pub numbers : map (λ a. a .number) (answers finer t qs) ≡ map (λ a. a .number) (answers call s rs)
   pub places : map (λ a. a .place) (answers finer t qs) ≡ map (λ a. a .place) (answers call s rs)
   pub totals : map (λ a. a .total) (answers finer t qs) ≡ map (times k) (map (λ a. a .total) (answers call s rs))

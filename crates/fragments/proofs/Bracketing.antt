@@ -23,12 +23,12 @@ use Rattle.backoff.proofs.State.{start-is-after}
 use Rattle.backoff.proofs.NineNumbers.{length-nine}
 use Rattle.backoff.proofs.Run.{fits}
 use Rattle.backoff.proofs.Store.{Whole, runOutcome-is, startOutcome-is, packed as packedAnswer}
-use Rattle.score.proofs.Carried.{numbers-stateFrom}
+use Rattle.carried_state.proofs.Carried.{numbers-stateFrom}
 use Rattle.fragments.specs.declared.Fragment.{Fragment as Numbers}
 use Rattle.fragments.specs.declared.Joined.{Joined}
 use Rattle.fragments.specs.Fragment.{Fragment, noWords, packed, fragmentOk, fragmentFrom, fragmentOf}
 use Rattle.fragments.specs.Outcome.{refusedBy, fragmentIn, toNumbers, crossed, fragmentOutcome, joinOutcome}
-use Rattle.fragments.specs.Bracketing.{Bracketing, piece, both, Begun, begun, onto, wordsIn, wordsSince, evaluate, allAccepted, evaluateSince, SameResult}
+use Rattle.fragments.specs.Bracketing.{Bracketing, piece, both, Begun, at-start, onto, wordsIn, wordsSince, evaluate, allAccepted, evaluateSince, SameResult}
 use Rattle.fragments.proofs.Join.{fragmentOf-is, no-words-scored}
 use Rattle.fragments.proofs.Check.{fragmentFrom-passes, fragments-pass}
 use Rattle.fragments.proofs.Crossing.{packed-back}
@@ -143,7 +143,7 @@ module _ (S : Store) (W : Whole S) (A : AcceptedModel (modelIn S)) where
       s = after M (startWord ∷ [])
 
       go : (x : Begun) → length (wordsSince x) ≤ runLimit → evaluateSince (some S) (nine s) x ≡ shown (fragmentFrom M s (wordsSince x))
-      go begun few = ap shown (sym (no-words-scored M s))
+      go at-start few = ap shown (sym (no-words-scored M s))
       go (onto x t) few =
           let size : length (wordsSince x ++ wordsIn t) ≡ length (wordsSince x) + length (wordsIn t) = length-append (wordsSince x) (wordsIn t) in
           ap₂ (λ (a b : Joined). joinOutcome (some S) (a .fragment) (b .fragment)) (go x (omega arith)) (evaluate-few t (omega arith))
@@ -158,7 +158,7 @@ module _ (S : Store) (W : Whole S) (A : AcceptedModel (modelIn S)) where
   -- whatever is refused in it, it comes to words that are scored after some history, and so does not meet 21
   since-scores : (x : Begun) → (h : List ℕ) × ((ws : List ℕ) × (evaluateSince (some S) (nine (start M)) x .fragment ≡ toNumbers (packed (fragmentFrom M (after M h) ws))))
   unfolding evaluateSince
-  since-scores begun = (startWord ∷ [], ([], begun-scores))
+  since-scores at-start = (startWord ∷ [], ([], begun-scores))
   since-scores (onto x t) = go (since-scores x) (evaluate-scores t)
     where
       go : ((h : List ℕ) × ((ws : List ℕ) × (evaluateSince (some S) (nine (start M)) x .fragment ≡ toNumbers (packed (fragmentFrom M (after M h) ws))))) → ((ws : List ℕ) × (evaluate (some S) t ≡ fragmentOutcome (some S) ws)) → (h : List ℕ) × ((ws : List ℕ) × (joinOutcome (some S) (evaluateSince (some S) (nine (start M)) x .fragment) (evaluate (some S) t .fragment) .fragment ≡ toNumbers (packed (fragmentFrom M (after M h) ws))))

@@ -16,7 +16,7 @@ use Rattle.backoff.specs.NineNumbers.{all, nine, stateOk}
 use Rattle.backoff.proofs.NineNumbers.{after-bounded, after-ok}
 use Rattle.backoff.proofs.Run.{runEnd-is-after}
 use Rattle.backoff.proofs.Sizes.{runPoints-size}
-use Rattle.score.specs.Answers.{numbersOf}
+use Rattle.carried_state.specs.Numbers.{numbersOf}
 use Rattle.fragments.specs.declared.Fragment.{Fragment as Numbers}
 use Rattle.fragments.specs.Fragment.{packed, fragmentOk, fragmentFrom, fragmentOf}
 use Rattle.fragments.specs.Outcome.{fragmentIn}

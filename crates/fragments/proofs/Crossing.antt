@@ -10,7 +10,7 @@ use lib.IntN.{ℤ}
 use Rattle.integer.proofs.Ranges.{lt-or-ge}
 use Rattle.backoff.specs.State.{State}
 use Rattle.backoff.proofs.NineNumbers.{length-nine}
-use Rattle.score.proofs.Carried.{numbers-stateFrom}
+use Rattle.carried_state.proofs.Carried.{numbers-stateFrom}
 use Rattle.fragments.specs.Fragment.{Fragment, packed}
 use Rattle.fragments.specs.Outcome.{fourPlaces, keptIn, fragmentIn, toNumbers}
 

@@ -15,7 +15,7 @@ use Rattle.backoff.specs.State.{State, largest, climb, backoffsOf, newest, live
 use Rattle.backoff.specs.Run.{runPoints, runEnd}
 use Rattle.backoff.specs.NineNumbers.{all, padded, nine, countOf, stateIn, stateOk}
 use Rattle.backoff.specs.Store.{storeOf, modelIn, walkedWord, endsBroken, stepFrom, wordStep, step, runOver}
-use Rattle.score.specs.Answers.{numbersOf, stateFrom}
+use Rattle.carried_state.specs.Numbers.{numbersOf, stateFrom}
 use Rattle.fragments.specs.declared.Fragment.{Fragment as Numbers}
 use Rattle.fragments.specs.declared.Joined.{Joined}
 use Rattle.fragments.specs.Fragment.{noWords, fragmentOk, fragmentFrom, fragmentOf, joinedTotal, joinedEnd, join}

@@ -22,10 +22,11 @@ use Rattle.backoff.proofs.NineNumbers.{passed, Bounded}
 use Rattle.backoff.proofs.Sizes.{runPoints-size}
 use Rattle.backoff.proofs.Store.{modelRan, runOver-cases}
 use Rattle.double_array.specs.DoubleArray.{orderIn, storeIn}
+use Rattle.carried_state.specs.Numbers.{numbersOf}
+use Rattle.carried_state.proofs.Carried.{zeros-empty}
+use Rattle.word_step.proofs.Rows.{rows-in-probability, rows-in-backoff}
 use Rattle.score.specs.declared.Ran.{Ran as Summing}
-use Rattle.score.specs.Answers.{numbersOf, Summed, summedOf, summed}
-use Rattle.score.proofs.Carried.{zeros-empty}
-use Rattle.score.proofs.Rows.{rows-in-probability, rows-in-backoff}
+use Rattle.sums.specs.Sums.{Summed, summedOf, summed}
 use Rattle.fragments.specs.declared.Rescored.{Rescored}
 use Rattle.fragments.specs.Fragment.{Fragment, fragmentOk}
 use Rattle.fragments.specs.Outcome.{returned, refusedBy, scoredFragment, scoredAs, joinedFragment, joinedAs}

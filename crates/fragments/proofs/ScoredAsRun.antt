@@ -13,7 +13,7 @@ use Rattle.backoff.specs.Run.{Run, refusal, accepted, refusedRun, acceptedRun}
 use Rattle.backoff.specs.NineNumbers.{nineZeros}
 use Rattle.backoff.specs.Store.{Store, Ran, ran, refusedAt, runOver, brokenRun, ranAnswer, runOutcome}
 use Rattle.backoff.proofs.NineNumbers.{length-nine}
-use Rattle.score.proofs.Carried.{zeros-ok, zeros-empty, numbers-stateFrom}
+use Rattle.carried_state.proofs.Carried.{zeros-ok, zeros-empty, numbers-stateFrom}
 use Rattle.fragments.specs.Fragment.{noWords}
 use Rattle.fragments.specs.Outcome.{refusedBy, crossed, scoredAs, fragmentOutcome}
 use Rattle.fragments.specs.Bracketing.{SameResult}

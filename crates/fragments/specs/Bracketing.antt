@@ -8,7 +8,7 @@ use lib.IntN.{ℤ}
 use lib.Dec.{eqb}
 use Rattle.backoff.specs.Run.{Answer}
 use Rattle.backoff.specs.Store.{Store}
-use Rattle.score.specs.Answers.{numbersOf}
+use Rattle.carried_state.specs.Numbers.{numbersOf}
 use Rattle.fragments.specs.declared.Joined.{Joined}
 use Rattle.fragments.specs.Fragment.{noWords}
 use Rattle.fragments.specs.Outcome.{returned, crossed, fragmentOutcome, joinOutcome}
@@ -20,7 +20,7 @@ pub data Bracketing : Type 0 where
 
 -- a bracketing whose first fragment is "an empty one with start's state"
 pub data Begun : Type 0 where
-  begun : Begun
+  at-start : Begun
   onto : Begun → Bracketing → Begun
 
 -- the words in order
@@ -29,7 +29,7 @@ wordsIn (piece ws) = ws
 wordsIn (both t u) = wordsIn t ++ wordsIn u
 
 unfoldable pub wordsSince : Begun → List ℕ
-wordsSince begun = []
+wordsSince at-start = []
 wordsSince (onto x t) = wordsSince x ++ wordsIn t
 
 -- the empty fragment with the state in the nine numbers l
@@ -43,7 +43,7 @@ module _ (o : Option Store) where
   evaluate (both t u) = joinOutcome o (evaluate t .fragment) (evaluate u .fragment)
 
   unfoldable pub evaluateSince : List ℤ → Begun → Joined
-  evaluateSince l begun = beginning l
+  evaluateSince l at-start = beginning l
   evaluateSince l (onto x t) = joinOutcome o (evaluateSince l x .fragment) (evaluate t .fragment)
 
   -- no join in it is refused

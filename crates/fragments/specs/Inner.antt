@@ -13,7 +13,7 @@ use Rattle.backoff.specs.NineNumbers.{nine}
 use Rattle.backoff.specs.Store.{Store, Ran, ran, refusedAt}
 use Rattle.backoff.specs.declared.Verdict.{Verdict}
 use Rattle.backoff.specs.declared.Verdict.the-variants.{Accepted, Refused}
-use Rattle.score.specs.Answers as score
+use Rattle.carried_state.specs.Numbers.{numbersOf}
 use Rattle.fragments.specs.declared.Rescored.{Rescored}
 use Rattle.fragments.specs.Fragment.{Fragment, fragmentOk}
 
@@ -45,7 +45,7 @@ pub record BothScored (ps qs : List ℤ) (end : List ℤ) (r : Rescored) : Type 
   pub sound : r .sound ≡ true
   pub less-is : r .less ≡ sum ps
   pub plus-is : r .plus ≡ sum qs
-  pub end-is : score.numbersOf (r .end) ≡ end
+  pub end-is : numbersOf (r .end) ≡ end
 
 abbrev pub RescoredAs : Ran → Ran → Rescored → Type 0
 RescoredAs (ran ps bs s) (ran qs cs t) r = BothScored ps qs (nine t) r

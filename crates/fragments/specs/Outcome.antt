@@ -12,7 +12,7 @@ use Rattle.backoff.specs.Refusal.{arrayHead, brokenNode, wordCount, badFragment
 use Rattle.backoff.specs.State.{empty}
 use Rattle.backoff.specs.NineNumbers.{nine, nineZeros, stateIn}
 use Rattle.backoff.specs.Store.{Store, Ran, ran, refusedAt, runOver}
-use Rattle.score.specs.Answers.{numbersOf, stateFrom}
+use Rattle.carried_state.specs.Numbers.{numbersOf, stateFrom}
 use Rattle.fragments.specs.declared.Fragment.{Fragment as Numbers}
 use Rattle.fragments.specs.declared.Joined.{Joined}
 use Rattle.fragments.specs.Fragment.{Fragment, noWords, fragmentOk}

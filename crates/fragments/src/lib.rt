@@ -1,6 +1,6 @@
 // Fragments of a sentence: scored without left context, and joined with their neighbours, over any lent double array.
 use backoff::Verdict;
-use score::State;
+use carried_state::State;
 ghost use mathlib.Core.Path.{_≡_};
 ghost use mathlib.Core.Bool.{true, cond};
 ghost use mathlib.Core.List.{_++_};
@@ -13,7 +13,7 @@ ghost use Rattle.backoff.specs.State.{empty};
 ghost use Rattle.backoff.specs.NineNumbers.{stateIn, stateOk};
 ghost use Rattle.backoff.specs.Store.{runOver};
 ghost use Rattle.double_array.specs.DoubleArray.{isArray, orderIn, storeIn, opened};
-ghost use Rattle.score.specs.Answers.{numbersOf};
+ghost use Rattle.carried_state.specs.Numbers.{numbersOf};
 ghost use Rattle.fragments.specs.Fragment.{fragmentOk};
 ghost use Rattle.fragments.specs.Outcome.{refusedBy, fourPlaces, fragmentIn, toNumbers, crossed, scoredFragment, scoredAs, joinedFragment, joinedAs, fragmentOutcome, joinOutcome};
 ghost use Rattle.fragments.specs.Meaning.{ScoringMeans, JoinMeans};
@@ -55,7 +55,7 @@ fn refused(number: u32, place: u32) -> Joined
         count: 0,
         kept: 0,
         first: [0u32; 4],
-        state: score::empty(),
+        state: carried_state::empty(),
     };
     Joined {
         number,
@@ -87,7 +87,7 @@ fn fragment_ok(fragment: Fragment, order: usize) -> bool
     ensures { λ r. ⌜ r ≡ fragmentOk order (fragmentIn fragment) ⌝ }
 {
     let state = fragment.state;
-    let state_ok = score::state_ok(state, order);
+    let state_ok = carried_state::state_ok(state, order);
     let kept_ok = fragment.kept as usize == kept_of(order, fragment.count as usize);
     let total_ok = total_ok(fragment.total, fragment.count, order);
     kept_ok & state_ok & total_ok
@@ -155,7 +155,7 @@ fn scored(base: &[i32], check: &[i32], order: usize, words: &[u32]) -> Joined
     requires { ⌜ length (now words) ≤ runLimit ⌝ }
     ensures { λ r. ⌜ r ≡ crossed (scoredAs order (now (words .entry)) (runOver (storeIn (now (base .entry)) (now (check .entry))) (now (words .entry)) empty 1)) ⌝ }
 {
-    let ran = score::sum_words(base, check, order, score::empty(), words);
+    let ran = sums::sum_words(base, check, order, carried_state::empty(), words);
     if ran.number != 0 {
         return refused(ran.number, ran.place);
     }
@@ -238,8 +238,8 @@ fn rescore(base: &[i32], check: &[i32], order: usize, state: State, words: &[u32
     requires { ⌜ length (now words) ≤ runLimit ⌝ }
     ensures { λ r. ⌜ RescoredAs (runOver (storeIn (now (base .entry)) (now (check .entry))) (now (words .entry)) empty 1) (runOver (storeIn (now (base .entry)) (now (check .entry))) (now (words .entry)) (stateIn (numbersOf state)) 1) r ⌝ }
 {
-    let alone = score::sum_words(base, check, order, score::empty(), words);
-    let after = score::sum_words(base, check, order, state, words);
+    let alone = sums::sum_words(base, check, order, carried_state::empty(), words);
+    let after = sums::sum_words(base, check, order, state, words);
     let end = after.end;
     Rescored {
         sound: (alone.number == 0) & (after.number == 0),

@@ -55,13 +55,6 @@ module _ {N : ℕ} {b c : Room} {base check : List ℤ} (L : Linked N b c base c
           rw (lt-ltb u (length base) (omega (arith, linked-base-length L)))
           (ap (λ (x : ℕ). u ∷ upFrom base k x) (leads-up u l (chain-slot c u p ∙ free)) ∙ ap (λ (x : List ℕ). u ∷ x) (r l) ∙ sym (freeSlots-next N c u l free))
 
-  runs-up : upFrom base N (above base 0) ≡ freeSlots c (N - 1) 1
-  runs-up =
-      let f = next-first c N 0 (L .size .0) in
-      ap (upFrom base N) (leads-up 0 (L .size .0) (chain-head c))
-      ∙ following N (nextFree N c 0) (f .from) (f .within) (f .hit) (omega (arith, f .from))
-      ∙ sym (freeSlots-first c (N - 1) 1 N (omega (arith, L .size .0)))
-
 -- ---- back
 
 freeSlots-append : (c : Room) (a b t : ℕ) → freeSlots c (a + b) t ≡ freeSlots c a t ++ freeSlots c b (t + a)
@@ -125,4 +118,12 @@ module _ {N : ℕ} {b c : Room} {base check : List ℤ} (L : Linked N b c base c
           ∙ sym (ap reverse (freeSlots-last c u p e) ∙ reverse-append (freeSlots c (v - 1) 1) (v ∷ [])))
 
   pub links-run-through-the-free-slots : LinksRun N c base check
-  links-run-through-the-free-slots = record { up = runs-up L; down = going-back N N (L .size .0) (omega arith) (omega arith) }
+  links-run-through-the-free-slots =
+      let f = next-first c N 0 (L .size .0) in
+      record {
+        up =
+            ap (upFrom base N) (leads-up L 0 (L .size .0) (chain-head c))
+            ∙ following L N (nextFree N c 0) (f .from) (f .within) (f .hit) (omega (arith, f .from))
+            ∙ sym (freeSlots-first c (N - 1) 1 N (omega (arith, L .size .0)));
+        down = going-back N N (L .size .0) (omega arith) (omega arith);
+      }

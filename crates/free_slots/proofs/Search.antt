@@ -8,7 +8,7 @@ use Prim.Native.Nat.{ℕ, suc, _≤_, _<_, min}
 use native.Mathlib.Omega.{arith}
 use Rattle.integer.proofs.Ranges.{lt-or-ge}
 use Rattle.double_array.specs.DoubleArray.{freeCheck}
-use Rattle.placing.specs.Placing.{Room, isFree, fits, firstFit, reach}
+use Rattle.placing.specs.Placing.{Room, isFree, fits, firstFit, topWith}
 use Rattle.placing.proofs.FirstFit.{sideAt, fit-fits, fit-only, fit-positive}
 use Rattle.placing.proofs.Rooms.{reach-top}
 use Rattle.free_slots.specs.Chain.{nextFree, inChain}
@@ -68,15 +68,15 @@ module _ (N : ℕ) (c : Room) (ws : List ℕ) (past : (t : ℕ) → N ≤ t → 
 
   -- how far it reaches, on the side that it takes, where that is not past the end
   pub fit-room : {d : ℕ} {behind : Bool} (top : ℕ) → d ≡ min (firstFit c ws N) N → (d < N → behind ≡ sideAt c ws (firstFit c ws N))
-      → min (reach top behind d ws) (suc N) ≡ min (reach top (sideAt c ws (firstFit c ws N)) (firstFit c ws N) ws) (suc N)
+      → min (topWith top behind d ws) (suc N) ≡ min (topWith top (sideAt c ws (firstFit c ws N)) (firstFit c ws N) ws) (suc N)
   fit-room {d} {behind} top e s = go (lt-or-ge (firstFit c ws N) N)
     where
       fit : ℕ
       fit = firstFit c ws N
 
-      go : (fit < N) ⊎ (N ≤ fit) → min (reach top behind d ws) (suc N) ≡ min (reach top (sideAt c ws fit) fit ws) (suc N)
+      go : (fit < N) ⊎ (N ≤ fit) → min (topWith top behind d ws) (suc N) ≡ min (topWith top (sideAt c ws fit) fit ws) (suc N)
       go (inl l) =
           let f : d ≡ fit = omega arith in
           let g = s (omega arith) in
-          λ i. min (reach top (g i) (f i) ws) (suc N)
+          λ i. min (topWith top (g i) (f i) ws) (suc N)
       go (inr l) = omega (arith, reach-top top behind d ws, reach-top top (sideAt c ws fit) fit ws)

@@ -10,9 +10,10 @@ use Rattle.backoff.specs.Run.{Run, Answer, refusedRun}
 use Rattle.backoff.specs.NineNumbers.{nineZeros}
 use Rattle.backoff.specs.Store.{Store, Started, runOutcome, startOutcome}
 use Rattle.double_array.specs.DoubleArray.{opened}
-use Rattle.score.specs.Meaning.{RunMeans}
-use Rattle.score.proofs.Outcomes.{run-means as outcome-means}
-use Rattle.grader.specs.declared.Total.{Total}
+use Rattle.score.specs.Meaning.{StartMeans, RunMeans}
+use Rattle.score.proofs.Outcomes.{start-means as started-means, run-means as ran-means}
+use Rattle.c_answers.specs.declared.Status.{Status}
+use Rattle.c_answers.specs.declared.Total.{Total}
 use Rattle.grader.specs.Exports.{StartedIs, RanIs}
 
 module _ (o : Option Store) (l : List ℤ) (n : length l ≡ 9 → ⊥) where
@@ -45,9 +46,14 @@ module _ {number place : ℕ} where
     end-is = g ∙ ap (λ (x : Answer (List ℤ)). x .end) e;
   }
 
+-- ---- what crossed means what the outcome means
+
+pub start-means : (base check l : List ℤ) {answer : Status} {state : List ℤ} → StartedIs (startOutcome (opened base check) l) answer state → StartMeans base check l (answer .number) (answer .place) state
+start-means base check l {answer} {state} is = rw (is .number, is .place, is .state-is) (started-means base check l)
+
 -- a run's answer as it crossed
 abbrev crossed : Total → List ℤ → List ℤ → List ℕ → Answer (List ℤ)
 crossed r state points lengths = record { number = r .number; place = r .place; total = r .total; end = state; points = points; lengths = lengths }
 
 pub run-means : (base check l : List ℤ) (r : Run) {answer : Total} {state points : List ℤ} {lengths : List ℕ} → RanIs (runOutcome (opened base check) l r) answer state points lengths → RunMeans base check l r (crossed answer state points lengths)
-run-means base check l r {answer} {state} {points} {lengths} is = rw (is .total .number, is .total .place, is .total .total, is .end-is, is .total .points-are, is .total .lengths-are) (outcome-means base check l r)
+run-means base check l r {answer} {state} {points} {lengths} is = rw (is .total .number, is .total .place, is .total .total, is .end-is, is .total .points-are, is .total .lengths-are) (ran-means base check l r)

@@ -1,19 +1,2 @@
--- The theorems over the calls' outcomes, and a law of lists.
-pub mod RunsInARow
-pub mod OneWord
-pub mod OneWordExample
-pub mod Sentences
-pub mod LargestMove
-pub mod BatchSheet
-pub mod LeftExtension
-pub mod SentencesApart
-pub mod MarkedCases
-pub mod Returns
-pub mod Lookups
-pub mod Items
+-- How start and run cross to C.
 pub mod Crossing
-pub mod Fragments
-pub mod PrunedRuns
-pub mod AnswersAlike
-pub mod EitherSide
-pub mod Hundredfold

@@ -1,4 +1,4 @@
--- The answers that cross to C, as numbers. Assumes nothing.
+-- The answers of the calls as they cross to C, each with the slices at exit. Assumes nothing.
 use mathlib.Core.Path.{_≡_}
 use mathlib.Core.List.{List}
 use Prim.Native.Nat.{ℕ}
@@ -6,32 +6,14 @@ use lib.IntN.{ℤ}
 use Rattle.backoff.specs.Refusal.{numberOf, placeOf}
 use Rattle.backoff.specs.Run.{Answer}
 use Rattle.backoff.specs.Store.{Started}
-use Rattle.backoff.specs.declared.Verdict.{Verdict}
-use Rattle.double_array.specs.Lookup as lookup
-use Rattle.double_array.specs.declared.Lookup.{Lookup}
 use Rattle.build.specs.Build.{Built}
 use Rattle.unload.specs.Unload.{Unloaded}
 use Rattle.arpa.specs.Outcome as arpa
-use Rattle.arpa.specs.declared.Rows.{Rows}
 use Rattle.filling.specs.Fill.{Filled}
-use Rattle.grader.specs.declared.Status.{Status}
-use Rattle.grader.specs.declared.Found.{Found}
-use Rattle.grader.specs.declared.Total.{Total}
-use Rattle.grader.specs.declared.RowCount.{RowCount}
-
--- a verdict as its number and place
-pub record StatusIs (v : Verdict) (r : Status) : Type 0 where
-  pub number : r .number ≡ numberOf v
-  pub place : r .place ≡ placeOf v
-
--- a lookup's answer; a refused one, and one that found nothing, have two zeros
-pub record FoundIs (l : Lookup) (r : Found) : Type 0 where
-  pub number : r .number ≡ lookup.numberOf l
-  pub place : r .place ≡ lookup.placeOf l
-  pub found : r .found ≡ lookup.foundOf l
-  pub p : r .p ≡ lookup.pOf l
-  pub b : r .b ≡ lookup.bOf l
-  pub left : r .left ≡ lookup.leftOf l
+use Rattle.c_answers.specs.Answers.{StatusIs, RowCountIs}
+use Rattle.c_answers.specs.declared.Status.{Status}
+use Rattle.c_answers.specs.declared.Total.{Total}
+use Rattle.c_answers.specs.declared.RowCount.{RowCount}
 
 -- a build's answer, and the three slices at exit
 pub record BuiltIs (o : Built) (r : Status) (base check : List ℤ) (work : List ℕ) : Type 0 where
@@ -64,12 +46,6 @@ pub record UnloadedIs (o : Unloaded) (r : Status) (table : List ℤ) (work : Lis
   pub status : StatusIs (o .answer) r
   pub table-is : table ≡ o .table
   pub work-is : work ≡ o .work
-
--- a reading's answer: the row count, or a refusal's number with its line or row
-pub record RowCountIs (a : Rows) (r : RowCount) : Type 0 where
-  pub number : r .number ≡ arpa.numberOf a
-  pub rows : r .rows ≡ arpa.rowCount a
-  pub place : r .place ≡ arpa.placeOf a
 
 -- a reading's answer, and the table and store at exit
 pub record ReadIs (o : arpa.Outcome) (r : RowCount) (table : List ℤ) (store : List ℕ) : Type 0 where

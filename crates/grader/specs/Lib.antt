@@ -1,15 +1,2 @@
--- The answers that cross to C, and the statements over the calls.
+-- The answers that cross to C.
 pub mod Exports
-pub mod RunsInARow
-pub mod OneWord
-pub mod OneWordExample
-pub mod Sentences
-pub mod LargestMove
-pub mod SentencesApart
-pub mod BatchSheet
-pub mod MarkedCases
-pub mod Returns
-pub mod PrunedRuns
-pub mod AnswersAlike
-pub mod EitherSide
-pub mod Hundredfold

@@ -1,24 +1,22 @@
 // The calls that cross to C. A slice is a pointer and then a length. Each export is thin: one call, and its answer as numbers.
-use arpa::Rows;
-use backoff::Verdict;
 use batch::Sheet;
-use double_array::Lookup;
+use c_answers::Found;
+use c_answers::RowCount;
+use c_answers::Status;
+use c_answers::Total;
 use fragments::Fragment;
 use fragments::Joined;
 use largest_move::Move;
-use score::State;
 use sentences::Listing;
 ghost use mathlib.Core.Path.{_≡_};
 ghost use lib.ListN.{length};
-ghost use Rattle.backoff.specs.Model.{AcceptedModel};
 ghost use Rattle.list.specs.Check.{verdict};
-ghost use Rattle.list.specs.ListModel.{modelOf};
+ghost use Rattle.list.specs.Meaning.{CheckMeans};
 ghost use Rattle.double_array.specs.Lookup.{lookupOutcome, LookupMeans};
-ghost use Rattle.build.specs.Build.{buildOutcome, BuildMeans};
-ghost use Rattle.backoff.specs.Run.{Run};
+ghost use Rattle.build.specs.Build.{buildOutcome};
+ghost use Rattle.build.specs.Meaning.{BuildMeans};
 ghost use Rattle.backoff.specs.Store.{startOutcome, runOutcome};
 ghost use Rattle.double_array.specs.DoubleArray.{opened};
-ghost use Rattle.score.specs.Answers.{numbersOf};
 ghost use Rattle.score.specs.Meaning.{StartMeans, RunMeans};
 ghost use Rattle.batch.specs.Sheet.{sheetOutcome};
 ghost use Rattle.batch.specs.Meaning.{SheetMeans};
@@ -35,143 +33,19 @@ ghost use Rattle.arpa.specs.Outcome.{readArpa};
 ghost use Rattle.arpa.specs.Meaning.{ReadMeans};
 ghost use Rattle.filling.specs.Fill.{fillOutcome};
 ghost use Rattle.filling.specs.Meaning.{FillMeans};
-ghost use Rattle.grader.specs.Exports.{StatusIs, FoundIs, BuiltIs, StartedIs, TotalIs, RanIs, UnloadedIs, RowCountIs, ReadIs, FilledIs};
-
-// The refusal's number and place, 0 and 0 where nothing is refused.
-#[repr(C)]
-pub struct Status {
-    pub number: u32,
-    pub place: u32,
-}
-
-// A lookup's answer: `found` is 1 where the words are a row, whose p and b follow; `left` is 1 where some row puts a further word in front of it.
-#[repr(C)]
-pub struct Found {
-    pub number: u32,
-    pub place: u32,
-    pub found: u32,
-    pub p: i32,
-    pub b: i32,
-    pub left: u32,
-}
-
-// The answer of a run or of plain scoring: the total of the points, 0 where it was refused.
-#[repr(C)]
-pub struct Total {
-    pub number: u32,
-    pub place: u32,
-    pub total: i64,
-}
-
-// The answer of a reading: the row count, or the refusal's number with its line or row.
-#[repr(C)]
-pub struct RowCount {
-    pub number: u32,
-    pub rows: u32,
-    pub place: u64,
-}
+ghost use Rattle.c_answers.specs.Answers.{StatusIs, FoundIs};
+ghost use Rattle.grader.specs.Exports.{BuiltIs, StartedIs, TotalIs, RanIs, UnloadedIs, ReadIs, FilledIs};
 
 // A state crosses as nine numbers.
 const STATE_LENGTH: usize = 9;
-
-fn status_of(v: Verdict) -> Status
-    ensures { λ r. ⌜ StatusIs v r ⌝ }
-{
-    match v {
-        Verdict::Accepted => Status {
-            number: 0,
-            place: 0,
-        },
-        Verdict::Refused { number, place } => Status { number, place },
-    }
-}
-
-fn found_of(l: Lookup) -> Found
-    ensures { λ r. ⌜ FoundIs l r ⌝ }
-{
-    match l {
-        Lookup::Found { p, b, left } => Found {
-            number: 0,
-            place: 0,
-            found: 1,
-            p,
-            b,
-            left: left as u32,
-        },
-        Lookup::NotFound => Found {
-            number: 0,
-            place: 0,
-            found: 0,
-            p: 0,
-            b: 0,
-            left: 0,
-        },
-        Lookup::Refused { number, place } => Found {
-            number,
-            place,
-            found: 0,
-            p: 0,
-            b: 0,
-            left: 0,
-        },
-    }
-}
-
-fn row_count_of(a: Rows) -> RowCount
-    ensures { λ r. ⌜ RowCountIs a r ⌝ }
-{
-    match a {
-        Rows::Read { rows } => RowCount {
-            number: 0,
-            rows,
-            place: 0,
-        },
-        Rows::Refused { number, place } => RowCount {
-            number,
-            rows: 0,
-            place,
-        },
-    }
-}
-
-// The state that nine numbers are.
-fn load(numbers: &[i32]) -> State
-    requires { ⌜ length (now numbers) ≡ 9 ⌝ }
-    ensures { λ r. ⌜ numbersOf r ≡ now (numbers .entry) ⌝ }
-{
-    State {
-        count: numbers[0],
-        words: [numbers[1], numbers[2], numbers[3], numbers[4]],
-        backoffs: [numbers[5], numbers[6], numbers[7], numbers[8]],
-    }
-}
-
-// Writes a state as nine numbers.
-fn store(state: State, numbers: &mut [i32])
-    requires { ⌜ length (now numbers) ≡ 9 ⌝ }
-    ensures { λ _. ⌜ now (numbers .exit) ≡ numbersOf state ⌝ }
-{
-    let count = state.count;
-    let words = state.words;
-    let backoffs = state.backoffs;
-    numbers[0] = count;
-    numbers[1] = words[0];
-    numbers[2] = words[1];
-    numbers[3] = words[2];
-    numbers[4] = words[3];
-    numbers[5] = backoffs[0];
-    numbers[6] = backoffs[1];
-    numbers[7] = backoffs[2];
-    numbers[8] = backoffs[3];
-}
 
 // Checks a list: 1, then row by row 3 to 8, then 9.
 #[no_mangle]
 pub extern "C" fn backoff_check(table: &[i32]) -> Status
     ensures outcome { λ r. ⌜ StatusIs (verdict (now (table .entry))) r ⌝ }
-    ensures meaning { λ r. ⌜ (r .number ≡ 0 → AcceptedModel (modelOf (now (table .entry)))) ⌝ }
+    ensures meaning { λ r. ⌜ CheckMeans (now (table .entry)) (r .number) (r .place) ⌝ }
 {
-    status_of(list::check_list(table))
+    c_answers::status_of(list::check_list(table))
 }
 
 // Builds the double array of a list: 1, 2, rows 3 to 8, 9, 10. `work` gets the slots of the rows' nodes.
@@ -183,9 +57,9 @@ pub extern "C" fn backoff_build(
     work: &mut [u32],
 ) -> Status
     ensures outcome { λ r. ⌜ BuiltIs (buildOutcome (now (table .entry)) (now (base .entry)) (now (check .entry)) (now (work .entry))) r (now (base .exit)) (now (check .exit)) (now (work .exit)) ⌝ }
-    ensures meaning { λ r. ⌜ (r .number ≡ 0 → BuildMeans (now (table .entry)) (length (now (base .entry))) (now (base .exit)) (now (check .exit))) ⌝ }
+    ensures meaning { λ r. ⌜ BuildMeans (now (table .entry)) (now (base .entry)) (now (check .entry)) (now (work .entry)) (r .number) (r .place) (now (base .exit)) (now (check .exit)) ⌝ }
 {
-    status_of(build::build(table, base, check, work))
+    c_answers::status_of(build::build(table, base, check, work))
 }
 
 // Looks up the words, oldest first, in the array: 11, 14, 12.
@@ -194,14 +68,14 @@ pub extern "C" fn backoff_lookup(base: &[i32], check: &[i32], words: &[u32]) -> 
     ensures outcome { λ r. ⌜ FoundIs (lookupOutcome (now (base .entry)) (now (check .entry)) (now (words .entry))) r ⌝ }
     ensures meaning { λ r. ⌜ LookupMeans (now (base .entry)) (now (check .entry)) (now (words .entry)) (r .number) (r .place) (r .found) (r .p) (r .b) (r .left) ⌝ }
 {
-    found_of(double_array::look_up(base, check, words))
+    c_answers::found_of(double_array::look_up(base, check, words))
 }
 
 // Leaves the state after `<s>` in a slice of nine: 16 for another length, 11, 12.
 #[no_mangle]
 pub extern "C" fn backoff_start(base: &[i32], check: &[i32], state: &mut [i32]) -> Status
     ensures outcome { λ r. ⌜ StartedIs (startOutcome (opened (now (base .entry)) (now (check .entry))) (now (state .entry))) r (now (state .exit)) ⌝ }
-    ensures meaning { λ r. ⌜ (length (now (state .entry)) ≡ 9 → StartMeans (now (base .entry)) (now (check .entry)) (r .number) (now (state .exit))) ⌝ }
+    ensures meaning { λ r. ⌜ StartMeans (now (base .entry)) (now (check .entry)) (now (state .entry)) (r .number) (r .place) (now (state .exit)) ⌝ }
 {
     if state.len() != STATE_LENGTH {
         return Status {
@@ -211,7 +85,7 @@ pub extern "C" fn backoff_start(base: &[i32], check: &[i32], state: &mut [i32]) 
     }
     let started = score::start(base, check);
     let begun = started.state;
-    store(begun, state);
+    c_answers::store(begun, state);
     Status {
         number: started.number,
         place: started.place,
@@ -238,7 +112,7 @@ pub extern "C" fn backoff_run(
             total: 0,
         };
     }
-    let ran = score::run(base, check, load(state), words, points, lengths);
+    let ran = score::run(base, check, c_answers::load(state), words, points, lengths);
     if ran.number != 0 {
         return Total {
             number: ran.number,
@@ -247,7 +121,7 @@ pub extern "C" fn backoff_run(
         };
     }
     let end = ran.end;
-    store(end, state);
+    c_answers::store(end, state);
     Total {
         number: ran.number,
         place: ran.place,
@@ -266,7 +140,7 @@ pub extern "C" fn backoff_batch(
     lengths: &mut [u8],
 ) -> Sheet
     ensures outcome { λ r. ⌜ record { sheet = r; points = now (points .exit); lengths = now (lengths .exit) } ≡ sheetOutcome (opened (now (base .entry)) (now (check .entry))) (now (ends .entry)) (runOf (now (words .entry)) (now (points .entry)) (now (lengths .entry))) ⌝ }
-    ensures meaning { λ r. ⌜ SheetMeans (now (ends .entry)) (runOf (now (words .entry)) (now (points .entry)) (now (lengths .entry))) (record { sheet = r; points = now (points .exit); lengths = now (lengths .exit) }) ⌝ }
+    ensures meaning { λ r. ⌜ SheetMeans (now (base .entry)) (now (check .entry)) (now (ends .entry)) (runOf (now (words .entry)) (now (points .entry)) (now (lengths .entry))) (record { sheet = r; points = now (points .exit); lengths = now (lengths .exit) }) ⌝ }
 {
     batch::score_batch(base, check, words, ends, points, lengths)
 }
@@ -281,7 +155,7 @@ pub extern "C" fn backoff_sentences(
     totals: &mut [i64],
 ) -> Listing
     ensures outcome { λ r. ⌜ record { listing = r; words = now (words .exit); totals = now (totals .exit) } ≡ listingOutcome (opened (now (base .entry)) (now (check .entry))) k (now (words .entry)) (now (totals .entry)) ⌝ }
-    ensures meaning { λ r. ⌜ ListingMeans (opened (now (base .entry)) (now (check .entry))) k (now (words .entry)) (now (totals .entry)) (record { listing = r; words = now (words .exit); totals = now (totals .exit) }) ⌝ }
+    ensures meaning { λ r. ⌜ ListingMeans (now (base .entry)) (now (check .entry)) k (now (words .entry)) (now (totals .entry)) (record { listing = r; words = now (words .exit); totals = now (totals .exit) }) ⌝ }
 {
     sentences::list_sentences(base, check, k, words, totals)
 }
@@ -296,7 +170,7 @@ pub extern "C" fn backoff_largest_move(
     totals: &mut [i64],
 ) -> Move
     ensures outcome { λ r. ⌜ record { move = r; words = now (words .exit); totals = now (totals .exit) } ≡ moveOutcome (opened (now (base .entry)) (now (check .entry))) k (now (words .entry)) (now (totals .entry)) ⌝ }
-    ensures meaning { λ r. ⌜ MoveMeans (opened (now (base .entry)) (now (check .entry))) k (record { move = r; words = now (words .exit); totals = now (totals .exit) }) ⌝ }
+    ensures meaning { λ r. ⌜ MoveMeans (now (base .entry)) (now (check .entry)) k (now (words .entry)) (now (totals .entry)) (record { move = r; words = now (words .exit); totals = now (totals .exit) }) ⌝ }
 {
     largest_move::find_largest_move(base, check, k, words, totals)
 }
@@ -334,7 +208,7 @@ pub extern "C" fn backoff_plain(
     lengths: &mut [u8],
 ) -> Total
     ensures outcome { λ r. ⌜ TotalIs (plainOutcome (now (table .entry)) «after_start» (runOf (now (words .entry)) (now (points .entry)) (now (lengths .entry)))) r (now (points .exit)) (now (lengths .exit)) ⌝ }
-    ensures meaning { λ r. ⌜ PlainMeans (now (table .entry)) «after_start» (runOf (now (words .entry)) (now (points .entry)) (now (lengths .entry))) (r .number) (r .total) (now (points .exit)) (now (lengths .exit)) ⌝ }
+    ensures meaning { λ r. ⌜ PlainMeans (now (table .entry)) «after_start» (runOf (now (words .entry)) (now (points .entry)) (now (lengths .entry))) (r .number) (r .place) (r .total) (now (points .exit)) (now (lengths .exit)) ⌝ }
 {
     let scored = plain::score_plain(table, after_start, words, points, lengths);
     Total {
@@ -355,7 +229,7 @@ pub extern "C" fn backoff_unload(
     ensures outcome { λ r. ⌜ UnloadedIs (unloadOutcome (now (base .entry)) (now (check .entry)) (now (table .entry)) (now (work .entry))) r (now (table .exit)) (now (work .exit)) ⌝ }
     ensures meaning { λ r. ⌜ UnloadMeans (now (base .entry)) (now (check .entry)) (now (table .entry)) (now (work .entry)) (r .number) (r .place) (now (table .exit)) (now (work .exit)) ⌝ }
 {
-    status_of(unload::unload(base, check, table, work))
+    c_answers::status_of(unload::unload(base, check, table, work))
 }
 
 // Reads an ARPA text: 17, 18, 15, 19 with the line, then the list checks with the row, where the list is to be filled 8 for the two cases that filling
@@ -368,16 +242,16 @@ pub extern "C" fn backoff_arpa(
     store: &mut [u8],
 ) -> RowCount
     ensures outcome { λ r. ⌜ ReadIs (readArpa «to_be_filled» (length (now (table .entry))) (length (now (store .entry))) (now (text .entry))) r (now (table .exit)) (now (store .exit)) ⌝ }
-    ensures meaning { λ r. ⌜ ReadMeans «to_be_filled» (now (text .entry)) (r .number) (r .rows) (now (table .exit)) (now (store .exit)) ⌝ }
+    ensures meaning { λ r. ⌜ ReadMeans «to_be_filled» (now (text .entry)) (r .number) (r .place) (r .rows) (now (table .exit)) (now (store .exit)) ⌝ }
 {
-    row_count_of(arpa::read_arpa(text, to_be_filled, table, store))
+    c_answers::row_count_of(arpa::read_arpa(text, to_be_filled, table, store))
 }
 
 // Fills a pruned list: 1, rows 3 to 8, 9, then 5 with the row that needs it, 1, 15. Refused, nothing is written.
 #[no_mangle]
 pub extern "C" fn backoff_fill(table: &[i32], filled: &mut [i32]) -> RowCount
     ensures outcome { λ r. ⌜ FilledIs (fillOutcome (now (table .entry)) (now (filled .entry))) r (now (filled .exit)) ⌝ }
-    ensures meaning { λ r. ⌜ FillMeans (now (table .entry)) (now (filled .entry)) (r .number) (r .rows) (now (filled .exit)) ⌝ }
+    ensures meaning { λ r. ⌜ FillMeans (now (table .entry)) (now (filled .entry)) (r .number) (r .place) (r .rows) (now (filled .exit)) ⌝ }
 {
     let answer = filling::fill(table, filled);
     RowCount {

@@ -79,7 +79,7 @@ module _ (base check : List ℤ) (k : ℕ) (words : List ℕ) (totals : List ℤ
   sizes = accepted-sized o k words totals (ap (λ (y : Outcome). y .listing .number) (sym is) ∙ accepted)
 
   means : (S : Store) × ((o ≡ some S) × Listed S k words totals x)
-  means = let m = listing-means o k words totals in rw is (m .accepted (ap (λ (y : Outcome). y .listing .number) (sym is) ∙ accepted))
+  means = let m = listing-means base check k words totals in rw is (m .accepted (ap (λ (y : Outcome). y .listing .number) (sym is) ∙ accepted))
 
   pub sentences-are : n ≡ v ^ k
   sentences-are =

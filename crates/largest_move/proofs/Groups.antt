@@ -18,7 +18,7 @@ use Rattle.integer.proofs.Ranges.{lt-or-ge}
 use Rattle.backoff.specs.OneWord.{distance}
 use Rattle.largest_move.specs.declared.Pair.{Pair}
 use Rattle.largest_move.specs.Meaning.{NotAfter, IsLargest}
-use Rattle.largest_move.specs.Inner.{totalAt, apartIn, Small, IsGroup, Has, FirstWith, Spans, InGroup, GroupPair, noneYet, Kept, nothing, something}
+use Rattle.largest_move.specs.Inner.{totalAt, apartIn, Small, IsGroup, Has, NoneBefore, FirstWith, Spans, InGroup, GroupPair, noneYet, Kept, nothing, something}
 use Rattle.largest_move.proofs.Kept.{Beats, stays}
 
 -- ---- numbers between low and high
@@ -94,7 +94,7 @@ module _ (totals : List ℤ) (first weight : ℕ) where
 
 pub record Searching (totals : List ℤ) (first weight : ℕ) (z : ℤ) (at s : ℕ) : Type 0 where
   pub at-is : at ≡ first + s * weight
-  pub before : (t : ℕ) → t < s → totalAt totals (first + t * weight) ≡ z → ⊥
+  pub before : NoneBefore totals first weight z s
 
 module _ (totals : List ℤ) (first weight : ℕ) (z : ℤ) where
   pub search-begins : Searching totals first weight z first 0

@@ -131,19 +131,18 @@ module _ (distance : ℕ → ℕ → ℕ) where
   -- ---- the pairs of P, and those of Q behind them
 
   module _ {P Q R : ℕ → ℕ → Type 0} (either : (a b : ℕ) → R a b → P a b ⊎ Q a b) (left : (a b : ℕ) → P a b → R a b) (right : (a b : ℕ) → Q a b → R a b) where
-    pub stays : {i j : ℕ} → IsLargest P distance i j → ((a b : ℕ) → Q a b → Beats distance i j a b) → IsLargest R distance i j
-    stays {i} {j} f g = all-beaten (left i j (f .pair)) (λ a b r. go a b (either a b r))
+    both-beaten : {i j : ℕ} → R i j → ((a b : ℕ) → P a b → Beats distance i j a b) → ((a b : ℕ) → Q a b → Beats distance i j a b) → IsLargest R distance i j
+    both-beaten {i} {j} r f g = all-beaten r (λ a b h. go a b (either a b h))
       where
         go : (a b : ℕ) → P a b ⊎ Q a b → Beats distance i j a b
-        go a b (inl p) = beats-all f a b p
+        go a b (inl p) = f a b p
         go a b (inr q) = g a b q
 
+    pub stays : {i j : ℕ} → IsLargest P distance i j → ((a b : ℕ) → Q a b → Beats distance i j a b) → IsLargest R distance i j
+    stays {i} {j} f g = both-beaten (left i j (f .pair)) (beats-all f) g
+
     taken : {i j : ℕ} → IsLargest Q distance i j → ((a b : ℕ) → P a b → Beats distance i j a b) → IsLargest R distance i j
-    taken {i} {j} f g = all-beaten (right i j (f .pair)) (λ a b r. go a b (either a b r))
-      where
-        go : (a b : ℕ) → P a b ⊎ Q a b → Beats distance i j a b
-        go a b (inl p) = g a b p
-        go a b (inr q) = beats-all f a b q
+    taken {i} {j} f g = both-beaten (right i j (f .pair)) g (beats-all f)
 
     module _ {none : Pair} {a b : ℕ} (next : IsLargest Q distance a b) where
       kept-stays : {i j : ℕ} → IsLargest P distance i j → Beats distance i j a b → Kept none R distance (pairOf distance i j)

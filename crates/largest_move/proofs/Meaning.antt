@@ -14,7 +14,10 @@ use borrow.Author.Tests.{eqb-true, eqb-false}
 use Rattle.integer.proofs.Arithmetic.{zarith, abs, sub}
 use Rattle.backoff.specs.OneWord.{distance}
 use Rattle.backoff.specs.Store.{Store}
-use Rattle.sentences.specs.Listing.{sentenceTotal, usableOver, sentencesOver, listingOutcome}
+use Rattle.double_array.specs.DoubleArray.{opened}
+use Rattle.sentences.specs.Listing.{Outcome as Listed, sentenceTotal, usableOver, sentencesOver, listingOutcome}
+use Rattle.sentences.specs.Meaning.{ListingMeans}
+use Rattle.sentences.proofs.Meaning.{listing-means}
 use Rattle.sentences.proofs.Sentences.{length-sentences}
 use Rattle.largest_move.specs.declared.Pair.{Pair}
 use Rattle.largest_move.specs.Pairs.{noPair, pairOf}
@@ -99,15 +102,32 @@ module _ (o : Option Store) (k : ℕ) (some : 1 ≤ k) where
       go (nothing e f) = e
       go (something i j e f) = absurd (omega (arith, f .pair .ordered, f .pair .inside, one-sentence l))
 
-pub move-means : (o : Option Store) (k : ℕ) (words : List ℕ) (totals : List ℤ) → MoveMeans o k (moveOutcome o k words totals)
-unfolding moveOutcome
-move-means o k words totals = go (eqb number 0) refl
-  where
-    number : ℕ
-    number = listingOutcome o k words totals .listing .number
+module _ (base check : List ℤ) (k : ℕ) (words : List ℕ) (totals : List ℤ) where
+  abbrev listed : Listed
+  listed = listingOutcome (opened base check) k words totals
 
-    go : (b : Bool) → eqb number 0 ≡ b → MoveMeans o k (record { move = cond b (moveOf (largestPair (sentencesOver o k) (sentenceTotal o))) (refusedMove number); words = listingOutcome o k words totals .words; totals = listingOutcome o k words totals .totals })
-    go false e = let n = eqb-false number 0 e in record { named = λ z. absurd (n z); level = λ z. absurd (n z); few = λ z. absurd (n z); refused = λ z. refl }
-    go true e =
-        let h = accepted-sized o k words totals (eqb-true number 0 e) .some in
-        record { named = λ z. named o k h; level = λ z. named-level o k h; few = λ z l. ap moveOf (named-none o k h l); refused = λ n. absurd (n refl) }
+  -- the listing, with a number and a place that are its own
+  listing-named : (number place : ℕ) → listed .listing .number ≡ number → listed .listing .place ≡ place → ListingMeans base check k words totals (record { listing = record { number = number; place = place; sentences = listed .listing .sentences }; words = listed .words; totals = listed .totals })
+  listing-named number place e f = rw (sym e, sym f) (listing-means base check k words totals)
+
+  pub move-means : MoveMeans base check k words totals (moveOutcome (opened base check) k words totals)
+  unfolding moveOutcome
+  move-means = go (eqb (listed .listing .number) 0) refl
+    where
+      place : listed .listing .place ≡ 0
+      place = listing-means base check k words totals .place
+
+      go : (b : Bool) → eqb (listed .listing .number) 0 ≡ b → MoveMeans base check k words totals (record { move = cond b (moveOf (largestPair (sentencesOver (opened base check) k) (sentenceTotal (opened base check)))) (refusedMove (listed .listing .number)); words = listed .words; totals = listed .totals })
+      go false e =
+          let n = eqb-false (listed .listing .number) 0 e in
+          record { listing = (listed .listing .sentences, listing-named _ 0 refl place); named = λ z. absurd (n z); level = λ z. absurd (n z); few = λ z. absurd (n z); refused = λ z. refl }
+      go true e =
+          let z = eqb-true (listed .listing .number) 0 e in
+          let h = accepted-sized (opened base check) k words totals z .some in
+          record {
+            listing = (listed .listing .sentences, listing-named 0 0 z place);
+            named = λ q. named (opened base check) k h;
+            level = λ q. named-level (opened base check) k h;
+            few = λ q l. ap moveOf (named-none (opened base check) k h l);
+            refused = λ n. absurd (n refl);
+          }

@@ -8,6 +8,7 @@ use lib.Dec.{eqb}
 use lib.IntN.{ℤ}
 use borrow.Author.Tests.{eq-eqb, ne-eqb}
 use Rattle.backoff.specs.Store.{Store}
+use Rattle.double_array.specs.DoubleArray.{opened}
 use Rattle.sentences.specs.Listing.{Outcome as Listed, sentenceTotal, sentencesOver, listingOutcome}
 use Rattle.largest_move.specs.declared.Pair.{Pair}
 use Rattle.largest_move.specs.declared.Move.{Move}
@@ -15,16 +16,19 @@ use Rattle.largest_move.specs.Move.{largestPair, moveOf, refusedMove, mo
 use Rattle.largest_move.specs.Meaning.{MoveMeans}
 use Rattle.largest_move.proofs.Meaning.{move-means}
 
-module _ (o : Option Store) (k : ℕ) (words : List ℕ) (totals : List ℤ) (x : Listed) (is : x ≡ listingOutcome o k words totals) (m : Move) where
+module _ (base check : List ℤ) (k : ℕ) (words : List ℕ) (totals : List ℤ) (x : Listed) (is : x ≡ listingOutcome (opened base check) k words totals) (m : Move) where
+  abbrev o : Option Store
+  o = opened base check
+
   abbrev best : Pair
   best = largestPair (sentencesOver o k) (sentenceTotal o)
 
   -- the answer m with the slices as the listing leaves them is the outcome, and means what it should
   abbrev Answers : Type 0
-  Answers = (record { move = m; words = x .words; totals = x .totals } ≡ moveOutcome o k words totals) × MoveMeans o k (record { move = m; words = x .words; totals = x .totals })
+  Answers = (record { move = m; words = x .words; totals = x .totals } ≡ moveOutcome o k words totals) × MoveMeans base check k words totals (record { move = m; words = x .words; totals = x .totals })
 
   answers : m ≡ cond (eqb (x .listing .number) 0) (moveOf best) (refusedMove (x .listing .number)) → Answers
-  answers e = let q = same in (q, rw q (move-means o k words totals))
+  answers e = let q = same in (q, rw q (move-means base check k words totals))
     where
       same : record { move = m; words = x .words; totals = x .totals } ≡ moveOutcome o k words totals
       same =

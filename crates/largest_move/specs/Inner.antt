@@ -43,12 +43,16 @@ pub record Has (totals : List ℤ) (first weight count : ℕ) (z : ℤ) : Type 0
   pub inside : s < count
   pub total : totalAt totals (first + s * weight) ≡ z
 
+-- none of the first s of them has it
+abbrev pub NoneBefore : List ℤ → ℕ → ℕ → ℤ → ℕ → Type 0
+NoneBefore totals first weight z s = (t : ℕ) → t < s → totalAt totals (first + t * weight) ≡ z → ⊥
+
 -- the s-th of them, the sentence `at`, has it, and none before
 pub record FirstWith (totals : List ℤ) (first weight : ℕ) (z : ℤ) (at : ℕ) : Type 0 where
   pub s : ℕ
   pub at-is : at ≡ first + s * weight
   pub total : totalAt totals at ≡ z
-  pub before : (t : ℕ) → t < s → totalAt totals (first + t * weight) ≡ z → ⊥
+  pub before : NoneBefore totals first weight z s
 
 -- all of them have totals from low to high, and these two are among them
 pub record Spans (totals : List ℤ) (first weight count : ℕ) (low high : ℤ) : Type 0 where

@@ -3,12 +3,12 @@ use mathlib.Core.Path.{_≡_}
 use mathlib.Core.Logic.{_⊎_}
 use mathlib.Core.Bool.{Bool, true}
 use mathlib.Core.List.{List, []}
-use mathlib.Core.Option.{Option}
 use Prim.Native.Nat.{ℕ, suc, _≤_, _<_}
 use lib.ListN.{length, getD}
 use lib.IntN.{ℤ, pos}
-use Rattle.backoff.specs.Store.{Store}
+use Rattle.double_array.specs.DoubleArray.{opened}
 use Rattle.sentences.specs.Listing.{sentenceTotal, usableOver, sentencesOver}
+use Rattle.sentences.specs.Meaning.{ListingMeans}
 use Rattle.largest_move.specs.declared.Move.{Move}
 use Rattle.largest_move.specs.Pairs.{noPair}
 use Rattle.largest_move.specs.Move.{sentencesApart, totalsApart, Outcome, moveOf, refusedMove}
@@ -23,7 +23,7 @@ pub record IsPair (apart : ℕ → ℕ → Bool) (n i j : ℕ) : Type 0 where
 abbrev pub NotAfter : ℕ → ℕ → ℕ → ℕ → Type 0
 NotAfter i j a b = (i < a) ⊎ ((i ≡ a) × (j ≤ b))
 
--- of the pairs that P holds of, (i, j) is "the pair that reaches [the largest distance] whose first sentence, then second, is earliest"
+-- the largest distance is that of the pairs that P holds of, and (i, j) is "the pair that reaches it whose first sentence, then second, is earliest"
 pub record IsLargest (P : ℕ → ℕ → Type 0) (distance : ℕ → ℕ → ℕ) (i j : ℕ) : Type 0 where
   pub pair : P i j
   pub largest : (a b : ℕ) → P a b → distance a b ≤ distance i j
@@ -38,13 +38,16 @@ pub record Names (ss : List (List ℕ)) (total : List ℕ → ℤ) (m : Move) : 
   pub distance : m .distance ≡ pos (totalsApart ss total i j)
   pub largest : IsLargest (IsPair (sentencesApart ss) (length ss)) (totalsApart ss total) i j
 
-pub record MoveMeans (o : Option Store) (k : ℕ) (r : Outcome) : Type 0 where
-  pub named : r .move .number ≡ 0 → 2 ≤ length (usableOver o) → Names (sentencesOver o k) (sentenceTotal o) (r .move)
+-- What was returned, with both slices as they are after the call.
+pub record MoveMeans (base check : List ℤ) (k : ℕ) (words : List ℕ) (totals : List ℤ) (r : Outcome) : Type 0 where
+  -- "Slices, what they then hold and refusals are T-12's": those of the listing, which says how many sentences there are
+  pub listing : (n : ℕ) × ListingMeans base check k words totals (record { listing = record { number = r .move .number; place = r .move .place; sentences = n }; words = r .words; totals = r .totals })
+  pub named : r .move .number ≡ 0 → 2 ≤ length (usableOver (opened base check)) → Names (sentencesOver (opened base check) k) (sentenceTotal (opened base check)) (r .move)
   -- where all totals are equal, every pair reaches the largest distance, and the first two sentences are the earliest
-  pub level : r .move .number ≡ 0 → 2 ≤ length (usableOver o)
-      → ((i : ℕ) → i < length (sentencesOver o k) → sentenceTotal o (getD (sentencesOver o k) i []) ≡ sentenceTotal o (getD (sentencesOver o k) 0 []))
+  pub level : r .move .number ≡ 0 → 2 ≤ length (usableOver (opened base check))
+      → ((i : ℕ) → i < length (sentencesOver (opened base check) k) → sentenceTotal (opened base check) (getD (sentencesOver (opened base check) k) i []) ≡ sentenceTotal (opened base check) (getD (sentencesOver (opened base check) k) 0 []))
       → r .move ≡ moveOf (record { distance = pos 0; first = 1; second = 2 })
   -- "With fewer than two usable words the distance is 0 and no pair is named (0, 0)."
-  pub few : r .move .number ≡ 0 → length (usableOver o) < 2 → r .move ≡ moveOf noPair
+  pub few : r .move .number ≡ 0 → length (usableOver (opened base check)) < 2 → r .move ≡ moveOf noPair
   -- "a refused call answers zeros"
   pub refused : (r .move .number ≡ 0 → ⊥) → r .move ≡ refusedMove (r .move .number)

@@ -225,7 +225,7 @@ pub fn find_largest_move(
     totals: &mut [i64],
 ) -> Move
     ensures outcome { λ r. ⌜ record { move = r; words = now (words .exit); totals = now (totals .exit) } ≡ moveOutcome (opened (now (base .entry)) (now (check .entry))) k (now (words .entry)) (now (totals .entry)) ⌝ }
-    ensures meaning { λ r. ⌜ MoveMeans (opened (now (base .entry)) (now (check .entry))) k (record { move = r; words = now (words .exit); totals = now (totals .exit) }) ⌝ }
+    ensures meaning { λ r. ⌜ MoveMeans (now (base .entry)) (now (check .entry)) k (now (words .entry)) (now (totals .entry)) (record { move = r; words = now (words .exit); totals = now (totals .exit) }) ⌝ }
 {
     let counted = sentences::list_counted(base, check, k, words, totals);
     let listing = counted.listing;

@@ -9,7 +9,7 @@ use native.Mathlib.Decide.{ℕ-discrete, decLt}
 use borrow.Author.Tests.{eq-eqb, ne-eqb}
 use lib.IntN.{ℤ, pos}
 use Rattle.double_array.specs.DoubleArray.{childSlot}
-use Rattle.placing.specs.Placing.{Room, update, own, reach}
+use Rattle.placing.specs.Placing.{Room, update, own, topWith}
 
 module _ (f : Room) (i : ℕ) (v : ℤ) where
   pub update-same : (t : ℕ) → t ≡ i → update f i v t ≡ v
@@ -43,20 +43,15 @@ own-cases behind d s (x ∷ ws) c t = go (ℕ-discrete t (childSlot behind d x))
     go (yes e) (given w m p q) = given w (List·Memᴰ·tail m) p q
     go (no e) (given w m p q) = given w (List·Memᴰ·tail m) p q
 
-pub reach-top : (top : ℕ) (behind : Bool) (d : ℕ) (ws : List ℕ) → (top ≤ reach top behind d ws) × (d < reach top behind d ws)
-unfolding reach
+pub reach-top : (top : ℕ) (behind : Bool) (d : ℕ) (ws : List ℕ) → (top ≤ topWith top behind d ws) × (d < topWith top behind d ws)
+unfolding topWith
 reach-top top behind d [] = omega arith
 reach-top top behind d (w ∷ ws) = let h = reach-top top behind d ws in omega arith
 
-pub reach-child : (top : ℕ) (behind : Bool) (d : ℕ) (ws : List ℕ) (w : ℕ) → List·Memᴰ w ws → childSlot behind d w < reach top behind d ws
-unfolding reach
+pub reach-child : (top : ℕ) (behind : Bool) (d : ℕ) (ws : List ℕ) (w : ℕ) → List·Memᴰ w ws → childSlot behind d w < topWith top behind d ws
+unfolding topWith
 reach-child top behind d (x ∷ ws) w (List·Memᴰ·head e) = omega (arith, ap (childSlot behind d) e)
 reach-child top behind d (x ∷ ws) w (List·Memᴰ·tail m) = omega (arith, reach-child top behind d ws w m)
-
-pub reach-within : (top : ℕ) (behind : Bool) (d : ℕ) (ws : List ℕ) (N : ℕ) → top ≤ N → d < N → ((w : ℕ) → List·Memᴰ w ws → childSlot behind d w < N) → reach top behind d ws ≤ N
-unfolding reach
-reach-within top behind d [] N t h f = omega arith
-reach-within top behind d (w ∷ ws) N t h f = omega (arith, f w (List·Memᴰ·head refl), reach-within top behind d ws N t h (λ v m. f v (List·Memᴰ·tail m)))
 
 -- the highest slot used is the highest of before, the marker's or a child's
 pub data Highest (top : ℕ) (behind : Bool) (d : ℕ) (ws : List ℕ) (t : ℕ) : Type 0 where
@@ -64,20 +59,20 @@ pub data Highest (top : ℕ) (behind : Bool) (d : ℕ) (ws : List ℕ) (t : ℕ)
   of-marker : t ≡ d → Highest top behind d ws t
   of-child : (w : ℕ) → List·Memᴰ w ws → t ≡ childSlot behind d w → Highest top behind d ws t
 
-pub reach-highest : (top : ℕ) (behind : Bool) (d : ℕ) (ws : List ℕ) (t : ℕ) → reach top behind d ws ≡ suc t → Highest top behind d ws t
-unfolding reach
+pub reach-highest : (top : ℕ) (behind : Bool) (d : ℕ) (ws : List ℕ) (t : ℕ) → topWith top behind d ws ≡ suc t → Highest top behind d ws t
+unfolding topWith
 reach-highest top behind d [] t e = go (decLt d top)
   where
     go : Dec (d < top) → Highest top behind d [] t
     go (yes l) = of-before (omega arith)
     go (no l) = of-marker (omega arith)
-reach-highest top behind d (w ∷ ws) t e = go (decLt (childSlot behind d w) (reach top behind d ws)) (reach-highest top behind d ws t)
+reach-highest top behind d (w ∷ ws) t e = go (decLt (childSlot behind d w) (topWith top behind d ws)) (reach-highest top behind d ws t)
   where
     more : Highest top behind d ws t → Highest top behind d (w ∷ ws) t
     more (of-before q) = of-before q
     more (of-marker q) = of-marker q
     more (of-child v m q) = of-child v (List·Memᴰ·tail m) q
 
-    go : Dec (childSlot behind d w < reach top behind d ws) → (reach top behind d ws ≡ suc t → Highest top behind d ws t) → Highest top behind d (w ∷ ws) t
+    go : Dec (childSlot behind d w < topWith top behind d ws) → (topWith top behind d ws ≡ suc t → Highest top behind d ws t) → Highest top behind d (w ∷ ws) t
     go (yes l) rest = more (rest (omega arith))
     go (no l) rest = of-child w (List·Memᴰ·head refl) (omega arith)

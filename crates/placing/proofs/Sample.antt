@@ -16,7 +16,7 @@ use Rattle.integer.proofs.Ranges.{and-left, and-right}
 use Rattle.backoff.specs.Words.{sameWords, isWord, areWords}
 use Rattle.double_array.specs.DoubleArray.{freeCheck, markerBase}
 use Rattle.placing.specs.Trie.{Node, children, nodeAt, HasParent, Ready}
-use Rattle.placing.specs.Placing.{Placed, isFree, update, isOpen, allOpen, fits, search, firstFit, own, reach, give, settle, placeAt, withMarker, withoutMarker, place, placeAll, unplaced, placing, slots, usedSlots, takenSlots}
+use Rattle.placing.specs.Placing.{Placed, isFree, update, isOpen, allOpen, fits, search, firstFit, own, topWith, give, settle, placeAt, withMarker, withoutMarker, place, placeAll, unplaced, placing, slots, usedSlots, takenSlots}
 use Rattle.backoff.proofs.Words.{same-eq, same-refl}
 
 -- a row's node, from its words, −p, −b, e and f
@@ -38,7 +38,7 @@ sampleNodes =
     ∷ []
 
 samplePlaced : Placed
-unfolding sameWords children isFree update isOpen allOpen fits search firstFit own reach give settle placeAt withMarker withoutMarker place placeAll unplaced placing slots
+unfolding sameWords children isFree update isOpen allOpen fits search firstFit own topWith give settle placeAt withMarker withoutMarker place placeAll unplaced placing slots
 samplePlaced = placing 3 sampleNodes
 
 -- so N = 20 is enough, and N = 19 is not

@@ -19,7 +19,7 @@ use Rattle.double_array.specs.declared.Marker.the-variants.{Sound, Broken}
 use Rattle.double_array.specs.declared.Child.{Child}
 use Rattle.double_array.specs.declared.Child.the-variants.{At, Nothing}
 use Rattle.double_array.specs.DoubleArray.{freeCheck, markerOf, childSlot, ownedBy, baseAt, checkAt, keptMarker, ownMarker, markerAt, childAt, lookMarker, past, downTo, lookFrom, orderIn}
-use Rattle.double_array.proofs.DoubleArray.{marker-own, marker-kept, owned-none, child-told, child-shown, child-word, negative-childless}
+use Rattle.double_array.proofs.DoubleArray.{child-absent, marker-own, marker-kept, owned-none, child-told, child-shown, child-word, negative-childless}
 use Rattle.placing.specs.Trie.{Node, children, findNode, Ready}
 use Rattle.placing.specs.Placing.{Placed, placing, slots}
 use Rattle.placing.proofs.Trie.{child-found, found-child, found-in, root-found, found-word, child-short, node-bare, absent-below}
@@ -103,14 +103,12 @@ module _ (base check : List ℤ) (s : ℕ) {d : ℕ} (b : baseAt base check s �
       })
 
   child-none : (w : ℕ) → ((behind : Bool) → 1 ≤ w → 1 ≤ childSlot behind d w → childSlot behind d w < length check → checkAt base check (childSlot behind d w) ≡ pos s → ⊥) → childAt base check s w ≡ Nothing
-  child-none w h = go (childAt base check s w) refl
-    where
-      go : (r : Child) → childAt base check s w ≡ r → r ≡ Nothing
-      go (At t) e =
-          let c = child-told base check s w t e in
-          let same = sym (child-place (c .behind) w) ∙ c .slot in
-          absurd (h (c .behind) (child-word base check s w t e) (rw same (c .positive)) (rw same (c .inside)) (rw same (c .owner)))
-      go Nothing e = refl
+  child-none w h =
+      child-absent base check s w
+      (λ t e.
+      let c = child-told base check s w t e in
+      let same = sym (child-place (c .behind) w) ∙ c .slot in
+      h (c .behind) (child-word base check s w t e) (rw same (c .positive)) (rw same (c .inside)) (rw same (c .owner)))
 
 -- ---- the placing rule's array
 

@@ -50,9 +50,9 @@ own behind d s [] c = c
 own behind d s (w ∷ ws) c = own behind d s ws (update c (childSlot behind d w) (pos s))
 
 -- one more than the highest slot used
-unfoldable pub reach : ℕ → Bool → ℕ → List ℕ → ℕ
-reach top behind d [] = max top (suc d)
-reach top behind d (w ∷ ws) = max (suc (childSlot behind d w)) (reach top behind d ws)
+unfoldable pub topWith : ℕ → Bool → ℕ → List ℕ → ℕ
+topWith top behind d [] = max top (suc d)
+topWith top behind d (w ∷ ws) = max (suc (childSlot behind d w)) (topWith top behind d ws)
 
 -- the slots of nodes, once the children of the node `us` lie behind d or ahead of it
 unfoldable pub give : List ℕ → Bool → ℕ → (List ℕ → ℕ) → List ℕ → ℕ
@@ -72,7 +72,7 @@ settle n ws behind d P =
       base = update (update (P .base) d (n .load)) (P .slot (n .words)) (pos d);
       check = update (own behind d (P .slot (n .words)) ws (P .check)) d (negsuc (n .cost));
       slot = give (n .words) behind d (P .slot);
-      top = reach (P .top) behind d ws;
+      top = topWith (P .top) behind d ws;
     }
 
 -- "at each d the children's slots d − w (all ≥ 1) are tried first, then d + w"

@@ -9,7 +9,7 @@ use lib.Seq.{take-all}
 use lib.IntN.{ℤ, pos}
 use Rattle.backoff.specs.Words.{areWords}
 use Rattle.backoff.proofs.Words.{words-rest, words-more, first-some, first-limit, areWords-snoc}
-use Rattle.list.specs.Table.{wordOf, wordsOf}
+use Rattle.rows.specs.Table.{wordOf, wordsOf}
 use Rattle.plain.specs.declared.Recent.{Recent}
 use Rattle.plain.specs.Held.{IsRecent, inUse}
 use Rattle.plain.proofs.Words.{wordOf-pos}

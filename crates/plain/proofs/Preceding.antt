@@ -15,9 +15,9 @@ use Rattle.backoff.specs.Model.{Model, AcceptedModel, reach}
 use Rattle.backoff.specs.Rule.{replaced, scoreAfter, textRule, historyLength, rule, grow}
 use Rattle.backoff.specs.Run.{front}
 use Rattle.backoff.proofs.Rule.{scoreAfter-is-textRule}
-use Rattle.list.specs.Table.{wordsOf}
+use Rattle.rows.specs.Table.{wordsOf}
 use Rattle.plain.specs.declared.Recent.{Recent}
-use Rattle.plain.specs.Held.{IsRecent, inUse, begun, pushed}
+use Rattle.plain.specs.Held.{IsRecent, inUse, firstHistory, pushed}
 use Rattle.plain.proofs.Words.{replaced-known, replaced-is-word}
 use Rattle.plain.proofs.Newest.{history-length, history-newest, newest-shifted, length-shifted, shifted-are-words}
 
@@ -39,8 +39,8 @@ module _ {M : Model} (A : AcceptedModel M) where
   begun-newest (suc zero) l = ap (λ (v : ℕ). v ∷ []) (sym (replaced-known M startWord (A .start-listed)))
   begun-newest (suc (suc k)) l = absurd (omega arith)
 
-  pub begun-holds : (b : Bool) → Holds M (begun (reach M) b) (front b)
-  unfolding begun front wordsOf areWords isWord upTo between
+  pub begun-holds : (b : Bool) → Holds M (firstHistory (reach M) b) (front b)
+  unfolding firstHistory front wordsOf areWords isWord upTo between
   begun-holds true = record {
     places = record { four = refl; are-words = refl; few = omega arith };
     whole = refl;
@@ -91,6 +91,6 @@ module _ {M : Model} (A : AcceptedModel M) where
     unfolding pushed grow front
     pushed-holds = go (eqb w endWord)
       where
-        go : (b : Bool) → Holds M (cond b (begun (reach M) true) more) (cond b (startWord ∷ []) (w ∷ h))
+        go : (b : Bool) → Holds M (cond b (firstHistory (reach M) true) more) (cond b (startWord ∷ []) (w ∷ h))
         go true = begun-holds true
         go false = more-holds

@@ -6,11 +6,11 @@ use mathlib.Core.Option.{Option, none, some}
 use Prim.Native.Nat.{ℕ}
 use lib.IntN.{ℤ}
 use Rattle.backoff.specs.Model.{Entry, listed, probability, backoff, extended}
-use Rattle.list.specs.Table.{probabilityAt, backoffAt}
-use Rattle.list.specs.Search.{findIn}
+use Rattle.rows.specs.Table.{probabilityAt, backoffAt}
+use Rattle.row_search.specs.Search.{findIn}
+use Rattle.row_search.specs.declared.Found.the-variants.{At, Nothing}
+use Rattle.row_search.proofs.Search.{found-words}
 use Rattle.list.specs.ListModel.{extendedIn, modelOf}
-use Rattle.list.specs.declared.Found.the-variants.{At, Nothing}
-use Rattle.list.proofs.Search.{found-words}
 use Rattle.plain.specs.Held.{noRow, IsRow}
 
 pub row-found : (t : List ℤ) (ws : List ℕ) (i : ℕ) (p b : ℤ) → findIn t ws ≡ At i → p ≡ probabilityAt t i → b ≡ backoffAt t i → IsRow t (reverse ws) (record { listed = true; at = i; p = p; b = b })

@@ -17,7 +17,7 @@ use Rattle.backoff.specs.Rule.{Score, grow, rule, ruleByte, rulePoints, ruleByt
 use Rattle.backoff.specs.Run.{front, written}
 use Rattle.plain.specs.declared.Recent.{Recent}
 use Rattle.plain.specs.declared.Next.{Next}
-use Rattle.plain.specs.Held.{IsNext, begun}
+use Rattle.plain.specs.Held.{IsNext, firstHistory}
 use Rattle.plain.proofs.Preceding.{Holds, begun-holds, rule-held, pushed-holds}
 use Rattle.plain.proofs.Progress.{Progress, progress-none, progress-more, progress-length, progress-end, Summed, summed-none, summed-more, summed-end, total-fits}
 
@@ -48,7 +48,7 @@ pub record Scoring (M : Model) (b : Bool) (ws : List ℕ) (points₀ : List ℤ)
   pub lengths-left : Progress (ruleBytes M (front b) ws) (ruleBytes M before (drop i ws)) lengths₀ lengths i
   pub total-left : Summed (rulePoints M (front b) ws) (rulePoints M before (drop i ws)) total i
 
-pub scoring-none : {M : Model} → AcceptedModel M → (b : Bool) (ws : List ℕ) (points : List ℤ) (lengths : List ℕ) → Scoring M b ws points lengths points lengths (begun (reach M) b) (pos 0) 0
+pub scoring-none : {M : Model} → AcceptedModel M → (b : Bool) (ws : List ℕ) (points : List ℤ) (lengths : List ℕ) → Scoring M b ws points lengths points lengths (firstHistory (reach M) b) (pos 0) 0
 scoring-none A b ws points lengths = record {
   within = omega arith;
   before = front b;

@@ -19,7 +19,7 @@ use Rattle.backoff.specs.Model.{Model, AcceptedModel, inProbability, listed, pr
 use Rattle.backoff.specs.Rule.{addPoints, rowScore, textRule}
 use Rattle.backoff.proofs.Model.{dead-backoff, unlisted-dead}
 use Rattle.backoff.proofs.Sizes.{backoff-size}
-use Rattle.list.specs.Table.{wordsOf}
+use Rattle.rows.specs.Table.{wordsOf}
 use Rattle.list.specs.ListModel.{modelOf}
 use Rattle.plain.specs.declared.Row.{Row}
 use Rattle.plain.specs.declared.Score.{Score}

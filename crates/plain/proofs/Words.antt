@@ -14,7 +14,7 @@ use Rattle.backoff.specs.Model.{Model, AcceptedModel, listed}
 use Rattle.backoff.specs.Rule.{replaced}
 use Rattle.backoff.proofs.Words.{first-some, first-limit}
 use Rattle.backoff.proofs.Rule.{replaced-listed}
-use Rattle.list.specs.Table.{wordOf}
+use Rattle.rows.specs.Table.{wordOf}
 
 pub wordOf-pos : (w : ℕ) → w ≤ wordLimit → wordOf (pos w) ≡ w
 wordOf-pos w h = upTo-in (pos wordLimit) (pos w) (between-yes (pos 0) (pos wordLimit) (pos w) (omega zarith) (omega zarith))

@@ -10,7 +10,7 @@ use Rattle.backoff.specs.Limits.{startWord, endWord}
 use Rattle.backoff.specs.Words.{areWords}
 use Rattle.backoff.specs.Model.{Model, listed, probability, backoff, extended}
 use Rattle.backoff.specs.Rule as rule
-use Rattle.list.specs.Table.{rowsOf, wordsOf, words}
+use Rattle.rows.specs.Table.{rowsOf, wordsOf, words}
 use Rattle.list.specs.ListModel.{extendedIn, modelOf}
 use Rattle.plain.specs.declared.Row.{Row}
 use Rattle.plain.specs.declared.Score.{Score}
@@ -56,12 +56,12 @@ unfoldable pub inUse : Recent → List ℕ
 inUse r = wordsOf (drop (4 - r .count) (r .words))
 
 -- the history before any word is scored, of at most `most` words: `<s>` where b says so, else none
-unfoldable pub begun : ℕ → Bool → Recent
-begun most b = record { words = pos startWord ∷ pos startWord ∷ pos startWord ∷ pos startWord ∷ []; count = cond b (min most 1) 0 }
+unfoldable pub firstHistory : ℕ → Bool → Recent
+firstHistory most b = record { words = pos startWord ∷ pos startWord ∷ pos startWord ∷ pos startWord ∷ []; count = cond b (min most 1) 0 }
 
 -- the history once the given word w is scored as the word z: after a 3 `<s>` alone, else with z behind it
 unfoldable pub pushed : ℕ → Recent → ℕ → ℤ → Recent
-pushed most r w z = cond (eqb w endWord) (begun most true) (record { words = drop 1 (r .words) ++ (z ∷ []); count = min most (r .count + 1) })
+pushed most r w z = cond (eqb w endWord) (firstHistory most true) (record { words = drop 1 (r .words) ++ (z ∷ []); count = min most (r .count + 1) })
 
 -- the word w after the history r: its points and length byte, and the history of the word after it
 pub record IsNext (M : Model) (most : ℕ) (r : Recent) (w : ℕ) (x : Next) : Type 0 where

@@ -1,11 +1,14 @@
 -- Plain scoring over the lent list alone: the outcome of every call, and what it means. Assumes nothing.
 use mathlib.Core.Path.{_≡_}
-use mathlib.Core.Bool.{Bool}
+use mathlib.Core.Logic.{_⊎_}
+use mathlib.Core.Bool.{Bool, false}
 use mathlib.Core.List.{List}
-use Prim.Native.Nat.{ℕ}
-use lib.ListN.{length, take}
+use Prim.Native.Nat.{ℕ, _≤_, _<_}
+use lib.ListN.{length, take, drop}
 use lib.IntN.{ℤ, pos}
 use Rattle.integer.specs.Integer.{sum}
+use Rattle.backoff.specs.Limits.{runLimit}
+use Rattle.backoff.specs.Refusal.{wordCount, shortSlice}
 use Rattle.backoff.specs.declared.Verdict.{Verdict}
 use Rattle.backoff.specs.declared.Verdict.the-variants.{Accepted, Refused}
 use Rattle.backoff.specs.Model.{Model, AcceptedModel}
@@ -13,6 +16,7 @@ use Rattle.backoff.specs.Rule.{rulePoints, ruleBytes}
 use Rattle.backoff.specs.Run.{Run, Answer, refusedRun, front, plain}
 use Rattle.list.specs.Check.{verdict}
 use Rattle.list.specs.ListModel.{modelOf}
+use Rattle.list.specs.Meaning.{NoneMeets, VerdictMeans}
 use Rattle.plain.specs.declared.Plain.{Plain}
 
 abbrev pub runOf : List ℕ → List ℤ → List ℕ → Run
@@ -48,6 +52,16 @@ pub record Untouched (r : Run) (total : ℤ) (points : List ℤ) (lengths : List
   pub points-are : points ≡ r .points
   pub lengths-are : lengths ≡ r .lengths
 
-pub record PlainMeans (t : List ℤ) (b : Bool) (r : Run) (number : ℕ) (total : ℤ) (points : List ℤ) (lengths : List ℕ) : Type 0 where
+-- 1, row by row 3 to 8, and 9 as the check of the list answers, "then 14, 15"
+pub data PlainRefusedBy (t : List ℤ) (r : Run) : ℕ → ℕ → Type 0 where
+  bad-list : (n p : ℕ) → (n ≡ 0 → ⊥) → VerdictMeans false t n p → PlainRefusedBy t r n p
+  too-many-words : NoneMeets false t → runLimit < length (r .words) → PlainRefusedBy t r wordCount 0
+  too-short : NoneMeets false t → length (r .words) ≤ runLimit → (length (r .points) < length (r .words)) ⊎ (length (r .lengths) < length (r .words)) → PlainRefusedBy t r shortSlice 0
+
+pub record PlainMeans (t : List ℤ) (b : Bool) (r : Run) (number place : ℕ) (total : ℤ) (points : List ℤ) (lengths : List ℕ) : Type 0 where
   pub accepted : number ≡ 0 → ByRule t b (r .words) total points lengths
-  pub refused : (number ≡ 0 → ⊥) → Untouched r total points lengths
+  pub no-place : number ≡ 0 → place ≡ 0
+  pub refused : (number ≡ 0 → ⊥) → PlainRefusedBy t r number place
+  pub untouched : (number ≡ 0 → ⊥) → Untouched r total points lengths
+  pub points-past : drop (length (r .words)) points ≡ drop (length (r .words)) (r .points)
+  pub lengths-past : drop (length (r .words)) lengths ≡ drop (length (r .words)) (r .lengths)

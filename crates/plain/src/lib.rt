@@ -12,15 +12,15 @@ ghost use Rattle.backoff.specs.Model.{listed};
 ghost use Rattle.backoff.specs.Rule.{replaced, textRule, lengthByte, rulePoints, ruleBytes};
 ghost use Rattle.backoff.specs.Run.{written, front};
 ghost use Rattle.backoff.specs.declared.Verdict.the-variants.{Accepted};
-ghost use Rattle.list.specs.Table.{rowsOf, orderOf, wordOf, wordsOf, words};
+ghost use Rattle.rows.specs.Table.{rowsOf, orderOf, wordOf, wordsOf, words};
 ghost use Rattle.list.specs.Check.{verdict};
 ghost use Rattle.list.specs.ListModel.{extendedIn, modelOf};
 ghost use Rattle.plain.specs.Plain.{runOf, plainOutcome, Answers, PlainMeans};
-ghost use Rattle.plain.specs.Held.{noRow, IsRow, IsScore, IsScored, IsRecent, inUse, begun, pushed, IsNext};
+ghost use Rattle.plain.specs.Held.{noRow, IsRow, IsScore, IsScored, IsRecent, inUse, firstHistory, pushed, IsNext};
 use backoff::Verdict;
 use backoff::WORD_LIMIT;
-use list::Found;
-use list::Span;
+use row_search::Found;
+use row_search::Span;
 
 const UNKNOWN_WORD: i32 = backoff::UNKNOWN_WORD as i32;
 
@@ -65,7 +65,7 @@ fn count_missing(table: &[i32], count: usize) -> usize {
     if table.len() / 8 < count {
         return 0;
     }
-    let largest = list::field(table, count - 1, 1);
+    let largest = rows::field(table, count - 1, 1);
     if largest < 0 {
         return 0;
     }
@@ -83,7 +83,7 @@ fn find_starts(table: &[i32]) -> [usize; 8] {
     let mut starts = [rows; 8];
     starts[1] = 0;
     for i in 0..rows {
-        let m = list::length_of(table, i);
+        let m = rows::length_of(table, i);
         starts[m + 1] = i + 1;
     }
     let count = starts[2];
@@ -131,15 +131,15 @@ fn row_of(table: &[i32], starts: &[usize; 8], words: &[i32]) -> Row
     if LONGEST_ROW < words.len() {
         return unlisted();
     }
-    let found = list::find_among(table, words, likely_rows(starts, words));
+    let found = row_search::find_among(table, words, likely_rows(starts, words));
     let Found::At(i) = found else {
         return unlisted();
     };
     Row {
         listed: true,
         at: i,
-        p: list::field(table, i, 6),
-        b: list::field(table, i, 7),
+        p: rows::field(table, i, 6),
+        b: rows::field(table, i, 7),
     }
 }
 
@@ -250,7 +250,7 @@ struct Recent {
 
 // The history of the run's first word, where a history has at most `most` words.
 fn begin(most: usize, after_start: bool) -> Recent
-    ensures { λ r. ⌜ r ≡ begun most «after_start» ⌝ }
+    ensures { λ r. ⌜ r ≡ firstHistory most «after_start» ⌝ }
 {
     let words = [START_WORD; 4];
     if after_start {
@@ -283,7 +283,7 @@ fn byte_of(table: &[i32], starts: &[usize; 8], score: Score, word: i32) -> u8
     ensures { λ r. ⌜ r ≡ lengthByte (score .matched) (wordOf word) (extendedIn (now (table .entry)) (words (now (table .entry)) (score .row))) ⌝ }
 {
     let likely = rows_of(starts, score.matched as usize + 1);
-    let extended = list::extended(table, score.row, likely);
+    let extended = extensions::extended(table, score.row, likely);
     length_byte(score.matched, word, extended)
 }
 
@@ -372,7 +372,7 @@ pub fn score_plain(
     lengths: &mut [u8],
 ) -> Plain
     ensures outcome { λ r. ⌜ Answers (plainOutcome (now (table .entry)) «after_start» (runOf (now (words .entry)) (now (points .entry)) (now (lengths .entry)))) r (now (points .exit)) (now (lengths .exit)) ⌝ }
-    ensures meaning { λ r. ⌜ PlainMeans (now (table .entry)) «after_start» (runOf (now (words .entry)) (now (points .entry)) (now (lengths .entry))) (r .number) (r .total) (now (points .exit)) (now (lengths .exit)) ⌝ }
+    ensures meaning { λ r. ⌜ PlainMeans (now (table .entry)) «after_start» (runOf (now (words .entry)) (now (points .entry)) (now (lengths .entry))) (r .number) (r .place) (r .total) (now (points .exit)) (now (lengths .exit)) ⌝ }
 {
     let verdict = list::check_list(table);
     if let Verdict::Refused { number, place } = verdict {
@@ -390,7 +390,7 @@ pub fn score_plain(
             total: 0,
         };
     }
-    let n = list::length_of(table, table.len() / 8 - 1);
+    let n = rows::length_of(table, table.len() / 8 - 1);
     let total = score_words(table, n, after_start, words, points, lengths);
     Plain {
         number: 0,

@@ -1,28 +1,33 @@
 -- The outcomes of start and run mean what specs/Meaning.antt says, over any lent arrays. Assumes nothing.
 use mathlib.Core.Path.{_≡_, refl, ap, _∙_}
 use mathlib.Core.Logic.{_⊎_, inl, inr}
-use mathlib.Core.Bool.{Bool, true, false, cond}
+use mathlib.Core.Bool.{Bool, true, false, cond, _||_}
 use mathlib.Core.List.{List}
 use mathlib.Core.Option.{Option, none, some}
-use Prim.Native.Nat.{ℕ}
+use Prim.Native.Nat.{ℕ, suc, _<_}
+use native.Mathlib.Numerals.{one-add}
 use native.Mathlib.Omega.{arith}
-use lib.ListN.{length, replicate, length-replicate}
+use lib.ListN.{length, drop, replicate, length-replicate}
 use lib.Seq.{take-at, drop-at}
-use lib.Dec.{eqb}
+use lib.Dec.{eqb, ltb}
 use lib.IntN.{ℤ, pos}
-use borrow.Author.Tests.{eqb-true, eqb-false, eq-eqb}
-use Rattle.backoff.specs.Limits.{startWord}
-use Rattle.backoff.specs.Refusal.{arrayHead, brokenNode, badState}
+use borrow.Author.Tests.{eqb-true, eqb-false, eq-eqb, le-ltb, ltb-true, ltb-false}
+use Rattle.backoff.specs.Limits.{runLimit, startWord}
+use Rattle.backoff.specs.Refusal.{arrayHead, brokenNode, wordCount, shortSlice, badState}
+use Rattle.backoff.specs.FirstMet.{Line, FirstMet}
 use Rattle.backoff.specs.State.{empty, stepNext, start}
 use Rattle.backoff.specs.Run.{Run, sizeRefusal, refusal, accepted, written, refusedRun, acceptedRun, runPoints, runBytes, runEnd}
 use Rattle.backoff.specs.NineNumbers.{nine, nineZeros, stateIn, stateOk}
 use Rattle.backoff.specs.Store.{Store, wordStep, step, runOver, refusedAt, brokenRun, ranAnswer, runIn, runOutcome, refusedStart, startStep, startIn, startOutcome}
+use Rattle.backoff.proofs.FirstMet.{met-when, not-when, not-false, met-at, not-at}
 use Rattle.backoff.proofs.Run.{Fits, fits, length-runPoints, length-runBytes}
-use Rattle.backoff.proofs.Store.{modelRan, stuckAt, step-is, runOver-cases}
+use Rattle.backoff.proofs.Store.{stuckAt, step-is}
 use Rattle.double_array.specs.DoubleArray.{isArray, orderIn, storeIn, opened}
 use Rattle.double_array.proofs.DoubleArray.{opened-some, opened-none}
+use Rattle.word_step.specs.Rows.{arrayModel}
 use Rattle.score.specs.Inner.{earlyRefusal}
-use Rattle.score.specs.Meaning.{rowsIn, StartMeans, RunMeans}
+use Rattle.score.specs.Meaning.{startRefusals, StartMeans, runRefusals, RunMeans}
+use Rattle.score.proofs.Refusals.{start-told, start-scored, Told, first-stuck, none-stuck, told}
 
 -- ---- the outcome of a run, by what meets it before its words are scored
 
@@ -48,32 +53,21 @@ pub record Passed (base check : List ℤ) (l : List ℤ) (r : Run) : Type 0 wher
   pub sizes : Fits r
 
 module _ (base check : List ℤ) (l : List ℤ) (r : Run) (none-meets : earlyRefusal (opened base check) l (sizeRefusal (length (r .words)) (length (r .points)) (length (r .lengths))) ≡ 0) where
-  array-passed : isArray base check ≡ true
-  array-passed = go (isArray base check) refl
-    where
-      go : (t : Bool) → isArray base check ≡ t → isArray base check ≡ true
-      go true e = e
-      go false e = let q : arrayHead ≡ 0 = rw (opened-none base check e) at none-meets in absurd (omega arith)
-
-  state-passed : stateOk (orderIn check) l ≡ true
-  state-passed = go (stateOk (orderIn check) l) refl
-    where
-      go : (t : Bool) → stateOk (orderIn check) l ≡ t → stateOk (orderIn check) l ≡ true
-      go true e = e
-      go false e = let q : badState ≡ 0 = unfold storeIn in rw (opened-some base check array-passed, e) at none-meets in absurd (omega arith)
-
-  sizes-passed : sizeRefusal (length (r .words)) (length (r .points)) (length (r .lengths)) ≡ 0
-  sizes-passed = unfold storeIn in rw (opened-some base check array-passed, state-passed) at none-meets
-
   pub passed-all : Passed base check l r
-  passed-all = record { array = array-passed; state = state-passed; sizes = fits r (unfold refusal in sizes-passed) }
-
-  pub scored-late : length l ≡ 9 → runOutcome (opened base check) l r ≡ ranAnswer l r (runOver (storeIn base check) (r .words) (stateIn l) 1)
-  unfolding runOutcome storeIn
-  scored-late e = rw (eq-eqb (length l) 9 e, opened-some base check array-passed, state-passed, accepted-run)
+  passed-all = go (isArray base check) refl (stateOk (orderIn check) l) refl none-meets
     where
-      accepted-run : accepted r ≡ true
-      accepted-run = unfold accepted refusal in rw sizes-passed
+      go : (t : Bool) → isArray base check ≡ t → (u : Bool) → stateOk (orderIn check) l ≡ u → earlyRefusal (opened base check) l (sizeRefusal (length (r .words)) (length (r .points)) (length (r .lengths))) ≡ 0 → Passed base check l r
+      go false e u f z = let q : arrayHead ≡ 0 = rw (opened-none base check e) at z in absurd (omega arith)
+      go true e false f z = let q : badState ≡ 0 = unfold storeIn in rw (opened-some base check e, f) at z in absurd (omega arith)
+      go true e true f z = record { array = e; state = f; sizes = fits r (unfold refusal storeIn in rw (opened-some base check e, f) at z) }
+
+-- its words are scored
+pub passed-run : (base check : List ℤ) (l : List ℤ) (r : Run) → Passed base check l r → length l ≡ 9 → runOutcome (opened base check) l r ≡ ranAnswer l r (runOver (storeIn base check) (r .words) (stateIn l) 1)
+unfolding runOutcome storeIn
+passed-run base check l r p e = rw (eq-eqb (length l) 9 e, opened-some base check (p .array), p .state, accepted-run)
+  where
+    accepted-run : accepted r ≡ true
+    accepted-run = unfold accepted refusal in rw (le-ltb runLimit (length (r .words)) (p .sizes .few), le-ltb (length (r .points)) (length (r .words)) (p .sizes .points), le-ltb (length (r .lengths)) (length (r .words)) (p .sizes .lengths))
 
 -- ---- the outcome of start, by what 11 says
 
@@ -90,35 +84,53 @@ module _ (base check : List ℤ) where
 -- ---- what the outcomes mean
 
 module _ (base check : List ℤ) where
-  refused-start : (number : ℕ) → (number ≡ 0 → ⊥) → StartMeans base check number (refusedStart number .state)
-  refused-start number n = record { accepted = λ e. absurd (n e); refused = λ e. refl }
+  abbrev S : Store
+  S = storeIn base check
 
-  pub start-means : (l : List ℤ) → length l ≡ 9 → StartMeans base check (startOutcome (opened base check) l .number) (startOutcome (opened base check) l .state)
+  pub start-means : (l : List ℤ) → StartMeans base check l (startOutcome (opened base check) l .number) (startOutcome (opened base check) l .place) (startOutcome (opened base check) l .state)
   unfolding startOutcome
-  start-means l e = rw (eq-eqb (length l) 9 e) (go (isArray base check) refl (stuckAt (storeIn base check) empty startWord) refl)
+  start-means l = nine-or-not (eqb (length l) 9) refl
     where
-      go : (t : Bool) → isArray base check ≡ t → (u : Bool) → stuckAt (storeIn base check) empty startWord ≡ u → StartMeans base check (startIn (opened base check) .number) (startIn (opened base check) .state)
-      go false q u p = rw (opened-none base check q) (refused-start arrayHead (λ z. omega arith))
-      go true q true p = rw (opened-some base check q, step-is (storeIn base check) empty startWord, p) (refused-start brokenNode (λ z. omega arith))
-      go true q false p = rw (opened-some base check q, step-is (storeIn base check) empty startWord, p) (record { accepted = λ e. unfold stepNext start in refl; refused = λ n. absurd (n refl) })
+      refused-start : length l ≡ 9 → (number : ℕ) → (number ≡ 0 → ⊥) → FirstMet (startRefusals base check l) number 0 → StartMeans base check l number 0 nineZeros
+      refused-start e number n v = record { verdict = v; accepted = λ z. absurd (n z); refused = λ z h. refl; untouched = λ h. absurd (h e) }
+
+      go : length l ≡ 9 → (t : Bool) → isArray base check ≡ t → (u : Bool) → stuckAt S empty startWord ≡ u → StartMeans base check l (startIn (opened base check) .number) (startIn (opened base check) .place) (startIn (opened base check) .state)
+      go e false q u p = rw (opened-none base check q) (refused-start e arrayHead (λ z. omega arith) (inr (not-when (λ h. h e), inl (met-when q))))
+      go e true q true p =
+          rw (opened-some base check q, step-is S empty startWord, p)
+          (refused-start e brokenNode (λ z. omega arith) (inr (not-when (λ h. h e), inr (not-false q, inl (met-when (start-told base check p))))))
+      go e true q false p =
+          rw (opened-some base check q, step-is S empty startWord, p)
+          (record {
+            verdict = inr (not-when (λ h. h e), inr (not-false q, inr (not-when (start-scored base check p), (refl, refl))));
+            accepted = λ z. unfold stepNext start in refl;
+            refused = λ n. absurd (n refl);
+            untouched = λ h. absurd (h e);
+          })
+
+      nine-or-not : (t : Bool) → eqb (length l) 9 ≡ t → StartMeans base check l (cond t (startIn (opened base check)) (record { number = badState; place = 0; state = l }) .number) (cond t (startIn (opened base check)) (record { number = badState; place = 0; state = l }) .place) (cond t (startIn (opened base check)) (record { number = badState; place = 0; state = l }) .state)
+      nine-or-not true e = go (eqb-true _ _ e) (isArray base check) refl (stuckAt S empty startWord) refl
+      nine-or-not false e = let h = eqb-false _ _ e in record { verdict = inl (met-when h); accepted = λ z. absurd (omega arith); refused = λ z q. absurd (h q); untouched = λ z. refl }
 
   module _ (l : List ℤ) (r : Run) where
-    refused-run : (number : ℕ) → (number ≡ 0 → ⊥) → RunMeans base check l r (refusedRun number 0 l r)
+    refused-run : (number : ℕ) → (number ≡ 0 → ⊥) → FirstMet (runRefusals base check l r) number 0 → RunMeans base check l r (refusedRun number 0 l r)
     unfolding refusedRun
-    refused-run number n = record { accepted = λ e. absurd (n e); refused = λ e. (refl, refl); points-past = refl; lengths-past = refl }
+    refused-run number n v = record { verdict = v; accepted = λ e. absurd (n e); refused = λ e. (refl, refl); points-past = refl; lengths-past = refl }
 
-    broken-run : (k : ℕ) → RunMeans base check l r (brokenRun k l r)
+    broken-run : (k : ℕ) → FirstMet (runRefusals base check l r) brokenNode k → RunMeans base check l r (brokenRun k l r)
     unfolding brokenRun written
-    broken-run k = record {
+    broken-run k v = record {
+      verdict = v;
       accepted = λ e. absurd (omega arith);
       refused = λ e. (refl, refl);
       points-past = rw (length-replicate (length (r .words)) (pos 0)) (drop-at (replicate (length (r .words)) (pos 0)) _ _ (length-replicate (length (r .words)) (pos 0)));
       lengths-past = rw (length-replicate {A = ℕ} (length (r .words)) 0) (drop-at (replicate {A = ℕ} (length (r .words)) 0) _ _ (length-replicate {A = ℕ} (length (r .words)) 0));
     }
 
-    scored-run : RunMeans base check l r (acceptedRun (nine (runEnd (rowsIn base check) (stateIn l) (r .words))) (runPoints (rowsIn base check) (stateIn l) (r .words)) (runBytes (rowsIn base check) (stateIn l) (r .words)) r)
+    scored-run : FirstMet (runRefusals base check l r) 0 0 → RunMeans base check l r (acceptedRun (nine (runEnd (arrayModel base check) (stateIn l) (r .words))) (runPoints (arrayModel base check) (stateIn l) (r .words)) (runBytes (arrayModel base check) (stateIn l) (r .words)) r)
     unfolding acceptedRun written
-    scored-run = record {
+    scored-run v = record {
+      verdict = v;
       accepted = λ e. record { points = take-at points _ _ long-points; lengths = take-at lengths _ _ long-lengths; total = refl; end = refl };
       refused = λ n. absurd (n refl);
       points-past = rw long-points (drop-at points _ _ long-points);
@@ -126,28 +138,55 @@ module _ (base check : List ℤ) where
     }
       where
         points : List ℤ
-        points = runPoints (rowsIn base check) (stateIn l) (r .words)
+        points = runPoints (arrayModel base check) (stateIn l) (r .words)
 
         lengths : List ℕ
-        lengths = runBytes (rowsIn base check) (stateIn l) (r .words)
+        lengths = runBytes (arrayModel base check) (stateIn l) (r .words)
 
         long-points : length points ≡ length (r .words)
-        long-points = length-runPoints (rowsIn base check) (stateIn l) (r .words)
+        long-points = length-runPoints (arrayModel base check) (stateIn l) (r .words)
 
         long-lengths : length lengths ≡ length (r .words)
-        long-lengths = length-runBytes (rowsIn base check) (stateIn l) (r .words)
+        long-lengths = length-runBytes (arrayModel base check) (stateIn l) (r .words)
+
+    -- the lines behind 16, which are met where it is passed
+    abbrev behind : List Line
+    behind = drop 3 (runRefusals base check l r)
+
+    past-state : length l ≡ 9 → isArray base check ≡ true → stateOk (orderIn check) l ≡ true → (number place : ℕ) → FirstMet behind number place → FirstMet (runRefusals base check l r) number place
+    past-state e p q number place v = inr (not-when (λ h. h e), inr (not-false p, inr (not-false q, v)))
+
+    sizes-met : accepted r ≡ false → FirstMet behind (refusal r) 0
+    unfolding accepted refusal
+    sizes-met = go (ltb runLimit (length (r .words))) refl (ltb (length (r .points)) (length (r .words))) refl (ltb (length (r .lengths)) (length (r .words))) refl
+      where
+        go : (a : Bool) → ltb runLimit (length (r .words)) ≡ a → (b : Bool) → ltb (length (r .points)) (length (r .words)) ≡ b → (c : Bool) → ltb (length (r .lengths)) (length (r .words)) ≡ c → eqb (cond a wordCount (cond (b || c) shortSlice 0)) 0 ≡ false → FirstMet behind (cond a wordCount (cond (b || c) shortSlice 0)) 0
+        go true p b f c g h = inl (met-when (ltb-true _ _ p))
+        go false p true f c g h = inr (not-when (λ z. let m = ltb-false runLimit (length (r .words)) p in omega arith), inl (met-when (inl (ltb-true _ _ f))))
+        go false p false f true g h = inr (not-when (λ z. let m = ltb-false runLimit (length (r .words)) p in omega arith), inl (met-when (inr (ltb-true _ _ g))))
+        go false p false f false g h = absurd (eqb-false 0 0 h refl)
+
+    past-sizes : accepted r ≡ true → (number place : ℕ) → FirstMet (drop 2 behind) number place → FirstMet behind number place
+    past-sizes k number place v = inr (not-when (λ z. let m = f .few in omega arith), inr (not-when short, v))
+      where
+        f : Fits r
+        f = fits r (eqb-true (refusal r) 0 (unfold accepted in k))
+
+        short : (length (r .points) < length (r .words)) ⊎ (length (r .lengths) < length (r .words)) → ⊥
+        short (inl z) = let m = f .points in omega arith
+        short (inr z) = let m = f .lengths in omega arith
 
     pub run-means : RunMeans base check l r (runOutcome (opened base check) l r)
-    unfolding runOutcome
-    run-means = nine-or-not (eqb (length l) 9)
+    unfolding runOutcome storeIn
+    run-means = nine-or-not (eqb (length l) 9) refl
       where
-        go : (t : Bool) → isArray base check ≡ t → (u : Bool) → stateOk (storeIn base check .order) l ≡ u → (v : Bool) → accepted r ≡ v → ((j : ℕ) × (runOver (storeIn base check) (r .words) (stateIn l) 1 ≡ refusedAt j)) ⊎ (runOver (storeIn base check) (r .words) (stateIn l) 1 ≡ modelRan (rowsIn base check) (stateIn l) (r .words)) → RunMeans base check l r (runIn (opened base check) l r)
-        go false p u q v k o = rw (opened-none base check p) (refused-run arrayHead (λ z. omega arith))
-        go true p false q v k o = rw (opened-some base check p, q) (refused-run badState (λ z. omega arith))
-        go true p true q false k o = rw (opened-some base check p, q, k) (refused-run (refusal r) (eqb-false (refusal r) 0 (unfold accepted in k)))
-        go true p true q true k (inl (j, o)) = rw (opened-some base check p, q, k, o) (broken-run j)
-        go true p true q true k (inr o) = rw (opened-some base check p, q, k, o) scored-run
+        go : length l ≡ 9 → (t : Bool) → isArray base check ≡ t → (u : Bool) → stateOk (orderIn check) l ≡ u → (v : Bool) → accepted r ≡ v → Told base check (r .words) (stateIn l) 1 → RunMeans base check l r (runIn (opened base check) l r)
+        go e false p u q v k o = rw (opened-none base check p) (refused-run arrayHead (λ z. omega arith) (inr (not-when (λ h. h e), inl (met-when p))))
+        go e true p false q v k o = rw (opened-some base check p, q) (refused-run badState (λ z. omega arith) (inr (not-when (λ h. h e), inr (not-false p, inl (met-when q)))))
+        go e true p true q false k o = rw (opened-some base check p, q, k) (refused-run (refusal r) (eqb-false (refusal r) 0 (unfold accepted in k)) (past-state e p q _ _ (sizes-met k)))
+        go e true p true q true k (first-stuck i o t f) = rw (opened-some base check p, q, k, o ∙ ap refusedAt (one-add i)) (broken-run (suc i) (past-state e p q _ _ (past-sizes k _ _ (inl (met-at i t f)))))
+        go e true p true q true k (none-stuck o n) = rw (opened-some base check p, q, k, o) (scored-run (past-state e p q _ _ (past-sizes k _ _ (inr (not-at n, (refl, refl))))))
 
-        nine-or-not : (t : Bool) → RunMeans base check l r (cond t (runIn (opened base check) l r) (refusedRun badState 0 l r))
-        nine-or-not false = refused-run badState (λ z. omega arith)
-        nine-or-not true = go (isArray base check) refl (stateOk (storeIn base check .order) l) refl (accepted r) refl (runOver-cases (storeIn base check) (r .words) (stateIn l) 1)
+        nine-or-not : (t : Bool) → eqb (length l) 9 ≡ t → RunMeans base check l r (cond t (runIn (opened base check) l r) (refusedRun badState 0 l r))
+        nine-or-not false e = refused-run badState (λ z. omega arith) (inl (met-when (eqb-false _ _ e)))
+        nine-or-not true e = go (eqb-true _ _ e) (isArray base check) refl (stateOk (orderIn check) l) refl (accepted r) refl (told base check (r .words) (stateIn l) 1)

@@ -25,7 +25,7 @@ use Rattle.backoff.proofs.State.{walk-le}
 use Rattle.backoff.proofs.NineNumbers.{Bounded}
 use Rattle.backoff.proofs.Store.{wordStuck, wordStep-is}
 use Rattle.backoff.proofs.Sizes.{points-size}
-use Rattle.score.proofs.Written.{drop-more}
+use Rattle.word_step.proofs.Written.{drop-more}
 
 -- scored words in front of those that are left
 abbrev pub beforeAll : List ℤ → List ℕ → Ran → Ran
@@ -68,6 +68,10 @@ module _ (S : Store) (in-probability : (l : List ℕ) → inProbability (probabi
 
 -- ---- the loop
 
+-- the total of i words is no larger than so many words can make it
+abbrev pub SmallTotal : ℕ → ℤ → Type 0
+SmallTotal i total = natAbs total ≤ i * (orderLimit * largestBackoff)
+
 -- the words before the i-th are scored: `points` and `lengths` are the slices now, `carried` and `total` what they leave
 pub record Running (S : Store) (s : Carried) (ws : List ℕ) (points₀ : List ℤ) (lengths₀ : List ℕ) (carried : Carried) (total : ℤ) (i : ℕ) (points : List ℤ) (lengths : List ℕ) : Type 0 where
   pub at : i ≤ length ws
@@ -77,7 +81,7 @@ pub record Running (S : Store) (s : Carried) (ws : List ℕ) (points₀ : List �
   pub points-long : length points ≡ length points₀
   pub lengths-long : length lengths ≡ length lengths₀
   pub total-is : total ≡ sum (take i points)
-  pub total-small : natAbs total ≤ i * (orderLimit * largestBackoff)
+  pub total-small : SmallTotal i total
 
 module _ (S : Store) (s : Carried) (ws : List ℕ) (points₀ : List ℤ) (lengths₀ : List ℕ) where
   pub running-begins : (carried : Carried) → carried ≡ s → Running S s ws points₀ lengths₀ carried (pos 0) 0 points₀ lengths₀

@@ -14,7 +14,7 @@ use Rattle.backoff.specs.Store.{runOutcome}
 use Rattle.backoff.proofs.Sizes.{total-size}
 use Rattle.double_array.specs.DoubleArray.{isArray, storeIn, opened}
 use Rattle.double_array.proofs.DoubleArray.{opened-some, opened-none, opened-order}
-use Rattle.score.proofs.Rows.{rows-in-probability, rows-in-backoff}
+use Rattle.word_step.proofs.Rows.{rows-in-probability, rows-in-backoff}
 
 -- no run's total gets further from 0
 abbrev pub runTotal : ℕ

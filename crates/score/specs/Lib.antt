@@ -1,5 +1,4 @@
 -- What must be believed of start and run, and what the inner functions are held to.
 pub mod Answers
-pub mod Closing
 pub mod Meaning
 pub mod Inner

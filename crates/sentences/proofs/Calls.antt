@@ -25,17 +25,18 @@ use Rattle.backoff.proofs.Sizes.{total-size}
 use Rattle.backoff.proofs.Store.{modelRan, runOver-cases}
 use Rattle.double_array.specs.DoubleArray.{isArray, orderIn, storeIn, opened}
 use Rattle.double_array.proofs.DoubleArray.{opened-some, opened-order}
-use Rattle.score.specs.declared.State.{State}
+use Rattle.carried_state.specs.declared.State.{State}
+use Rattle.carried_state.specs.Numbers.{numbersOf}
+use Rattle.carried_state.proofs.Carried.{zeros-ok, zeros-empty}
+use Rattle.word_step.specs.Rows.{arrayModel}
+use Rattle.word_step.proofs.Rows.{rows-in-probability, rows-in-backoff, rows-in-words}
 use Rattle.score.specs.declared.Ran.{Ran as Sum}
-use Rattle.score.specs.declared.Closed.{Closed}
-use Rattle.score.specs.declared.Closed.the-variants.{Points, Refused}
-use Rattle.score.specs.Answers.{numbersOf, Summed, summedOf, summed}
-use Rattle.score.specs.Closing.{plus, pointsOver}
-use Rattle.score.specs.Meaning.{rowsIn}
-use Rattle.score.proofs.Carried.{zeros-ok, zeros-empty}
-use Rattle.score.proofs.Rows.{rows-in-probability, rows-in-backoff, rows-in-words}
 use Rattle.score.proofs.Outcomes.{start-steps, start-means}
-use Rattle.score.proofs.Closing.{closedOf, closed-is-run, closed-behind, none-behind}
+use Rattle.sums.specs.declared.Closed.{Closed}
+use Rattle.sums.specs.declared.Closed.the-variants.{Points, Refused}
+use Rattle.sums.specs.Sums.{Summed, summedOf, summed}
+use Rattle.sums.specs.Closing.{plus, pointsOver}
+use Rattle.sums.proofs.Closing.{closedOf, closed-is-run, closed-behind, none-behind}
 use Rattle.sentences.specs.Listing.{begun, closedRun, runFromStart, runsThrough, closed, sentenceTotal, isScored}
 use Rattle.sentences.specs.Inner.{Begins}
 
@@ -73,7 +74,7 @@ module _ (base check : List ℤ) (state : State) (b : Begins base check state) w
   S = storeIn base check
 
   abbrev M : Model
-  M = rowsIn base check
+  M = arrayModel base check
 
   abbrev l : List ℤ
   l = numbersOf state
@@ -88,17 +89,13 @@ module _ (base check : List ℤ) (state : State) (b : Begins base check state) w
   -- start's state is that of a run over the word 2 from nothing, so that check 16 lets it pass
   start-is : l ≡ nine (runEnd M (stateIn nineZeros) (startWord ∷ []))
   unfolding runEnd stepNext start
-  start-is = b .numbers ∙ start-means base check nineZeros refl .accepted (b .started) ∙ ap (λ (s : Carried). nine (stepNext M s startWord)) (sym zeros-empty)
+  start-is = b .numbers ∙ start-means base check nineZeros .accepted (b .started) ∙ ap (λ (s : Carried). nine (stepNext M s startWord)) (sym zeros-empty)
 
   pub nine-long : length l ≡ 9
   nine-long = ap length start-is ∙ length-nine (runEnd M (stateIn nineZeros) (startWord ∷ []))
 
   pub model-ok : stateOk (M .order) l ≡ true
   model-ok = ap (stateOk (M .order)) start-is ∙ runEnd-ok M (rows-in-backoff base check) (rows-in-words base check) order-high nineZeros refl (zeros-ok (M .order)) (startWord ∷ [])
-
-  pub start-ok : stateOk (orderIn check) l ≡ true
-  unfolding modelIn storeIn
-  start-ok = model-ok
 
   -- start's own step
   start-steps-to : (A : Type 0) → ((x : ℤ) (y : ℕ) (t : Carried) → wordStep S empty startWord ≡ scored x y t → A) → A

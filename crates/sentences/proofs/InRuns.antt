@@ -21,14 +21,14 @@ use Rattle.backoff.specs.Store.{Store, Started, Ran, ran, refusedAt, runOver, b
 use Rattle.backoff.proofs.NineNumbers.{length-nine, runEnd-ok, stateIn-runEnd}
 use Rattle.backoff.proofs.Store.{modelRan, runOver-cases}
 use Rattle.double_array.specs.DoubleArray.{isArray, storeIn, opened}
-use Rattle.score.specs.declared.State.{State}
-use Rattle.score.specs.Answers.{numbersOf, stateFrom}
-use Rattle.score.specs.Closing.{plus}
-use Rattle.score.specs.Meaning.{rowsIn}
-use Rattle.score.proofs.Carried.{numbers-stateFrom}
-use Rattle.score.proofs.Rows.{rows-in-backoff, rows-in-words}
+use Rattle.carried_state.specs.declared.State.{State}
+use Rattle.carried_state.specs.Numbers.{numbersOf, stateFrom}
+use Rattle.carried_state.proofs.Carried.{numbers-stateFrom}
+use Rattle.word_step.specs.Rows.{arrayModel}
+use Rattle.word_step.proofs.Rows.{rows-in-backoff, rows-in-words}
 use Rattle.score.proofs.Outcomes.{start-refused, start-means}
-use Rattle.score.proofs.Closing.{closedOf, closed-behind, none-behind}
+use Rattle.sums.specs.Closing.{plus}
+use Rattle.sums.proofs.Closing.{closedOf, closed-behind, none-behind}
 use Rattle.sentences.specs.Listing.{begun, closedRun, runsThrough, closed, sentenceTotal, isScored}
 use Rattle.sentences.specs.Meaning.{wordsRun, threeRun, InRuns}
 use Rattle.sentences.specs.Inner.{Begins}
@@ -42,7 +42,7 @@ module _ (base check : List ℤ) (state : State) (b : Begins base check state) (
   S = storeIn base check
 
   abbrev M : Model
-  M = rowsIn base check
+  M = arrayModel base check
 
   abbrev l : List ℤ
   l = numbersOf state
@@ -137,14 +137,10 @@ module _ (base check : List ℤ) (s : List ℕ) (short : length s ≤ sentenceLi
   unbegun e = record { scored = rw e; total = λ q. absurd (false≢true (rw e at q)) }
 
   begins : first .number ≡ 0 → Begins base check (stateFrom (first .state))
-  begins z = record {
-    array = go (isArray base check) refl;
-    started = z;
-    numbers = numbers-stateFrom (first .state) (ap length (start-means base check nineZeros refl .accepted z) ∙ length-nine _);
-  }
+  begins z = go (isArray base check) refl
     where
-      go : (t : Bool) → isArray base check ≡ t → isArray base check ≡ true
-      go true e = e
+      go : (t : Bool) → isArray base check ≡ t → Begins base check (stateFrom (first .state))
+      go true e = record { array = e; started = z; numbers = numbers-stateFrom (first .state) (ap length (start-means base check nineZeros .accepted z) ∙ length-nine _) }
       go false e = let q : arrayHead ≡ 0 = sym (ap (λ (x : Started). x .number) (start-refused base check e)) ∙ z in absurd (omega arith)
 
   pub total-in-runs : InRuns (opened base check) s

@@ -3,7 +3,7 @@ use mathlib.Core.Path.{_≡_, refl, sym, ap, _∙_}
 use mathlib.Core.Logic.{_⊎_, inl, inr}
 use mathlib.Core.Bool.{Bool, true, false, _&&_, _||_, false≢true}
 use mathlib.Core.List.{List, [], _∷_, _++_}
-use Prim.Native.Nat.{ℕ, zero, suc, _+_, _*_, _-_, _/_, _%_, _^_, _≤_, _<_}
+use Prim.Native.Nat.{ℕ, zero, suc, _+_, _*_, _/_, _%_, _^_, _≤_, _<_}
 use native.Mathlib.Nat.{pow-zero, pow-suc, mod-lt, le-div-iff-mul-le, div-mul-le-self, div-add-mod', div-lt-iff-lt-mul, mul-add-div-right, mul-add-mod-self-right, div-eq-of-lt, mod-eq-of-lt, mul-le-mul-right}
 use native.Mathlib.Decide.{ℕ-discrete}
 use native.Mathlib.Omega.{arith}
@@ -15,7 +15,7 @@ use Rattle.integer.proofs.Ranges.{lt-or-ge}
 use Rattle.backoff.specs.Limits.{wordLimit}
 use Rattle.backoff.specs.Store.{Store}
 use Rattle.sentences.specs.Sentences.{usable, usableWords, sentencesOf}
-use Rattle.sentences.specs.Meaning.{precedes, ListsAll}
+use Rattle.sentences.specs.Meaning.{precedes, Ascending, ListsAll}
 use Rattle.sentences.specs.Inner.{sentenceAt}
 use Rattle.sentences.proofs.Passing.{Among, passing-each, passing-every, passing-ascends}
 use Rattle.sentences.proofs.Sentences.{some-word, length-sentences, sentence-nth, length-sentenceAt}
@@ -130,7 +130,7 @@ module _ (S : Store) (k : ℕ) where
   unfolding usableWords
   usable-ascends = passing-ascends (usable S) wordLimit
 
-  climbs : (i j : ℕ) → i < j → j < length ss → precedes (getD ss i []) (getD ss j []) ≡ true
+  climbs : Ascending ss
   climbs i j l h = rw (sentence-nth us k i (omega (arith, inside j h)), sentence-nth us k j (inside j h)) (ascending us usable-ascends k i j l (inside j h))
 
   -- "each once"

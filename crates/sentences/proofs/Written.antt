@@ -17,7 +17,7 @@ use Rattle.backoff.specs.Runs.{flat}
 use Rattle.backoff.specs.Store.{Store}
 use Rattle.backoff.proofs.Runs.{flat-append}
 use Rattle.backoff.proofs.Slices.{length-written}
-use Rattle.score.proofs.Written.{drop-more}
+use Rattle.word_step.proofs.Written.{drop-more}
 use Rattle.sentences.specs.Listing.{sentenceTotal, isScored, allScored}
 use Rattle.sentences.specs.Inner.{AllWritten, Past, OneRefused}
 

@@ -13,8 +13,8 @@ use Rattle.backoff.specs.Store.{Store}
 use Rattle.double_array.specs.declared.Child.{Child}
 use Rattle.double_array.specs.declared.Child.the-variants.{At, Nothing}
 use Rattle.double_array.specs.DoubleArray.{rootChild, isArray, opened}
-use Rattle.score.specs.declared.State.{State}
-use Rattle.score.specs.Answers.{numbersOf}
+use Rattle.carried_state.specs.declared.State.{State}
+use Rattle.carried_state.specs.Numbers.{numbersOf}
 use Rattle.sentences.specs.declared.Usable.{Usable}
 use Rattle.sentences.specs.Sentences.{isOther}
 use Rattle.sentences.specs.Listing.{begun, sentenceTotal, allScored}

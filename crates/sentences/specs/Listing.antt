@@ -73,15 +73,6 @@ pub record Outcome : Type 0 where
 abbrev pub refusedListing : ℕ → Listing
 refusedListing number = record { number = number; place = 0; sentences = 0 }
 
--- "Words go to one slice, totals to a second, and the sentence count is returned"
-unfoldable pub fullListing : Option Store → List (List ℕ) → List ℕ → List ℤ → Outcome
-fullListing o ss words totals =
-    record {
-      listing = record { number = 0; place = 0; sentences = length ss };
-      words = written (flat ss) words;
-      totals = written (map (sentenceTotal o) ss) totals;
-    }
-
 -- "12, with 0, comes last where a sentence meets it and leaves the listing's items 0"
 unfoldable pub brokenListing : List (List ℕ) → List ℕ → List ℤ → Outcome
 brokenListing ss words totals =
@@ -91,20 +82,32 @@ brokenListing ss words totals =
       totals = written (replicate (length ss) (pos 0)) totals;
     }
 
-unfoldable pub listed : Option Store → List (List ℕ) → List ℕ → List ℤ → Outcome
-listed o ss words totals = cond (allScored o ss) (fullListing o ss words totals) (brokenListing ss words totals)
+-- the listing of the sentences ss in these two slices
+module _ (o : Option Store) (ss : List (List ℕ)) (words : List ℕ) (totals : List ℤ) where
+  -- "Words go to one slice, totals to a second, and the sentence count is returned"
+  unfoldable pub fullListing : Outcome
+  fullListing =
+      record {
+        listing = record { number = 0; place = 0; sentences = length ss };
+        words = written (flat ss) words;
+        totals = written (map (sentenceTotal o) ss) totals;
+      }
+
+  unfoldable pub listed : Outcome
+  listed = cond (allScored o ss) fullListing (brokenListing ss words totals)
 
 -- the usable words of the array that is lent, none where 11 refuses it, and the sentences of k of them
 abbrev pub usableOver : Option Store → List ℕ
 usableOver none = []
 usableOver (some S) = usableWords S
 
-abbrev pub sentencesOver : Option Store → ℕ → List (List ℕ)
-sentencesOver o k = sentencesOf k (usableOver o)
+module _ (o : Option Store) (k : ℕ) where
+  abbrev pub sentencesOver : List (List ℕ)
+  sentencesOver = sentencesOf k (usableOver o)
 
--- the listing; 22 and 15 come "both writing nothing"
-unfoldable pub listingOutcome : Option Store → ℕ → List ℕ → List ℤ → Outcome
-listingOutcome o k words totals =
-    cond (eqb (earlyRefusal o k (length words) (length totals)) 0)
-    (listed o (sentencesOver o k) words totals)
-    (record { listing = refusedListing (earlyRefusal o k (length words) (length totals)); words = words; totals = totals })
+  -- the listing; 22 and 15 come "both writing nothing"
+  unfoldable pub listingOutcome : List ℕ → List ℤ → Outcome
+  listingOutcome words totals =
+      cond (eqb (earlyRefusal o k (length words) (length totals)) 0)
+      (listed o sentencesOver words totals)
+      (record { listing = refusedListing (earlyRefusal o k (length words) (length totals)); words = words; totals = totals })

@@ -1,5 +1,7 @@
--- What a listing means: every sentence of k usable words, each once and ascending, with its total. Assumes nothing.
+-- What a listing means: every sentence of k usable words, each once and ascending, with its total; and when each number is returned. The sentences quoted
+-- are those of document 02, T-12. Assumes nothing.
 use mathlib.Core.Path.{_≡_}
+use mathlib.Core.Logic.{_⊎_}
 use mathlib.Core.Bool.{Bool, true, false, _&&_, _||_}
 use mathlib.Core.List.{List, [], _∷_}
 use mathlib.Core.Option.{Option, some}
@@ -7,11 +9,14 @@ use Prim.Native.Nat.{ℕ, _*_, _^_, _≤_, _<_}
 use lib.Dec.{eqb, ltb}
 use lib.ListN.{length, take, drop, getD}
 use lib.IntN.{ℤ, pos, _+ℤ_}
-use Rattle.backoff.specs.Limits.{wordLimit, endWord}
-use Rattle.backoff.specs.Refusal.{brokenNode}
+use Rattle.backoff.specs.Limits.{wordLimit, endWord, sentenceLimit, usableLimit}
+use Rattle.backoff.specs.Refusal.{arrayHead, brokenNode, shortSlice, listingSize}
+use Rattle.backoff.specs.FirstMet.{Line, _when_, FirstMet}
 use Rattle.backoff.specs.Run.{Answer}
 use Rattle.backoff.specs.Store.{Store, runOutcome}
-use Rattle.sentences.specs.Sentences.{usable}
+use Rattle.double_array.specs.DoubleArray.{isArray, storeIn, opened}
+use Rattle.score.specs.Meaning.{StuckSentence}
+use Rattle.sentences.specs.Sentences.{usable, usableWords}
 use Rattle.sentences.specs.Listing.{Outcome, begun, closedRun, isScored, sentenceTotal, usableOver, sentencesOver}
 
 -- "ascending order, the first word weighing most": at the first place where the two differ the word of the first is the smaller
@@ -26,11 +31,15 @@ pub record IsSentence (S : Store) (k : ℕ) (s : List ℕ) : Type 0 where
   pub size : length s ≡ k
   pub words : (j : ℕ) → j < k → (1 ≤ getD s j 0) × ((getD s j 0 ≤ wordLimit) × (usable S (getD s j 0) ≡ true))
 
+-- "Sentences come in ascending order"
+abbrev pub Ascending : List (List ℕ) → Type 0
+Ascending ss = (i j : ℕ) → i < j → j < length ss → precedes (getD ss i []) (getD ss j []) ≡ true
+
 -- "every sentence of k words .. Sentences come in ascending order, the first word weighing most, each once."
 pub record ListsAll (S : Store) (k : ℕ) (ss : List (List ℕ)) : Type 0 where
   pub sentences : (i : ℕ) → i < length ss → IsSentence S k (getD ss i [])
   pub every : (s : List ℕ) → IsSentence S k s → (i : ℕ) × ((i < length ss) × (getD ss i [] ≡ s))
-  pub ascending : (i j : ℕ) → i < j → j < length ss → precedes (getD ss i []) (getD ss j []) ≡ true
+  pub ascending : Ascending ss
   pub once : (i j : ℕ) → i < length ss → j < length ss → getD ss i [] ≡ getD ss j [] → i ≡ j
 
 -- the same by start, a run over the sentence's words and a run of the 3 behind it
@@ -58,11 +67,27 @@ pub record Listed (S : Store) (k : ℕ) (words : List ℕ) (totals : List ℤ) (
   pub words-past : drop (k * r .listing .sentences) (r .words) ≡ drop (k * r .listing .sentences) words
   pub totals-past : drop (r .listing .sentences) (r .totals) ≡ drop (r .listing .sentences) totals
 
-pub record ListingMeans (o : Option Store) (k : ℕ) (words : List ℕ) (totals : List ℤ) (r : Outcome) : Type 0 where
+-- how many usable words the array has
+abbrev pub usableIn : List ℤ → List ℤ → ℕ
+usableIn base check = length (usableWords (storeIn base check))
+
+-- "22, with 0, for k outside 1 to 4 or more than 16 such words, tried after 11; a short slice gives 15 after it", and "12, with 0, comes last where a sentence
+-- meets it"
+abbrev pub listingRefusals : List ℤ → List ℤ → ℕ → List ℕ → List ℤ → List Line
+listingRefusals base check k words totals =
+    arrayHead when (isArray base check ≡ false)
+    ∷ listingSize when ((k < 1) ⊎ ((sentenceLimit < k) ⊎ (usableLimit < usableIn base check)))
+    ∷ shortSlice when ((length words < k * usableIn base check ^ k) ⊎ (length totals < usableIn base check ^ k))
+    ∷ brokenNode when ((s : List ℕ) × IsSentence (storeIn base check) k s × StuckSentence (storeIn base check) s)
+    ∷ []
+
+-- What was returned, with both slices as they are after the call.
+pub record ListingMeans (base check : List ℤ) (k : ℕ) (words : List ℕ) (totals : List ℤ) (r : Outcome) : Type 0 where
+  pub verdict : FirstMet (listingRefusals base check k words totals) (r .listing .number) (r .listing .place)
   pub place : r .listing .place ≡ 0
-  pub accepted : r .listing .number ≡ 0 → (S : Store) × ((o ≡ some S) × Listed S k words totals r)
+  pub accepted : r .listing .number ≡ 0 → (S : Store) × ((opened base check ≡ some S) × Listed S k words totals r)
   pub refused : (r .listing .number ≡ 0 → ⊥) → r .listing .sentences ≡ 0
   -- but for 12, a refusal writes nothing
   pub untouched : (r .listing .number ≡ 0 → ⊥) → (r .listing .number ≡ brokenNode → ⊥) → (r .words ≡ words) × (r .totals ≡ totals)
   -- 12 is met by some sentence of the listing
-  pub broken : r .listing .number ≡ brokenNode → (i : ℕ) × ((i < length (sentencesOver o k)) × (isScored o (getD (sentencesOver o k) i []) ≡ false))
+  pub broken : r .listing .number ≡ brokenNode → (i : ℕ) × ((i < length (sentencesOver (opened base check) k)) × (isScored (opened base check) (getD (sentencesOver (opened base check) k) i []) ≡ false))

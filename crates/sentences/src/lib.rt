@@ -1,7 +1,7 @@
 // All small sentences: every sentence of k words over the usable words of a lent array, with its total from `<s>` to the closing 3.
+use carried_state::State;
 use double_array::Child;
-use score::Closed;
-use score::State;
+use sums::Closed;
 ghost use mathlib.Core.Path.{_≡_};
 ghost use mathlib.Core.Bool.{true};
 ghost use mathlib.Core.List.{[], _∷_, _++_};
@@ -160,7 +160,7 @@ fn write_group(
     let order = double_array::order_of(check);
     let shared = k - 1;
     let first = nth_sentence(usable, count, shared, g);
-    let before = score::sum_words(base, check, order, state, &first[..shared]);
+    let before = sums::sum_words(base, check, order, state, &first[..shared]);
     if before.number != 0 {
         return false;
     }
@@ -168,7 +168,7 @@ fn write_group(
     let mut j = 0;
     while j < count {
         let last = usable[j];
-        let closed = score::sum_closed(base, check, order, end, last);
+        let closed = sums::sum_closed(base, check, order, end, last);
         let Closed::Points(points) = closed else {
             return false;
         };
@@ -332,7 +332,7 @@ pub fn list_sentences(
     totals: &mut [i64],
 ) -> Listing
     ensures outcome { λ r. ⌜ record { listing = r; words = now (words .exit); totals = now (totals .exit) } ≡ listingOutcome (opened (now (base .entry)) (now (check .entry))) k (now (words .entry)) (now (totals .entry)) ⌝ }
-    ensures meaning { λ r. ⌜ ListingMeans (opened (now (base .entry)) (now (check .entry))) k (now (words .entry)) (now (totals .entry)) (record { listing = r; words = now (words .exit); totals = now (totals .exit) }) ⌝ }
+    ensures meaning { λ r. ⌜ ListingMeans (now (base .entry)) (now (check .entry)) k (now (words .entry)) (now (totals .entry)) (record { listing = r; words = now (words .exit); totals = now (totals .exit) }) ⌝ }
 {
     let counted = list_counted(base, check, k, words, totals);
     let listing = counted.listing;

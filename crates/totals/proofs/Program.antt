@@ -17,7 +17,7 @@ use Rattle.backoff.specs.Refusal.{textLine}
 use Rattle.backoff.specs.Model.{Model}
 use Rattle.backoff.specs.Runs.{flat}
 use Rattle.backoff.specs.declared.Verdict.the-variants.{Refused}
-use Rattle.score.specs.Meaning.{rowsIn}
+use Rattle.word_step.specs.Rows.{arrayModel}
 use Rattle.totals_text.specs.Lines.{listWidth, isListLine, listRow, refusedLine}
 use Rattle.totals.specs.declared.Progress.{Progress}
 use Rattle.totals.specs.Totals.{Line, ended, unended, longer, linesOf, ListText, rows, notInForm, behind, readList, built, textOutput, totalsOutput}
@@ -177,7 +177,7 @@ module _ (n : ℕ) (enough : enoughBytes ≤ n) (list : List ℕ) where
   prints-refused text table number place e b = rw (whole e, b) refl
 
   -- the totals, whatever the pieces in which TEXT was read
-  pub prints-totals : (base check : List ℤ) (H : HoldsBuilt base check) {p : Progress} {line : List ℕ} {pieces : List (List ℕ)} {text : List ℕ} → readList 1 (linesOf (take n list)) ≡ rows (H .table) → p .number ≡ 1 → p .count ≡ 0 → InPieces (rowsIn base check) p line pieces text → totalsOutput list (flat pieces) ≡ text
+  pub prints-totals : (base check : List ℤ) (H : HoldsBuilt base check) {p : Progress} {line : List ℕ} {pieces : List (List ℕ)} {text : List ℕ} → readList 1 (linesOf (take n list)) ≡ rows (H .table) → p .number ≡ 1 → p .count ≡ 0 → InPieces (arrayModel base check) p line pieces text → totalsOutput list (flat pieces) ≡ text
   unfolding totalsOutput
   prints-totals base check H {pieces = pieces} e one none P =
       rw (whole e, H .accepted) (ap (λ (M : Model). textOutput M 1 (linesOf (flat pieces))) (sym (rows-are base check H)) ∙ rw (one, none) at (in-pieces-is P))

@@ -28,7 +28,7 @@ use Rattle.list.proofs.ListModel.{accepted-model}
 use Rattle.double_array.specs.DoubleArray.{storeIn, opened}
 use Rattle.double_array.proofs.DoubleArray.{opened-some}
 use Rattle.build.proofs.Built.{HoldsList, build-accepted, build-holds}
-use Rattle.score.specs.Meaning.{rowsIn}
+use Rattle.word_step.specs.Rows.{arrayModel}
 use Rattle.totals.specs.Totals.{unknownIn}
 use Rattle.totals.specs.Steps.{countUnknown, HoldsBuilt, Ready}
 
@@ -74,7 +74,7 @@ module _ (base check : List ℤ) (H : HoldsBuilt base check) where
   S = storeIn base check
 
   abbrev M : Model
-  M = rowsIn base check
+  M = arrayModel base check
 
   holds : HoldsList (H .table) base check
   holds = rw (H .base-is, H .check-is) (build-holds (H .table) _ _ _ (H .accepted))
@@ -116,13 +116,13 @@ module _ (base check : List ℤ) (H : HoldsBuilt base check) where
 
 -- the same of an answer that is the run's from start's state
 module _ {base check state : List ℤ} (R : Ready base check state) (r : Run) (few : length (r .words) ≤ 65) (points : length (r .points) ≡ 65) (lengths : length (r .lengths) ≡ 65) {a : Answer (List ℤ)} (e : a ≡ runOutcome (opened base check) state r) where
-  from-start : a ≡ runOutcome (opened base check) (nine (start (rowsIn base check))) r
+  from-start : a ≡ runOutcome (opened base check) (nine (start (arrayModel base check))) r
   from-start = e ∙ ap (λ (l : List ℤ). runOutcome (opened base check) l r) (R .state-is)
 
-  pub scored-total : a .total ≡ sum (rulePoints (rowsIn base check) (startWord ∷ []) (r .words))
+  pub scored-total : a .total ≡ sum (rulePoints (arrayModel base check) (startWord ∷ []) (r .words))
   scored-total = ap (λ (b : Answer (List ℤ)). b .total) from-start ∙ run-total base check (R .holds) r few points lengths
 
-  pub scored-unknown : (k : ℕ) → k ≤ length (r .words) → countUnknown (take k (a .lengths)) ≡ unknownIn (rowsIn base check) (take k (r .words))
+  pub scored-unknown : (k : ℕ) → k ≤ length (r .words) → countUnknown (take k (a .lengths)) ≡ unknownIn (arrayModel base check) (take k (r .words))
   scored-unknown k h = ap (λ (b : Answer (List ℤ)). countUnknown (take k (b .lengths))) from-start ∙ run-unknown base check (R .holds) r few points lengths k h
 
 pub short-take : {A : Type 0} (n : ℕ) (l : List A) → n ≤ 64 → length (take n l) ≤ 64

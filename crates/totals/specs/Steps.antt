@@ -13,7 +13,7 @@ use Rattle.backoff.specs.Model.{Model}
 use Rattle.backoff.specs.State.{start}
 use Rattle.backoff.specs.NineNumbers.{nine}
 use Rattle.backoff.specs.declared.Verdict.the-variants.{Accepted}
-use Rattle.score.specs.Meaning.{rowsIn}
+use Rattle.word_step.specs.Rows.{arrayModel}
 use Rattle.totals_text.specs.Lines.{isTextLine, textWords, refusedLine}
 use Rattle.totals.specs.declared.ListText.{ListText}
 use Rattle.totals.specs.declared.ListText.the-variants.{Rows, NotInForm}
@@ -49,7 +49,7 @@ pub record HoldsBuilt (base check : List ℤ) : Type 0 where
 -- and start's state over them
 pub record Ready (base check state : List ℤ) : Type 0 where
   pub holds : HoldsBuilt base check
-  pub state-is : state ≡ nine (start (rowsIn base check))
+  pub state-is : state ≡ nine (start (arrayModel base check))
 
 -- what a line of TEXT prints
 unfoldable pub lineOutput : Model → ℕ → List ℕ → List ℕ

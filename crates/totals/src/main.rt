@@ -1,7 +1,7 @@
 // The totals program of document 01: it builds the double array of the rows in LIST, and prints a line for each sentence of TEXT.
 use backoff::Verdict;
+use carried_state::State;
 use libc::STDOUT_FILENO;
-use score::State;
 use totals_text::TextLine;
 ghost use mathlib.Core.Path.{_≡_};
 ghost use mathlib.Core.Bool.{true, cond};
@@ -15,8 +15,8 @@ ghost use Rattle.backoff.specs.Refusal.{textLine};
 ghost use Rattle.backoff.specs.Rule.{rulePoints};
 ghost use Rattle.backoff.specs.Run.{written};
 ghost use Rattle.io.specs.Counts.{Counts};
-ghost use Rattle.score.specs.Answers.{numbersOf};
-ghost use Rattle.score.specs.Meaning.{rowsIn};
+ghost use Rattle.carried_state.specs.Numbers.{numbersOf};
+ghost use Rattle.word_step.specs.Rows.{arrayModel};
 ghost use Rattle.totals_text.specs.Lines.{isListLine, listRow, isTextLine, textAnswer, sentenceLine, refusedLine};
 ghost use Rattle.totals.specs.Totals.{unknownIn};
 ghost use Rattle.totals.specs.Steps.{ReadAs, Closed, countUnknown, HoldsBuilt, Ready, lineOutput, PrintedAs, Begun, Fed, finished};
@@ -155,9 +155,9 @@ fn score_sentence(
 ) -> usize
     requires { ⌜ Ready (now base) (now check) (numbersOf start) ⌝ }
     requires { ⌜ (1 ≤ length (now words)) × (length (now words) ≤ 65) ⌝ }
-    ensures length { λ r. ⌜ r ≡ length (sentenceLine number n (unknownIn (rowsIn (now (base .entry)) (now (check .entry))) (take (length (now (words .entry)) - 1) (now (words .entry)))) (sum (rulePoints (rowsIn (now (base .entry)) (now (check .entry))) (startWord ∷ []) (now (words .entry))))) ⌝ }
+    ensures length { λ r. ⌜ r ≡ length (sentenceLine number n (unknownIn (arrayModel (now (base .entry)) (now (check .entry))) (take (length (now (words .entry)) - 1) (now (words .entry)))) (sum (rulePoints (arrayModel (now (base .entry)) (now (check .entry))) (startWord ∷ []) (now (words .entry))))) ⌝ }
     ensures room { λ r. ⌜ r ≤ 64 ⌝ }
-    ensures text { λ _. ⌜ now (out .exit) ≡ written (sentenceLine number n (unknownIn (rowsIn (now (base .entry)) (now (check .entry))) (take (length (now (words .entry)) - 1) (now (words .entry)))) (sum (rulePoints (rowsIn (now (base .entry)) (now (check .entry))) (startWord ∷ []) (now (words .entry))))) (now (out .entry)) ⌝ }
+    ensures text { λ _. ⌜ now (out .exit) ≡ written (sentenceLine number n (unknownIn (arrayModel (now (base .entry)) (now (check .entry))) (take (length (now (words .entry)) - 1) (now (words .entry)))) (sum (rulePoints (arrayModel (now (base .entry)) (now (check .entry))) (startWord ∷ []) (now (words .entry))))) (now (out .entry)) ⌝ }
 {
     let mut points = [0i32; 65];
     let mut lengths = [0u8; 65];
@@ -178,9 +178,9 @@ fn print_sentence(
 ) -> Printed
     requires { ⌜ Ready (now base) (now check) (numbersOf start) ⌝ }
     ensures accepted { λ r. ⌜ r .accepted ≡ isTextLine (now (line .entry)) ⌝ }
-    ensures length { λ r. ⌜ r .length ≡ length (lineOutput (rowsIn (now (base .entry)) (now (check .entry))) number (now (line .entry))) ⌝ }
+    ensures length { λ r. ⌜ r .length ≡ length (lineOutput (arrayModel (now (base .entry)) (now (check .entry))) number (now (line .entry))) ⌝ }
     ensures room { λ r. ⌜ r .length ≤ 64 ⌝ }
-    ensures text { λ r. ⌜ now (out .exit) ≡ written (lineOutput (rowsIn (now (base .entry)) (now (check .entry))) number (now (line .entry))) (now (out .entry)) ⌝ }
+    ensures text { λ r. ⌜ now (out .exit) ≡ written (lineOutput (arrayModel (now (base .entry)) (now (check .entry))) number (now (line .entry))) (now (out .entry)) ⌝ }
 {
     let sentence = read_sentence(line);
     let read = sentence.read;
@@ -237,7 +237,7 @@ fn append_sentence(
 ) -> Printed
     requires { ⌜ Ready (now base) (now check) (numbersOf start) ⌝ }
     requires { ⌜ at + 64 ≤ length (now out) ⌝ }
-    ensures text { λ r. ⌜ PrintedAs (rowsIn (now (base .entry)) (now (check .entry))) number (now (line .entry)) r (take at (now (out .entry))) (at + r .length) (now (out .exit)) ⌝ }
+    ensures text { λ r. ⌜ PrintedAs (arrayModel (now (base .entry)) (now (check .entry))) number (now (line .entry)) r (take at (now (out .entry))) (at + r .length) (now (out .exit)) ⌝ }
 {
     let mut text = [0u8; 64];
     let printed = print_sentence(base, check, start, number, line, &mut text);
@@ -272,7 +272,7 @@ fn feed(
     requires { ⌜ (length (now piece) ≤ 1024) × (progress .number + length (now piece) < 2 ^ 64) ⌝ }
     requires { ⌜ length (now out) ≡ 65536 ⌝ }
     ensures room { λ r. ⌜ Counts (r .written) (now (out .exit)) ⌝ }
-    ensures text { λ r. ⌜ Fed (rowsIn (now (base .entry)) (now (check .entry))) (now (piece .entry)) progress (now (line .entry)) r (now (line .exit)) (take (r .written) (now (out .exit))) ⌝ }
+    ensures text { λ r. ⌜ Fed (arrayModel (now (base .entry)) (now (check .entry))) (now (piece .entry)) progress (now (line .entry)) r (now (line .exit)) (take (r .written) (now (out .exit))) ⌝ }
 {
     let mut number = progress.number;
     let mut count = progress.count;

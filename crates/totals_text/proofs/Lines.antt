@@ -21,7 +21,7 @@ use Rattle.totals_text.specs.declared.Column.{Column}
 use Rattle.totals_text.specs.declared.Column.the-variants.{Number, NotInForm}
 use Rattle.totals_text.specs.declared.TextLine.the-variants.{Words, NotInForm as NoWords}
 use Rattle.totals_text.specs.Columns.{digits, signed, numeral, justified, column, leastNumber, Held, readColumn}
-use Rattle.totals_text.specs.Lines.{listWidth, textWidth, columns, inForm, allInForm, numberOf, wordOf, isListLine, listRow, isTextLine, textWords, textAnswer, lineOf, AllHeld, ListForm, ListLineMeans, TextForm, TextLineMeans, refusedWord, countColumns, sentenceLine, refusedLine}
+use Rattle.totals_text.specs.Lines.{listWidth, textWidth, columns, inForm, allInForm, columnValue, wordOf, isListLine, listRow, isTextLine, textWords, textAnswer, lineOf, AllHeld, ListForm, ListLineMeans, TextForm, TextLineMeans, refusedWord, countColumns, sentenceLine, refusedLine}
 use Rattle.totals_text.proofs.Digits.{digits-le}
 use Rattle.totals_text.proofs.Columns.{length-justified, read-column-printed, printed-read}
 
@@ -68,14 +68,14 @@ sets-whole old new h = sets-written old new (omega arith) ∙ rw (drop-of-length
 
 -- ---- the word of a column
 
-pub word-negative : (c : Column) → ltZ (numberOf c) (pos 0) ≡ true → wordOf c ≡ 0
-unfolding numberOf wordOf
+pub word-negative : (c : Column) → ltZ (columnValue c) (pos 0) ≡ true → wordOf c ≡ 0
+unfolding columnValue wordOf
 word-negative (Number (pos n)) e = absurd (omega zarith)
 word-negative (Number (negsuc n)) e = refl
 word-negative NotInForm e = refl
 
-pub word-natural : (c : Column) → ltZ (numberOf c) (pos 0) ≡ false → wordOf c ≡ natAbs (numberOf c)
-unfolding numberOf wordOf
+pub word-natural : (c : Column) → ltZ (columnValue c) (pos 0) ≡ false → wordOf c ≡ natAbs (columnValue c)
+unfolding columnValue wordOf
 word-natural (Number (pos n)) e = refl
 word-natural (Number (negsuc n)) e = absurd (omega zarith)
 word-natural NotInForm e = refl
@@ -137,8 +137,8 @@ module _ {A : Type 0} (f : Column → A) (width : ℕ) (line : List ℕ) (count 
 -- ---- a line in form is its numbers printed
 
 -- a column in form holds a number
-in-form-number : (least : ℤ) (c : Column) → inForm least c ≡ true → c ≡ Number (numberOf c)
-unfolding inForm numberOf
+in-form-number : (least : ℤ) (c : Column) → inForm least c ≡ true → c ≡ Number (columnValue c)
+unfolding inForm columnValue
 in-form-number least (Number z) e = refl
 in-form-number least NotInForm e = absurd (false≢true e)
 
@@ -149,32 +149,32 @@ length-columns width (suc count) line = ap suc (length-columns width count (drop
 
 module _ (width : ℕ) (least : ℤ) where
   -- a line whose columns are all in form: the first is a number as it is printed, and the others are in form
-  first-printed : (count : ℕ) (line : List ℕ) → allInForm least (columns width (suc count) line) ≡ true → (take width line ≡ column width (numberOf (readColumn width (take width line)))) × Held width (numberOf (readColumn width (take width line)))
+  first-printed : (count : ℕ) (line : List ℕ) → allInForm least (columns width (suc count) line) ≡ true → (take width line ≡ column width (columnValue (readColumn width (take width line)))) × Held width (columnValue (readColumn width (take width line)))
   unfolding columns allInForm
   first-printed count line e =
       let r = readColumn width (take width line) in
-      printed-read width (take width line) (numberOf r) (in-form-number least r (and-left (inForm least r) (allInForm least (columns width count (drop width line))) e))
+      printed-read width (take width line) (columnValue r) (in-form-number least r (and-left (inForm least r) (allInForm least (columns width count (drop width line))) e))
 
   others-in-form : (count : ℕ) (line : List ℕ) → allInForm least (columns width (suc count) line) ≡ true → allInForm least (columns width count (drop width line)) ≡ true
   unfolding columns allInForm
   others-in-form count line e = and-right (inForm least (readColumn width (take width line))) (allInForm least (columns width count (drop width line))) e
 
-  numbers-printed : (count : ℕ) (line : List ℕ) → length line ≡ width * count → allInForm least (columns width count line) ≡ true → line ≡ lineOf width (map numberOf (columns width count line))
+  numbers-printed : (count : ℕ) (line : List ℕ) → length line ≡ width * count → allInForm least (columns width count line) ≡ true → line ≡ lineOf width (map columnValue (columns width count line))
   unfolding columns lineOf
   numbers-printed zero line h e = drop-of-length-le line {i = 0} (omega arith)
   numbers-printed (suc count) line h e =
       let n : length (drop width line) ≡ width * count = rw length-drop (omega arith) in
       sym (take-append-drop width line) ∙ ap₂ (λ (a b : List ℕ). a ++ b) (first-printed count line e .0) (numbers-printed count (drop width line) n (others-in-form count line e))
 
-  numbers-held : (count : ℕ) (line : List ℕ) → allInForm least (columns width count line) ≡ true → AllHeld width (map numberOf (columns width count line))
+  numbers-held : (count : ℕ) (line : List ℕ) → allInForm least (columns width count line) ≡ true → AllHeld width (map columnValue (columns width count line))
   unfolding columns
   numbers-held zero line e j l = absurd (omega arith)
   numbers-held (suc count) line e zero l = first-printed count line e .1
   numbers-held (suc count) line e (suc j) l = numbers-held count (drop width line) (others-in-form count line e) j (omega arith)
 
 -- numbers that are not negative are words
-words-of : (cs : List Column) → allInForm (pos 0) cs ≡ true → map numberOf cs ≡ map pos (map wordOf cs)
-unfolding allInForm inForm numberOf wordOf
+words-of : (cs : List Column) → allInForm (pos 0) cs ≡ true → map columnValue cs ≡ map pos (map wordOf cs)
+unfolding allInForm inForm columnValue wordOf
 words-of [] e = refl
 words-of (Number (pos n) ∷ cs) e = ap (λ (zs : List ℤ). pos n ∷ zs) (words-of cs (and-right (leZ (pos 0) (pos n)) (allInForm (pos 0) cs) e))
 words-of (Number (negsuc n) ∷ cs) e = absurd (false≢true e)
@@ -212,8 +212,8 @@ unfolding allInForm inForm
 all-words [] = refl
 all-words (w ∷ ws) = and-both (leZ (pos 0) (pos w)) (allInForm (pos 0) (map Number (map pos ws))) (omega zarith) (all-words ws)
 
-numbers-back : (zs : List ℤ) → map numberOf (map Number zs) ≡ zs
-unfolding numberOf
+numbers-back : (zs : List ℤ) → map columnValue (map Number zs) ≡ zs
+unfolding columnValue
 numbers-back [] = refl
 numbers-back (z ∷ zs) = ap (λ (ys : List ℤ). z ∷ ys) (numbers-back zs)
 
@@ -226,7 +226,7 @@ words-back (w ∷ ws) = ap (λ (ys : List ℕ). w ∷ ys) (words-back ws)
 
 pub list-line-length : (line : List ℕ) → length (listRow line) ≡ 8
 unfolding listRow
-list-line-length line = length-map (columns listWidth 8 line) numberOf ∙ length-columns listWidth 8 line
+list-line-length line = length-map (columns listWidth 8 line) columnValue ∙ length-columns listWidth 8 line
 
 list-line-form : (line : List ℕ) → isListLine line ≡ true → ListForm line (listRow line)
 unfolding isListLine listRow
@@ -247,7 +247,7 @@ list-line-read zs n h =
     let k = line-fits listWidth zs h in
     let c : columns listWidth 8 line ≡ map Number zs = ap (λ (m : ℕ). columns listWidth m line) (sym n) ∙ line-columns listWidth zs h in (
       and-both (eqb (length line) (8 * listWidth)) (allInForm leastNumber (columns listWidth 8 line)) (eq-eqb (length line) (8 * listWidth) (omega arith)) (ap (allInForm leastNumber) c ∙ all-numbers listWidth zs h),
-      ap (map numberOf) c ∙ numbers-back zs,
+      ap (map columnValue) c ∙ numbers-back zs,
     )
 
 -- a line not in form is refused, and only such a line

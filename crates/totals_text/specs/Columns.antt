@@ -32,7 +32,7 @@ unfoldable pub numeral : ℤ → List ℕ
 numeral (pos n) = signed false n
 numeral (negsuc n) = signed true (suc n)
 
--- "right-justified, spaces before it". A text wider than its column stands there in full
+-- "right-justified in each, spaces before it"; a text wider than its column stands there in full
 unfoldable pub justified : ℕ → List ℕ → List ℕ
 justified width text = replicate (width - length text) 32 ++ text
 

@@ -35,9 +35,9 @@ allInForm least [] = true
 allInForm least (c ∷ cs) = inForm least c && allInForm least cs
 
 -- the number of a column, 0 where it is not in form
-unfoldable pub numberOf : Column → ℤ
-numberOf (Number z) = z
-numberOf NotInForm = pos 0
+unfoldable pub columnValue : Column → ℤ
+columnValue (Number z) = z
+columnValue NotInForm = pos 0
 
 -- the word of a column, 0 where it is not in form or negative
 unfoldable pub wordOf : Column → ℕ
@@ -50,7 +50,7 @@ unfoldable pub isListLine : List ℕ → Bool
 isListLine line = eqb (length line) (8 * listWidth) && allInForm leastNumber (columns listWidth 8 line)
 
 unfoldable pub listRow : List ℕ → List ℤ
-listRow line = map numberOf (columns listWidth 8 line)
+listRow line = map columnValue (columns listWidth 8 line)
 
 -- "up to 64 words, each in such a column and none negative, an empty line being an empty sentence"
 unfoldable pub isTextLine : List ℕ → Bool

@@ -8,7 +8,7 @@ ghost use lib.ListN.{length, drop, replicate};
 ghost use lib.Seq.{sets};
 ghost use Rattle.backoff.specs.Run.{written};
 ghost use Rattle.totals_text.specs.Columns.{digits, signed, justified, column, mostDigits, withoutSpaces, allDigits, isNatural, valueFrom, ifHeld, readNatural, readNegative, readNumeral, readColumn, ColumnMeans};
-ghost use Rattle.totals_text.specs.Lines.{columns, allInForm, numberOf, wordOf, isListLine, listRow, isTextLine, textWords, textAnswer, ListLineMeans, TextLineMeans, refusedWord, countColumns, sentenceLine, refusedLine};
+ghost use Rattle.totals_text.specs.Lines.{columns, allInForm, columnValue, wordOf, isListLine, listRow, isTextLine, textWords, textAnswer, ListLineMeans, TextLineMeans, refusedWord, countColumns, sentenceLine, refusedLine};
 
 // What 32 bits hold.
 const LEAST_NUMBER: i32 = -2147483648;
@@ -187,7 +187,7 @@ fn all_in_form(line: &[u8], width: usize, count: usize, least: i32) -> bool
 // The number in a column, 0 where it is not in form.
 fn number_in(text: &[u8], width: usize) -> i32
     requires { ⌜ width ≤ mostDigits ⌝ }
-    ensures { λ r. ⌜ r ≡ numberOf (readColumn width (now (text .entry))) ⌝ }
+    ensures { λ r. ⌜ r ≡ columnValue (readColumn width (now (text .entry))) ⌝ }
 {
     match read_column(text, width) {
         Column::Number(z) => z,
@@ -207,7 +207,7 @@ fn word_in(text: &[u8], width: usize) -> u32
 // Leaves the numbers of a line's first columns in row.
 fn fill_row(line: &[u8], width: usize, count: usize, row: &mut [i32])
     requires { ⌜ (width ≤ mostDigits) × (width * count ≤ length (now line)) × (count ≤ length (now row)) ⌝ }
-    ensures { λ _. ⌜ now (row .exit) ≡ sets (now (row .entry)) 0 (map numberOf (columns width count (now (line .entry)))) ⌝ }
+    ensures { λ _. ⌜ now (row .exit) ≡ sets (now (row .entry)) 0 (map columnValue (columns width count (now (line .entry)))) ⌝ }
 {
     let mut i = 0;
     while i < count {

@@ -22,16 +22,16 @@ use Rattle.backoff.specs.Store.{Look, absent, broken, here, entryOf, isBroken, 
 use Rattle.backoff.proofs.Model.{model-ext}
 use Rattle.backoff.proofs.Store.{entryOf-lookEntry, lookEntry-sound, Whole, packed, answers-over-a-store}
 use Rattle.backoff.specs.Words.{key}
-use Rattle.list.specs.Table.{rowsOf, probabilityAt, backoffAt, orderOf, words}
-use Rattle.list.specs.Search.{findIn}
-use Rattle.list.specs.Good.{Good}
-use Rattle.list.specs.Keys.{rowKey}
+use Rattle.rows.specs.Table.{rowsOf, probabilityAt, backoffAt, orderOf, words}
+use Rattle.rows.specs.Good.{Good}
+use Rattle.rows.specs.Keys.{rowKey}
+use Rattle.rows.proofs.Table.{row-in, words-length}
+use Rattle.rows.proofs.Good.{ascend-key}
+use Rattle.row_search.specs.Search.{findIn}
+use Rattle.row_search.specs.declared.Found.{Found}
+use Rattle.row_search.specs.declared.Found.the-variants.{At as Row, Nothing as NoRow}
+use Rattle.row_search.proofs.Search.{found-words, finds}
 use Rattle.list.specs.ListModel.{extendedIn, continuedIn, entryAt, modelOf}
-use Rattle.list.specs.declared.Found.{Found}
-use Rattle.list.specs.declared.Found.the-variants.{At as Row, Nothing as NoRow}
-use Rattle.list.proofs.Table.{row-in, words-length}
-use Rattle.list.proofs.Good.{ascend-key}
-use Rattle.list.proofs.Search.{found-words, finds}
 use Rattle.list.proofs.Check.{accepted-good, accepted-size}
 use Rattle.list.proofs.ListModel.{accepted-model}
 use Rattle.double_array.specs.DoubleArray.{markerAt, childAt, lookMarker, past, downTo, lookFrom, lookRow, orderIn, storeIn, opened}
@@ -41,11 +41,12 @@ use Rattle.double_array.specs.declared.Marker.the-variants.{Sound, Broken}
 use Rattle.double_array.specs.declared.Child.{Child}
 use Rattle.double_array.specs.declared.Child.the-variants.{At, Nothing}
 use Rattle.double_array.proofs.DoubleArray.{opened-order, opened-some, look-row}
-use Rattle.unload.specs.Unload.{Reached, isRight, walkTo, reached, reachedMarker, rowOf, tableOf, allRight, isList, rowsIn}
+use Rattle.array_nodes.specs.Nodes.{Reached, walkTo, reached}
+use Rattle.unload.specs.Unload.{isRight, reachedMarker, rowOf, tableOf, allRight, isList, rowsIn}
 use Rattle.unload.specs.Meaning.{Holds, Says}
-use Rattle.unload.specs.Steps.{EachTwo, none as no-two, more, IsReached}
-use Rattle.unload.proofs.Reached.{ByKey, walk-child, walk-slot, reached-unique}
-use Rattle.list.proofs.Rows.{good-row-is-row}
+use Rattle.array_nodes.specs.Gathering.{EachTwo, none as no-two, more, IsReached}
+use Rattle.array_nodes.proofs.Reached.{ByKey, walk-child, walk-slot, reached-unique}
+use Rattle.rows.proofs.Rows.{good-row-is-row}
 use Rattle.unload.proofs.Agree.{runOutcome-agrees, startOutcome-agrees}
 
 -- ---- what a store has and its entries

@@ -1,19 +1,8 @@
 -- The laws of unload.
-pub mod EachTwo
-pub mod Reached
 pub mod Rows
 pub mod Agree
 pub mod Held
 pub mod Meaning
-pub mod Climb
-pub mod Items
-pub mod Gathering
-pub mod Numbering
-pub mod Children
-pub mod ByWord
-pub mod Queue
-pub mod Enqueued
-pub mod BreadthFirst
 pub mod Placing
 pub mod Written
 pub mod Listed

@@ -20,24 +20,25 @@ use Rattle.backoff.specs.Store.{absent, entryOf, isBroken, lookEntry, modelIn, 
 use Rattle.backoff.specs.NineNumbers.{nine}
 use Rattle.backoff.specs.declared.Verdict.the-variants.{Accepted, Refused}
 use Rattle.backoff.proofs.Store.{entryOf-lookEntry, lookEntry-sound, packed}
-use Rattle.list.specs.Table.{rowsOf, orderOf, words}
-use Rattle.list.specs.Search.{findIn}
+use Rattle.rows.specs.Table.{rowsOf, orderOf, words}
+use Rattle.row_search.specs.Search.{findIn}
+use Rattle.row_search.specs.declared.Found.{Found}
+use Rattle.row_search.specs.declared.Found.the-variants.{At as Row, Nothing as NoRow}
+use Rattle.row_search.proofs.Search.{found-words, finds}
 use Rattle.list.specs.Check.{verdict}
 use Rattle.list.specs.ListModel.{entryAt, modelOf}
-use Rattle.list.specs.declared.Found.{Found}
-use Rattle.list.specs.declared.Found.the-variants.{At as Row, Nothing as NoRow}
-use Rattle.list.proofs.Search.{found-words, finds}
 use Rattle.list.proofs.Check.{accepted-good, accepted-size, number-accepted}
 use Rattle.double_array.specs.DoubleArray.{markerAt, childAt, lookFrom, lookRow, isArray, orderIn, storeIn, opened}
 use Rattle.double_array.specs.declared.Marker.the-variants.{Sound}
 use Rattle.double_array.specs.declared.Child.{Child}
 use Rattle.double_array.specs.declared.Child.the-variants.{At, Nothing}
 use Rattle.double_array.proofs.DoubleArray.{opened-none, root-sound, look-here, look-down}
-use Rattle.unload.specs.Unload.{Reached, walkTo, reached, tableOf, allRight, slotsOf, rowsIn, isList, Unloaded, untouched, emptied, filled, unloadOutcome}
+use Rattle.array_nodes.specs.Nodes.{Reached, walkTo, reached, slotsOf}
+use Rattle.unload.specs.Unload.{tableOf, allRight, rowsIn, isList, Unloaded, untouched, emptied, filled, unloadOutcome}
 use Rattle.unload.specs.Meaning.{Holds, Says, RefusedBy, no-array, too-short, no-list, rowsPart, UnloadMeans}
-use Rattle.unload.proofs.Reached.{reached-told, reached-shown, walk-child, walk-slot}
-use Rattle.unload.proofs.Rows.{length-tableOf, rows-tableOf, length-slotsOf, row-node, node-row, all-sound}
-use Rattle.unload.proofs.Gathering.{readable}
+use Rattle.array_nodes.proofs.Reached.{reached-told, reached-shown, walk-child, walk-slot}
+use Rattle.array_nodes.proofs.Gathering.{length-slotsOf, readable}
+use Rattle.unload.proofs.Rows.{length-tableOf, rows-tableOf, row-node, node-row, all-sound}
 use Rattle.unload.proofs.Held.{held-says, held-runs-in-a-row, held-table, held-is-list}
 
 -- ---- an array whose nodes reached are a list

@@ -1,72 +1,21 @@
--- The nodes that walking from the root of any double array reaches, the rows that they are, and the outcome of unload. Words are oldest first, as in
--- the list: the parent of `w ∷ us` is `us`. Assumes nothing.
+-- The rows that the nodes of any double array are, and the outcome of unload. Assumes nothing.
 use mathlib.Core.Bool.{Bool, true, false, cond, _&&_, Bool·beq}
-use mathlib.Core.List.{List, [], _∷_, _++_, map}
-use Prim.Native.Nat.{ℕ, zero, suc, _*_}
+use mathlib.Core.List.{List, [], _∷_, _++_}
+use Prim.Native.Nat.{ℕ, _*_}
 use lib.Dec.{eqb, leb}
 use lib.ListN.{length, getD, replicate}
 use lib.IntN.{ℤ, pos, natAbs}
-use Rattle.backoff.specs.Limits.{wordLimit}
 use Rattle.backoff.specs.Refusal.{numberOf, arrayHead, brokenNode, shortSlice}
 use Rattle.backoff.specs.Run.{written}
 use Rattle.backoff.specs.declared.Verdict.{Verdict}
 use Rattle.backoff.specs.declared.Verdict.the-variants.{Accepted, Refused}
-use Rattle.list.specs.Table.{rowsOf, orderOf, row}
+use Rattle.rows.specs.Table.{rowsOf, orderOf, row}
 use Rattle.list.specs.Check.{verdict}
 use Rattle.list.specs.ListModel.{extendedIn, continuedIn}
-use Rattle.double_array.specs.DoubleArray.{markerAt, childAt, isArray, orderIn}
+use Rattle.double_array.specs.DoubleArray.{markerAt, isArray, orderIn}
 use Rattle.double_array.specs.declared.Marker.{Marker}
 use Rattle.double_array.specs.declared.Marker.the-variants.{Sound, Broken}
-use Rattle.double_array.specs.declared.Child.{Child}
-use Rattle.double_array.specs.declared.Child.the-variants.{At, Nothing}
-
--- ---- the nodes
-
--- a node and the words that lead to it
-pub record Reached : Type 0 where
-  pub slot : ℕ
-  pub words : List ℕ
-
-abbrev pub root : Reached
-root = record { slot = 0; words = [] }
-
--- the child for word w of the node `us`, where there is one, in front of others
-abbrev pub childFirst : List ℕ → ℕ → Child → List Reached → List Reached
-childFirst us w (At t) rest = record { slot = t; words = w ∷ us } ∷ rest
-childFirst us w Nothing rest = rest
-
-abbrev pub childIn : Child → (ℕ → Child) → Child
-childIn (At s) child = child s
-childIn Nothing child = Nothing
-
-module _ (base check : List ℤ) where
-  -- where words lead from the root, the newest first: from each node to its child for the next word
-  unfoldable pub walkTo : List ℕ → Child
-  walkTo [] = At 0
-  walkTo (w ∷ us) = childIn (walkTo us) (λ (s : ℕ). childAt base check s w)
-
-  -- the children of a node for the k words from w on
-  unfoldable pub childrenFrom : Reached → ℕ → ℕ → List Reached
-  childrenFrom r w zero = []
-  childrenFrom r w (suc k) = childFirst (r .words) w (childAt base check (r .slot) w) (childrenFrom r (suc w) k)
-
-  -- its children by ascending word
-  unfoldable pub childrenOf : Reached → List Reached
-  childrenOf r = childrenFrom r 1 wordLimit
-
-  unfoldable pub childrenOfAll : List Reached → List Reached
-  childrenOfAll [] = []
-  childrenOfAll (r ∷ rs) = childrenOf r ++ childrenOfAll rs
-
-  -- the nodes of m words
-  unfoldable pub level : ℕ → List Reached
-  level zero = root ∷ []
-  level (suc m) = childrenOfAll (level m)
-
-  -- "the sequences of up to n words found by walking", by m, then by last word, then the word before it, and so on
-  unfoldable pub reached : ℕ → List Reached
-  reached zero = []
-  reached (suc m) = reached m ++ level (suc m)
+use Rattle.array_nodes.specs.Nodes.{Reached, reached, slotsOf}
 
 -- ---- the rows
 
@@ -100,9 +49,6 @@ module _ (base check : List ℤ) where
   unfoldable pub allRight : List ℤ → List Reached → Bool
   allRight t [] = true
   allRight t (r ∷ rs) = isRight (reachedMarker r) (extendedIn t (r .words)) (continuedIn t (r .words)) && allRight t rs
-
-unfoldable pub slotsOf : List Reached → List ℕ
-slotsOf rs = map (λ (r : Reached). r .slot) rs
 
 -- ---- the outcome
 

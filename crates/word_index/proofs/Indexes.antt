@@ -9,28 +9,19 @@ use native.Mathlib.Omega.{arith}
 use lib.Dec.{eqb}
 use lib.IntN.{ℤ, pos, natAbs}
 use lib.ListN.{length, getD, set, length-set}
-use lib.Seq.{getD-set-same, getD-set-other}
 use borrow.Author.Tests.{eqb-true, eqb-false}
 use Rattle.integer.specs.Integer.{between}
 use Rattle.integer.proofs.Arithmetic.{zarith}
 use Rattle.integer.proofs.Ranges.{between-yes, lt-or-ge}
-use Rattle.list.specs.Table.{field}
-use Rattle.list.specs.declared.Found.the-variants.{At, Nothing}
-use Rattle.word_index.specs.Texts.{textOf, textsOf, recorded, numberOf}
+use Rattle.rows.specs.Table.{field}
+use Rattle.rows.proofs.Table.{field-stored, field-kept}
+use Rattle.row_search.specs.declared.Found.the-variants.{At, Nothing}
+use Rattle.word_index.specs.Texts.{textOf, textsOf, recorded, recordWith}
 use Rattle.backoff.specs.Limits.{textLimit}
 use Rattle.word_index.specs.Index.{linkLimit, hash, bucketOf, latest, Indexed, Room, linked, cleared, SameRows}
 use Rattle.word_index.proofs.Texts.{number-none, number-at, number-absent, texts-same, texts-snoc}
 use Rattle.word_index.proofs.Records.{record-length, byte-new, byte-kept, text-new, text-kept}
 use Rattle.word_index.proofs.Chains.{latest-le, latest-some, latest-only, latest-same, latest-next}
-
-module _ (t : List ℤ) (k j : ℕ) (v : ℤ) where
-  pub field-stored : 8 * k + j < length t → field (set t (8 * k + j) v) k j ≡ v
-  unfolding field
-  field-stored h = getD-set-same t (8 * k + j) v (pos 0) h
-
-  pub field-kept : (l p : ℕ) → (8 * l + p ≡ 8 * k + j → ⊥) → field (set t (8 * k + j) v) l p ≡ field t l p
-  unfolding field
-  field-kept l p h = getD-set-other t (8 * k + j) (8 * l + p) v (pos 0) h
 
 pub bucket-less : (b : ℕ) (text : List ℕ) → 1 ≤ b → bucketOf b text < b
 unfolding bucketOf
@@ -151,13 +142,13 @@ module _ (t : List ℤ) (s : List ℕ) (b words : ℕ) (text : List ℕ) (x : In
       let m = latest-le s b (bucketOf b (textOf s k)) k in
       omega arith
 
-  pub following-found : (k : ℕ) → 0 < k → Following s b words text k → text ≡ textOf s k → At k ≡ numberOf s words text
+  pub following-found : (k : ℕ) → 0 < k → Following s b words text k → text ≡ textOf s k → At k ≡ recordWith s words text
   following-found k p w e =
       sym
       (number-at s text words (x .start) k (w .first p) (w .inside) (sym e)
       (λ j a l f. x .distinct j k a l (w .inside) (f ∙ e)))
 
-  pub following-none : (k : ℕ) → k ≤ 0 → Following s b words text k → Nothing ≡ numberOf s words text
+  pub following-none : (k : ℕ) → k ≤ 0 → Following s b words text k → Nothing ≡ recordWith s words text
   following-none k z w = sym (number-none s text words (x .start) (λ j a l e. w .absent j (omega arith) a l e))
 
 -- ---- a word is added
@@ -240,7 +231,7 @@ module _ (t : List ℤ) (s : List ℕ) (b w : ℕ) (text : List ℕ) (x : Indexe
       rw e (omega arith))
       (lt-or-ge k w)
 
-  module _ (new : numberOf s w text ≡ Nothing) where
+  module _ (new : recordWith s w text ≡ Nothing) where
     distinct-added : (j k : ℕ) → 4 ≤ j → j < k → k < w + 1 → textOf (recorded s w text) j ≡ textOf (recorded s w text) k → ⊥
     distinct-added j k a l m e =
         ⊎-elim

@@ -12,9 +12,9 @@ use lib.Seq.{length-take-le, drop-cons, getD-take, getD-drop}
 use Rattle.integer.proofs.Ranges.{lt-or-ge}
 use Rattle.backoff.specs.Words.{sameWords}
 use Rattle.backoff.proofs.Words.{same-refl, same-ne, same-step}
-use Rattle.list.specs.declared.Found.{Found}
-use Rattle.list.specs.declared.Found.the-variants.{At, Nothing}
-use Rattle.word_index.specs.Texts.{textOf, textsFrom, textsOf, searchFrom, numberOf, givenBy}
+use Rattle.row_search.specs.declared.Found.{Found}
+use Rattle.row_search.specs.declared.Found.the-variants.{At, Nothing}
+use Rattle.word_index.specs.Texts.{textOf, textsFrom, textsOf, searchFrom, recordWith, givenBy}
 use Rattle.backoff.specs.Limits.{textLimit}
 
 pub text-length : (s : List ℕ) (k : ℕ) → 64 * k + 64 ≤ length s → getD s (64 * k) 0 ≤ textLimit → length (textOf s k) ≡ getD s (64 * k) 0
@@ -71,16 +71,16 @@ module _ (s text : List ℕ) where
 
 -- ---- the same for the words of a store
 module _ (s text : List ℕ) (words : ℕ) (start : 4 ≤ words) where
-  pub number-none : ((j : ℕ) → 4 ≤ j → j < words → textOf s j ≡ text → ⊥) → numberOf s words text ≡ Nothing
-  unfolding numberOf textsOf
+  pub number-none : ((j : ℕ) → 4 ≤ j → j < words → textOf s j ≡ text → ⊥) → recordWith s words text ≡ Nothing
+  unfolding recordWith textsOf
   number-none h = search-none s text 4 (words - 4) (λ j a b. h j a (omega arith))
 
-  pub number-at : (j : ℕ) → 4 ≤ j → j < words → textOf s j ≡ text → ((i : ℕ) → 4 ≤ i → i < j → textOf s i ≡ text → ⊥) → numberOf s words text ≡ At j
-  unfolding numberOf textsOf
+  pub number-at : (j : ℕ) → 4 ≤ j → j < words → textOf s j ≡ text → ((i : ℕ) → 4 ≤ i → i < j → textOf s i ≡ text → ⊥) → recordWith s words text ≡ At j
+  unfolding recordWith textsOf
   number-at j a b e h = search-at s text 4 (words - 4) j a (omega arith) e h
 
-  pub number-absent : numberOf s words text ≡ Nothing → (j : ℕ) → 4 ≤ j → j < words → textOf s j ≡ text → ⊥
-  unfolding numberOf textsOf
+  pub number-absent : recordWith s words text ≡ Nothing → (j : ℕ) → 4 ≤ j → j < words → textOf s j ≡ text → ⊥
+  unfolding recordWith textsOf
   number-absent f j a b e = search-absent s text 4 (words - 4) f j a (omega arith) e
 
 -- ---- texts in a row

@@ -8,7 +8,7 @@ use lib.Dec.{leb, eqb}
 use lib.IntN.{ℤ, pos}
 use lib.ListN.{length, getD, set}
 use Rattle.backoff.specs.Limits.{textLimit}
-use Rattle.list.specs.Table.{field}
+use Rattle.rows.specs.Table.{field}
 use Rattle.word_index.specs.Texts.{textOf}
 
 -- a hash is below 2 ^ 40

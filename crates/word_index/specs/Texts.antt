@@ -4,8 +4,8 @@ use mathlib.Core.List.{List, [], _∷_, _++_}
 use Prim.Native.Nat.{ℕ, zero, suc, _+_, _*_, _-_}
 use lib.ListN.{length, getD, take, drop}
 use Rattle.backoff.specs.Words.{sameWords}
-use Rattle.list.specs.declared.Found.{Found}
-use Rattle.list.specs.declared.Found.the-variants.{At, Nothing}
+use Rattle.row_search.specs.declared.Found.{Found}
+use Rattle.row_search.specs.declared.Found.the-variants.{At, Nothing}
 
 -- "Record k, 64 bytes from 64 × k, is word k's length, then its text"
 unfoldable pub textOf : List ℕ → ℕ → List ℕ
@@ -31,8 +31,8 @@ givenBy (At k) n = k
 givenBy Nothing n = n
 
 -- the word below `words` whose record holds the text
-unfoldable pub numberOf : List ℕ → ℕ → List ℕ → Found
-numberOf s words text = searchFrom text 4 (textsOf s words)
+unfoldable pub recordWith : List ℕ → ℕ → List ℕ → Found
+recordWith s words text = searchFrom text 4 (textsOf s words)
 
 -- a store in which record k holds the text
 unfoldable pub recorded : List ℕ → ℕ → List ℕ → List ℕ

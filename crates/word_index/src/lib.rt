@@ -6,12 +6,12 @@ ghost use lib.IntN.{pos};
 ghost use lib.ListN.{length, getD, set};
 ghost use Rattle.integer.specs.Integer.{between};
 ghost use Rattle.backoff.specs.Words.{sameWords};
-ghost use Rattle.list.specs.Table.{field};
-ghost use Rattle.list.specs.declared.Found.the-variants.{Nothing};
-ghost use Rattle.word_index.specs.Texts.{textOf, numberOf, recorded};
+ghost use Rattle.rows.specs.Table.{field};
+ghost use Rattle.row_search.specs.declared.Found.the-variants.{Nothing};
+ghost use Rattle.word_index.specs.Texts.{textOf, recordWith, recorded};
 ghost use Rattle.backoff.specs.Limits.{textLimit};
 ghost use Rattle.word_index.specs.Index.{linkLimit, hash, bucketOf, Indexed, Room, linked, cleared};
-use list::Found;
+use row_search::Found;
 
 // A hash is below 2^40, so that its product with an odd number below 2^24 fits.
 const HASH_LIMIT: u64 = 1099511627776;
@@ -64,13 +64,13 @@ fn link_at(table: &[i32], i: usize, j: usize) -> usize
     requires { ⌜ (8 * i + 8 ≤ length (now table)) × (j < 8) × (between (pos 0) (pos linkLimit) (field (now table) i j) ≡ true) ⌝ }
     ensures { λ r. ⌜ field (now (table .entry)) i j ≡ pos r ⌝ }
 {
-    list::field(table, i, j) as usize
+    rows::field(table, i, j) as usize
 }
 
 // The word whose record holds the text.
 pub fn find_word(text: &[u8], table: &[i32], store: &[u8], buckets: usize) -> Found
     requires { ⌜ ((words : ℕ) × Indexed (now table) (now store) buckets words) ⌝ }
-    ensures { λ r. ⌜ ((words : ℕ) → Indexed (now (table .entry)) (now (store .entry)) buckets words → r ≡ numberOf (now (store .entry)) words (now (text .entry))) ⌝ }
+    ensures { λ r. ⌜ ((words : ℕ) → Indexed (now (table .entry)) (now (store .entry)) buckets words → r ≡ recordWith (now (store .entry)) words (now (text .entry))) ⌝ }
 {
     let h = bucket_of(text, buckets);
     let mut k = link_at(table, h, 2);
@@ -117,7 +117,7 @@ fn link_word(table: &mut [i32], h: usize, k: usize)
 
 // The text becomes word `words`.
 pub fn add_word(text: &[u8], table: &mut [i32], store: &mut [u8], buckets: usize, words: usize)
-    requires { ⌜ Indexed (now table) (now store) buckets words × Room (now table) (now store) words × (length (now text) ≤ textLimit) × (numberOf (now store) words (now text) ≡ Nothing) ⌝ }
+    requires { ⌜ Indexed (now table) (now store) buckets words × Room (now table) (now store) words × (length (now text) ≤ textLimit) × (recordWith (now store) words (now text) ≡ Nothing) ⌝ }
     ensures { λ _. ⌜ (now (store .exit) ≡ recorded (now (store .entry)) words (now (text .entry))) × (now (table .exit) ≡ linked (now (table .entry)) (bucketOf buckets (now (text .entry))) words) × Indexed (now (table .exit)) (now (store .exit)) buckets (words + 1) ⌝ }
 {
     let h = bucket_of(text, buckets);

@@ -1,6 +1,6 @@
 -- `arpa::judge` meets its contract. Assumes nothing.
 use mathlib.Core.Path.{_≡_, refl, sym, ap, _∙_}
-use Prim.Native.Nat.{ℕ, _*_}
+use Prim.Native.Nat.{_*_}
 use native.Mathlib.Omega.{arith}
 use lib.ListN.{length, take}
 use lib.Seq.{length-take-le}
@@ -8,8 +8,9 @@ use borrow.Author.Needs.{needs}
 use Rattle.backoff.specs.NineNumbers.{padded}
 use Rattle.backoff.proofs.NineNumbers.{length-padded}
 use Rattle.list.specs.Check.{verdictFor}
+use Rattle.list.proofs.Check.{accepted-refused}
 use Rattle.row_order.specs.RowOrder.{joined}
-use Rattle.arpa.specs.Reading.{Reading}
+use Rattle.arpa_lines.specs.Reading.{Reading}
 use Rattle.arpa.specs.Outcome.{ordered}
 use Rattle.arpa.specs.Held.{EndHeld}
 use Rattle.arpa.proofs.RowsHeld.{cleared-held, held-ordering, ordered-table, ordered-front, too-many}
@@ -23,8 +24,8 @@ returns c =
     record {
       verdict-is = sym (too-many (p .args .table .now) (p .args .rows) (p .args .words) a (h .count) (h .sound) (h .row-room) (p .args .filling) (c .if1 .taken));
       long = refl;
-      table = λ e. let z : _≡_ {A = ℕ} 0 1 = cc in absurd (omega arith);
-      few = λ e. let z : _≡_ {A = ℕ} 0 1 = cc in absurd (omega arith);
+      table = λ e. absurd (accepted-refused _ _ e);
+      few = λ e. absurd (accepted-refused _ _ e);
     }
 
 clear-index-requires : tie.Need-clear-index-requires

@@ -5,7 +5,7 @@ use lib.IntN.{pos}
 use lib.ListN.{length, replicate, length-replicate}
 use borrow.Author.Needs.{needs}
 use Rattle.arpa_text.specs.Parts.{parts}
-use Rattle.arpa.specs.Reading.{begun, readLines}
+use Rattle.arpa_lines.specs.Reading.{unread, readLines}
 use Rattle.arpa.specs.Held.{LinesHeld, Concluded}
 use Rattle.arpa.proofs.Answers.{lines-here, lines-length, lines-store-length, lines-sized, leaves-refused, leaves-read}
 use Rattle.arpa.proofs.Meaning.{read-means}
@@ -33,7 +33,7 @@ read-lines-requires c κs =
 
 -- what the lines came to
 lines : (r : tie.After-read-lines) → LinesHeld (length (r .before .before .before .before .before .before .before .before .before .before .before .before .args .table .now)) (length (r .before .before .before .before .before .before .before .before .before .before .before .before .args .store .now)) (r .read-lines .last .1 .0) (r .read-lines .last .1 .1 .0)
-    (readLines (length (r .before .before .before .before .before .before .before .before .before .before .before .before .args .table .now)) (length (r .before .before .before .before .before .before .before .before .before .before .before .before .args .store .now)) begun 1 (parts 10 (r .before .before .before .before .before .before .before .before .before .before .before .before .args .text .now))) (r .read-lines .result)
+    (readLines (length (r .before .before .before .before .before .before .before .before .before .before .before .before .args .table .now)) (length (r .before .before .before .before .before .before .before .before .before .before .before .before .args .store .now)) unread 1 (parts 10 (r .before .before .before .before .before .before .before .before .before .before .before .before .args .text .now))) (r .read-lines .result)
 lines r =
     let z = r .before .before .before .before .before in
     let f = z .before .before .before in
@@ -46,7 +46,7 @@ conclude-requires c κs =
     let p = r .before .before .before .before .before .before .before .before .before .before .before .before in
     let room = length (p .args .table .now) in
     let size = length (p .args .store .now) in
-    (readLines room size begun 1 (parts 10 (p .args .text .now)), (size, (r .read-lines .last .1 .1 .0, lines-here room size (r .read-lines .last .1 .0) (r .read-lines .last .1 .1 .0) (r .read-lines .result) (readLines room size begun 1 (parts 10 (p .args .text .now))) (lines r))))
+    (readLines room size unread 1 (parts 10 (p .args .text .now)), (size, (r .read-lines .last .1 .1 .0, lines-here room size (r .read-lines .last .1 .0) (r .read-lines .last .1 .1 .0) (r .read-lines .result) (readLines room size unread 1 (parts 10 (p .args .text .now))) (lines r))))
 
 enum-told : tie.Need-enum-told
 enum-told c = search needs
@@ -67,13 +67,13 @@ same-length-2 : tie.Need-same-length-2
 same-length-2 c = search needs
 
 concluded : (k : tie.After-conclude) → Concluded (k .before .before .before .before .before .before .before .before .before .before .before .before .before .before .before .before .before .args .filling) (length (k .before .before .before .before .before .before .before .before .before .before .before .before .before .before .before .before .before .args .table .now)) (length (k .before .before .before .before .before .before .before .before .before .before .before .before .before .before .before .before .before .args .store .now)) (k .conclude .last .0) (k .before .before .before .before .before .read-lines .last .1 .1 .0)
-    (readLines (length (k .before .before .before .before .before .before .before .before .before .before .before .before .before .before .before .before .before .args .table .now)) (length (k .before .before .before .before .before .before .before .before .before .before .before .before .before .before .before .before .before .args .store .now)) begun 1 (parts 10 (k .before .before .before .before .before .before .before .before .before .before .before .before .before .before .before .before .before .args .text .now))) (k .conclude .result)
+    (readLines (length (k .before .before .before .before .before .before .before .before .before .before .before .before .before .before .before .before .before .args .table .now)) (length (k .before .before .before .before .before .before .before .before .before .before .before .before .before .before .before .before .before .args .store .now)) unread 1 (parts 10 (k .before .before .before .before .before .before .before .before .before .before .before .before .before .before .before .before .before .args .text .now))) (k .conclude .result)
 concluded k =
     let r = k .before .before .before .before .before in
     let p = r .before .before .before .before .before .before .before .before .before .before .before .before in
     let room = length (p .args .table .now) in
     let size = length (p .args .store .now) in
-    let l = readLines room size begun 1 (parts 10 (p .args .text .now)) in
+    let l = readLines room size unread 1 (parts 10 (p .args .text .now)) in
     let t = r .read-lines .last .1 .0 in
     let s = r .read-lines .last .1 .1 .0 in
     subst (λ (n : ℕ). Concluded (p .args .filling) n size (k .conclude .last .0) s l (k .conclude .result)) (lines-length room size t s (r .read-lines .result) l (lines r))
@@ -91,7 +91,7 @@ returns c =
     let size = length (p .args .store .now) in
     let d = concluded k in
     let e = m .enum-told .given .1 in
-    let l = readLines room size begun 1 (parts 10 (p .args .text .now)) in
+    let l = readLines room size unread 1 (parts 10 (p .args .text .now)) in
     let left =
     leaves-refused (p .args .filling) room size (p .args .text .now) (k .conclude .last .0) (r .read-lines .last .1 .1 .0) (k .conclude .result) d _ _ e (f .fill2 .last .0) (z .zero-bytes2 .last .0)
     (f .fill2 .ensures ∙ ap (λ (n : ℕ). replicate n (pos 0)) (d .long))

@@ -4,11 +4,10 @@ use mathlib.Core.List.{List}
 use Prim.Native.Nat.{ℕ, suc, _+_, _-_, _≤_}
 use native.Mathlib.Omega.{arith}
 use borrow.Author.Tests.{not-true, not-false}
-use lib.ListN.{length, take, drop, length-drop}
+use lib.ListN.{length, drop, length-drop}
 use lib.Seq.{drop-drop}
-use Rattle.totals_text.proofs.Scans.{rest-is}
 use Rattle.arpa_text.specs.Parts.{parts, before}
-use Rattle.arpa_text.specs.Lines.{isText, areTexts}
+use Rattle.arpa_text.specs.Lines.{areTexts}
 use Rattle.arpa_text.proofs.Lines.{no-texts, last-text, next-text, no-text}
 use borrow.Author.Needs.{needs}
 use Rattle.arpa_text.proofs.are_texts.Statement.{statement}
@@ -23,55 +22,39 @@ abbrev μ-loop : tie.MeasureT-loop
 loop-holds : tie.Need-loop-holds Inv-loop μ-loop
 loop-holds c = (search needs, refl)
 
-sub-find-byte : tie.Need-sub-find-byte Inv-loop μ-loop
-sub-find-byte c = search needs
-
-part-find-byte-start : tie.Need-part-find-byte-start Inv-loop μ-loop
-part-find-byte-start c = search needs
-
-part-find-byte-end : tie.Need-part-find-byte-end Inv-loop μ-loop
-part-find-byte-end c = search needs
-
-find-byte-requires : tie.Need-find-byte-requires Inv-loop μ-loop
-find-byte-requires c κs = search needs
+part-end-requires : tie.Need-part-end-requires Inv-loop μ-loop
+part-end-requires c κs = c .before .loop .inv .0
 
 abbrev rest : tie.In-loop Inv-loop μ-loop → List ℕ
 rest c = drop (c .before .loop .at) (c .before .before .before .args .words .now)
 
--- where the next text ends
+-- how long the next text is
+abbrev size : tie.After-part-end Inv-loop μ-loop → ℕ
+size c = c .part-end .result - c .before .before .loop .at
+
 record Stop (text : List ℕ) (place : ℕ) : Type 0 where
   is : place ≡ before 32 text
   within : place ≤ length text
 
-stop : (c : tie.After-find-byte Inv-loop μ-loop) → Stop (rest (c .before .before)) (c .find-byte .result)
+stop : (c : tie.After-part-end Inv-loop μ-loop) → Stop (rest (c .before)) (size c)
 stop c =
-    let l = c .before .before .before in
-    let r = rest-is (l .before .before .args .words .now) (l .loop .at) in
-    record { is = c .find-byte .ensures .0 ∙ ap (before 32) r; within = rw r at (c .find-byte .ensures .1) }
-
-add-end : tie.Need-add-end Inv-loop μ-loop
-add-end c = let l = c .before .before .before in omega (arith, stop c .within, length-drop (l .loop .at) (l .before .before .args .words .now))
+    let l = c .before .before in
+    let e = c .part-end .ensures .0 in
+    let w = c .part-end .ensures .1 in
+    let d = length-drop (l .loop .at) (l .before .before .args .words .now) in
+    record { is = omega arith; within = omega arith }
 
 sub-is-text : tie.Need-sub-is-text Inv-loop μ-loop
-sub-is-text c = omega arith
+sub-is-text c = let e = c .part-end .ensures .0 in omega arith
 
 part-is-text-start : tie.Need-part-is-text-start Inv-loop μ-loop
-part-is-text-start c = omega arith
+part-is-text-start c = let e = c .part-end .ensures .0 in omega arith
 
 part-is-text-end : tie.Need-part-is-text-end Inv-loop μ-loop
-part-is-text-end c = let l = c .before .before .before in omega (arith, stop c .within, length-drop (l .loop .at) (l .before .before .args .words .now))
+part-is-text-end c = let w = c .part-end .ensures .1 in omega (arith, length-drop (c .before .before .loop .at) (c .before .before .before .before .args .words .now))
 
 is-text-requires : tie.Need-is-text-requires Inv-loop μ-loop
 is-text-requires c κs = search needs
-
--- the text at hand
-this : (c : tie.After-is-text Inv-loop μ-loop) → let f = c .before .before in
-    c .is-text .result ≡ isText (take (f .find-byte .result) (rest (f .before .before)))
-this c =
-    let f = c .before .before in
-    let at = f .before .before .before .loop .at in
-    let e : at + f .find-byte .result - at ≡ f .find-byte .result = omega arith in
-    c .is-text .ensures ∙ rw e refl
 
 -- so many are left
 some-left : (c : tie.In-loop Inv-loop μ-loop) → c .before .loop .left ≡ suc (c .before .loop .left - 1)
@@ -80,11 +63,11 @@ some-left c = omega arith
 returns : tie.Need-returns Inv-loop μ-loop
 returns c =
     let f = c .before .before .before in
-    let i = f .before .before in
+    let i = f .before in
     let l = i .before in
     sym
     (l .loop .inv .1 ∙ ap (λ (n : ℕ). areTexts n (parts 32 (rest i))) (some-left i)
-    ∙ no-text (l .loop .left - 1) (rest i) (f .find-byte .result) (stop f .is) (stop f .within) (sym (this (c .before)) ∙ not-true _ (c .if1 .taken)))
+    ∙ no-text (l .loop .left - 1) (rest i) (size f) (stop f .is) (stop f .within) (sym (c .before .is-text .ensures) ∙ not-true _ (c .if1 .taken)))
 
 sub-left : tie.Need-sub-left Inv-loop μ-loop
 sub-left c = search needs
@@ -93,20 +76,19 @@ returns-2 : tie.Need-returns-2 Inv-loop μ-loop
 returns-2 c =
     let e = c .before in
     let f = e .before .before .before in
-    let i = f .before .before in
+    let i = f .before in
     let l = i .before in
     let g = c .if2 .taken in
     sym
     (l .loop .inv .1 ∙ ap (λ (n : ℕ). areTexts n (parts 32 (rest i))) (some-left i)
-    ∙ last-text (l .loop .left - 1) (rest i) (f .find-byte .result) (stop f .is)
-    (omega (arith, length-drop (l .loop .at) (l .before .before .args .words .now))) (sym (this (e .before)) ∙ not-false _ (e .if1 .left)))
+    ∙ last-text (l .loop .left - 1) (rest i) (size f) (stop f .is)
+    (omega (arith, length-drop (l .loop .at) (l .before .before .args .words .now))) (sym (e .before .is-text .ensures) ∙ not-false _ (e .if1 .left)))
 
 add-at : tie.Need-add-at Inv-loop μ-loop
 add-at c =
-    let f = c .before .before .before .before in
-    let l = f .before .before .before in
+    let w = c .before .before .before .before .part-end .ensures .1 in
     let n = c .if2 .left in
-    omega (arith, stop f .within, length-drop (l .loop .at) (l .before .before .args .words .now))
+    search needs
 
 loop-less : tie.Need-loop-less Inv-loop μ-loop
 loop-less c = search needs
@@ -115,17 +97,18 @@ loop-again : tie.Need-loop-again Inv-loop μ-loop
 loop-again c =
     let e = c .before in
     let f = e .before .before .before in
-    let i = f .before .before in
+    let i = f .before in
     let l = i .before in
     let words = l .before .before .args .words .now in
     let n = c .if2 .left in
-    let h = stop f .within in
+    let p = f .part-end .ensures .0 in
+    let w = f .part-end .ensures .1 in
     let k = length-drop (l .loop .at) words in
-    let s : l .loop .at + (f .find-byte .result + 1) ≡ l .loop .at + f .find-byte .result + 1 = omega arith in (
+    let s : l .loop .at + (size f + 1) ≡ f .part-end .result + 1 = omega arith in (
       omega arith,
       l .loop .inv .1 ∙ ap (λ (m : ℕ). areTexts m (parts 32 (rest i))) (some-left i)
-          ∙ next-text (l .loop .left - 1) (rest i) (f .find-byte .result) (stop f .is) (omega arith) (sym (this (e .before)) ∙ not-false _ (e .if1 .left))
-          ∙ ap (λ (x : List ℕ). areTexts (l .loop .left - 1) (parts 32 x)) (drop-drop (f .find-byte .result + 1) (l .loop .at) words ∙ rw s refl),
+          ∙ next-text (l .loop .left - 1) (rest i) (size f) (stop f .is) (omega arith) (sym (e .before .is-text .ensures) ∙ not-false _ (e .if1 .left))
+          ∙ ap (λ (x : List ℕ). areTexts (l .loop .left - 1) (parts 32 x)) (drop-drop (size f + 1) (l .loop .at) words ∙ rw s refl),
     )
 
 returns-3 : tie.Need-returns-3 Inv-loop μ-loop
@@ -142,11 +125,7 @@ are-texts-spec =
     Inv-loop
     μ-loop
     loop-holds
-    sub-find-byte
-    part-find-byte-start
-    part-find-byte-end
-    find-byte-requires
-    add-end
+    part-end-requires
     sub-is-text
     part-is-text-start
     part-is-text-end

@@ -22,7 +22,7 @@ abbrev asked : tie.Start → Run
 asked s = record { words = s .args .words .now; points = s .args .points .now; lengths = s .args .lengths .now }
 
 -- what is the outcome also means what it should
-means : (s : tie.Start) (x : Outcome) → x ≡ sheetOutcome (array s) (s .args .ends .now) (asked s) → (x ≡ sheetOutcome (array s) (s .args .ends .now) (asked s)) × SheetMeans (s .args .ends .now) (asked s) x
+means : (s : tie.Start) (x : Outcome) → x ≡ sheetOutcome (array s) (s .args .ends .now) (asked s) → (x ≡ sheetOutcome (array s) (s .args .ends .now) (asked s)) × SheetMeans (s .args .base .now) (s .args .check .now) (s .args .ends .now) (asked s) x
 means s x e = (e, rw e (sheet-means (s .args .base .now) (s .args .check .now) (s .args .ends .now) (asked s)))
 
 early-refusal-requires : tie.Need-early-refusal-requires

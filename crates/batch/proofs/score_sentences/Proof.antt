@@ -4,14 +4,14 @@ use mathlib.Core.List.{List}
 use Prim.Native.Nat.{ℕ, _-_, _≤_, _<_}
 use native.Mathlib.Omega.{arith}
 use borrow.Author.Needs.{needs}
-use lib.ListN.{length, getD, drop, length-drop}
-use lib.Seq.{length-take-le}
+use lib.ListN.{length, getD}
 use lib.IntN.{ℤ, natAbs}
 use mir.Syntax.{w64}
 use mir.Val.{toZ}
 use Rattle.backoff.specs.Limits.{runLimit}
 use Rattle.backoff.specs.Run.{Run}
 use Rattle.double_array.specs.DoubleArray.{opened}
+use Rattle.batch.proofs.Stretches.{length-stretch}
 use Rattle.batch.proofs.Sentences.{totalLimit, Batching, batching-begins, batching-ends}
 use Rattle.batch.proofs.Calls.{Within, next-within, turn-total, turn-on, turn-refused, next-fits, next-added}
 use Rattle.batch.proofs.score_sentences.Statement.{statement}
@@ -32,7 +32,7 @@ asked s = record { words = s .args .words .now; points = s .args .points .now; l
 loop-holds : tie.Need-loop-holds Inv-loop μ-loop
 loop-holds c =
     let s = c .before .before .before in
-    batching-begins (opened (s .args .base .now) (s .args .check .now)) (s .args .ends .now) (asked s) (s .args .counts .now) (s .pre .1 .1 .1)
+    batching-begins (opened (s .args .base .now) (s .args .check .now)) (s .args .ends .now) (asked s) (s .args .counts .now) (s .pre .1 .1 .1 .1 .1)
 
 mul-words-before : tie.Need-mul-words-before Inv-loop μ-loop
 mul-words-before c = search needs
@@ -58,7 +58,7 @@ within w =
     let n = turn w in
     let l = n .before .loop in
     let s = start n in
-    next-within (s .args .base .now) (s .args .check .now) (s .args .ends .now) (asked s) (l .a) (l .i) (toZ w64 (l .sum)) (l .points) (l .lengths) (l .counts) (l .inv) (next-end n) (s .pre .1 .0) (s .pre .1 .1 .0 .1 .0) (s .pre .1 .1 .0 .1 .1) (w .words-before .result) (w .words-before .ensures)
+    next-within (s .args .base .now) (s .args .check .now) (s .args .ends .now) (asked s) (l .a) (l .i) (toZ w64 (l .sum)) (l .points) (l .lengths) (l .counts) (l .inv) (next-end n) (s .pre .1 .1 .0) (s .pre .1 .1 .1 .1 .0 .1 .0) (s .pre .1 .1 .1 .1 .0 .1 .1) (w .words-before .result) (w .words-before .ensures)
 
 mul-score-sentence : tie.Need-mul-score-sentence Inv-loop μ-loop
 mul-score-sentence c = omega (arith, within c)
@@ -94,7 +94,14 @@ part-score-sentence-end-3 : tie.Need-part-score-sentence-end-3 Inv-loop μ-loop
 part-score-sentence-end-3 c = omega (arith, within (c .before .before))
 
 score-sentence-requires : tie.Need-score-sentence-requires Inv-loop μ-loop
-score-sentence-requires c κs = start (turn (c .before .before .before)) .pre .0
+score-sentence-requires c κs =
+    let w = c .before .before .before in
+    let n = turn w in
+    let s = start n in
+    let words = length-stretch (n .before .loop .a) (w .words-before .result) (s .args .words .now) (within w .below) (within w .in-words) in
+    let points = length-stretch (n .before .loop .a) (w .words-before .result) (n .before .loop .points) (within w .below) (within w .in-points) in
+    let lengths = length-stretch (n .before .loop .a) (w .words-before .result) (n .before .loop .lengths) (within w .below) (within w .in-lengths) in
+    (s .pre .0, (s .pre .1 .0, (omega (arith, words, within w .in-words, s .pre .1 .1 .1 .0), (omega (arith, words, points), omega (arith, words, lengths)))))
 
 -- the sentence's end when `score_sentence` was called, and the stretches as it left them
 abbrev ended : tie.After-score-sentence Inv-loop μ-loop → tie.After-words-before Inv-loop μ-loop
@@ -109,18 +116,12 @@ lengths d = d .score-sentence .last .1 .1 .1 .1 .1 .0
 points-long : (d : tie.After-score-sentence Inv-loop μ-loop) → length (points d) ≡ ended d .words-before .result - turn (ended d) .before .loop .a
 points-long d =
     let w = within (ended d) in
-    let e = ended d .words-before .result in
-    let a = turn (ended d) .before .loop .a in
-    let l = turn (ended d) .before .loop .points in
-    d .score-sentence .kept .1 .1 .1 .1 .0 ∙ length-take-le (e - a) (drop a l) (omega (arith, length-drop a l, w))
+    d .score-sentence .kept .1 .1 .1 .1 .0 ∙ length-stretch (turn (ended d) .before .loop .a) (ended d .words-before .result) (turn (ended d) .before .loop .points) (w .below) (w .in-points)
 
 lengths-long : (d : tie.After-score-sentence Inv-loop μ-loop) → length (lengths d) ≡ ended d .words-before .result - turn (ended d) .before .loop .a
 lengths-long d =
     let w = within (ended d) in
-    let e = ended d .words-before .result in
-    let a = turn (ended d) .before .loop .a in
-    let l = turn (ended d) .before .loop .lengths in
-    d .score-sentence .kept .1 .1 .1 .1 .1 .0 ∙ length-take-le (e - a) (drop a l) (omega (arith, length-drop a l, w))
+    d .score-sentence .kept .1 .1 .1 .1 .1 .0 ∙ length-stretch (turn (ended d) .before .loop .a) (ended d .words-before .result) (turn (ended d) .before .loop .lengths) (w .below) (w .in-lengths)
 
 enum-known-scored : tie.Need-enum-known-scored Inv-loop μ-loop
 enum-known-scored c = search needs
@@ -141,11 +142,11 @@ returns c =
     let n = turn w in
     let l = n .before .loop in
     let s = start n in
-    turn-refused (s .args .base .now) (s .args .check .now) (s .args .ends .now) (asked s) (l .a) (l .i) (toZ w64 (l .sum)) (l .points) (l .lengths) (l .counts) (l .inv) (next-end n) (s .pre .1 .0) (s .pre .1 .1 .0 .1 .0) (s .pre .1 .1 .0 .1 .1) (w .words-before .result) (w .words-before .ensures)
+    turn-refused (s .args .base .now) (s .args .check .now) (s .args .ends .now) (asked s) (l .a) (l .i) (toZ w64 (l .sum)) (l .points) (l .lengths) (l .counts) (l .inv) (next-end n) (s .pre .1 .1 .0) (s .pre .1 .1 .1 .1 .0 .1 .0) (s .pre .1 .1 .1 .1 .0 .1 .1) (w .words-before .result) (w .words-before .ensures)
     (d .score-sentence .result) (points d) (lengths d) (points-long d) (lengths-long d) (d .score-sentence .ensures) (c .enum-told .given .1)
 
 few : (n : tie.In-loop Inv-loop μ-loop) → n .before .loop .i ≤ runLimit
-few n = omega (arith, n .before .loop .inv .at, start n .pre .1 .1 .0 .0)
+few n = omega (arith, n .before .loop .inv .at, start n .pre .1 .1 .1 .1 .0 .0)
 
 -- no counter is full
 room : (n : tie.In-loop Inv-loop μ-loop) (k : ℕ) → getD (n .before .loop .counts) k 0 < 4294967295
@@ -165,7 +166,7 @@ total-small c =
     let n = turn w in
     let l = n .before .loop in
     let s = start n in
-    turn-total (s .args .base .now) (s .args .check .now) (s .args .ends .now) (asked s) (l .a) (l .i) (toZ w64 (l .sum)) (l .points) (l .lengths) (l .counts) (l .inv) (next-end n) (s .pre .1 .0) (s .pre .1 .1 .0 .1 .0) (s .pre .1 .1 .0 .1 .1) (w .words-before .result) (w .words-before .ensures)
+    turn-total (s .args .base .now) (s .args .check .now) (s .args .ends .now) (asked s) (l .a) (l .i) (toZ w64 (l .sum)) (l .points) (l .lengths) (l .counts) (l .inv) (next-end n) (s .pre .1 .1 .0) (s .pre .1 .1 .1 .1 .0 .1 .0) (s .pre .1 .1 .1 .1 .0 .1 .1) (w .words-before .result) (w .words-before .ensures)
     (d .score-sentence .result) (points d) (lengths d) (points-long d) (lengths-long d) (d .score-sentence .ensures) _ _ (c .before .before .before .scored .given .1)
 
 add-sum : tie.Need-add-sum Inv-loop μ-loop
@@ -186,7 +187,7 @@ loop-again c =
     let s = start n in
     let v = c .before .before .before .scored in
     rw (c .count-byte .ensures, next-added (l .i) (few n) (toZ w64 (l .sum)) (v .given .0 .0) (l .inv .total-small) (total-small c))
-    (turn-on (s .args .base .now) (s .args .check .now) (s .args .ends .now) (asked s) (l .a) (l .i) (toZ w64 (l .sum)) (l .points) (l .lengths) (l .counts) (l .inv) (next-end n) (s .pre .1 .0) (s .pre .1 .1 .0 .1 .0) (s .pre .1 .1 .0 .1 .1) (w .words-before .result) (w .words-before .ensures)
+    (turn-on (s .args .base .now) (s .args .check .now) (s .args .ends .now) (asked s) (l .a) (l .i) (toZ w64 (l .sum)) (l .points) (l .lengths) (l .counts) (l .inv) (next-end n) (s .pre .1 .1 .0) (s .pre .1 .1 .1 .1 .0 .1 .0) (s .pre .1 .1 .1 .1 .0 .1 .1) (w .words-before .result) (w .words-before .ensures)
     (d .score-sentence .result) (points d) (lengths d) (points-long d) (lengths-long d) (d .score-sentence .ensures) (v .given .0 .0) (v .given .0 .1 .0) (v .given .1))
 
 same-length-3 : tie.Need-same-length-3 Inv-loop μ-loop

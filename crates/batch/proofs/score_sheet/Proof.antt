@@ -47,7 +47,7 @@ score-sentences-requires : tie.Need-score-sentences-requires
 score-sentences-requires c κs =
     let b = c .before .before .before in
     let p = fit (b .before .before .before .before) in
-    (b .start .ensures .0, (p .ends-good, ((p .sizes .few-ends, (p .sizes .points-reach, p .sizes .lengths-reach)), tallied-none)))
+    (p .array, (b .start .ensures .0, (p .ends-good, (p .sizes .few-words, ((p .sizes .few-ends, (p .sizes .points-reach, p .sizes .lengths-reach)), tallied-none)))))
 
 -- the function's start, and what `score_sentences` left
 abbrev start : tie.After-score-sentences → tie.Start

@@ -12,9 +12,10 @@ use borrow.Author.Tests.{ltb-true, ltb-false, le-leb, lt-leb, not-true, not-fals
 use Rattle.integer.proofs.Arithmetic.{and-no}
 use Rattle.integer.proofs.Ranges.{and-both}
 use Rattle.double_array.specs.DoubleArray.{sizesOk}
-use Rattle.list.specs.Table.{rowsOf}
+use Rattle.rows.specs.Table.{rowsOf}
 use Rattle.list.specs.Check.{tableFits}
-use Rattle.build.proofs.Outcome.{answers, outcome-table, outcome-sizes, outcome-checked}
+use Rattle.build.proofs.Outcome.{outcome-table, outcome-sizes, outcome-checked}
+use Rattle.build.proofs.Meaning.{answers}
 use Rattle.build.proofs.build.Statement.{statement}
 use Rattle.build.proofs.build.Tie as tie
 

@@ -9,7 +9,7 @@ use denote.Ref.{now}
 use borrow.Author.Needs.{needs}
 use Rattle.backoff.specs.Limits.{rowLimit}
 use Rattle.backoff.specs.declared.Verdict.the-variants.{Accepted}
-use Rattle.list.specs.Table.{rowsOf}
+use Rattle.rows.specs.Table.{rowsOf}
 use Rattle.list.specs.Check.{verdict}
 use Rattle.list.specs.ListModel.{continuedIn}
 use Rattle.list.proofs.Check.{fitting-table}

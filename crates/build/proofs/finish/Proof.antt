@@ -6,7 +6,7 @@ use mir.Val.{toZ, ofZ}
 use mir.Facts.{toZ-ofZ}
 use borrow.Author.Needs.{needs, sfits-of}
 use Rattle.double_array.specs.DoubleArray.{headCheck}
-use Rattle.list.specs.Table.{orderOf}
+use Rattle.rows.specs.Table.{orderOf}
 use Rattle.build.proofs.finish.Statement.{statement}
 use Rattle.build.proofs.finish.Tie as tie
 

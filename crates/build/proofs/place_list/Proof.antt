@@ -7,9 +7,9 @@ use denote.Ref.{now}
 use borrow.Author.Needs.{needs}
 use Rattle.double_array.proofs.DoubleArray.{sizes-told}
 use Rattle.free_slots.specs.Chain.{Linked}
-use Rattle.build.specs.ListTrie.{placedList}
-use Rattle.build.specs.Steps.{placedNodes, Filled, Tried}
-use Rattle.build.proofs.Turn.{filled-check, filled-here}
+use Rattle.list_trie.specs.ListTrie.{placedList}
+use Rattle.list_trie.specs.Steps.{placedNodes, Filled, Tried}
+use Rattle.list_trie.proofs.Turn.{filled-check, filled-here}
 use Rattle.build.proofs.Outcome.{filled-none, list-past, built-accepted, built-refused}
 use Rattle.build.proofs.place_list.Statement.{statement}
 use Rattle.build.proofs.place_list.Tie as tie

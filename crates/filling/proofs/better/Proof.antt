@@ -5,7 +5,7 @@ use native.Mathlib.Omega.{arith}
 use denote.Ref.{now}
 use borrow.Author.Needs.{needs}
 use borrow.Author.Tests.{not-true, not-false}
-use Rattle.list.specs.Table.{rowsOf, lengthOf}
+use Rattle.rows.specs.Table.{rowsOf, lengthOf}
 use Rattle.filling.proofs.Next.{least-same, best-new, best-old}
 use Rattle.filling.proofs.better.Statement.{statement}
 use Rattle.filling.proofs.better.Tie as tie

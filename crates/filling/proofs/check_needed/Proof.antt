@@ -4,7 +4,7 @@ use mathlib.Core.Bool.{true}
 use Prim.Native.Nat.{ℕ, _*_, _/_, _<_, _≤_}
 use native.Mathlib.Omega.{arith}
 use borrow.Author.Needs.{needs}
-use Rattle.list.specs.Table.{rowsOf, orderOf}
+use Rattle.rows.specs.Table.{rowsOf, orderOf}
 use Rattle.list.proofs.Check.{checked-size}
 use Rattle.filling.proofs.Refusals.{checks-as, checks-five, checks-many, checks-short, checks-none}
 use Rattle.filling.proofs.check_needed.Statement.{statement}

@@ -1,131 +1,89 @@
--- Invariant: as many rows as were counted have a key below the floor, and their p is in range if `fits` says so.
+-- Invariant: as many rows of the filled list as were counted come before the next one, and their p is in range if `fits` says so.
 use mathlib.Core.Path.{_≡_, refl, _∙_}
 use mathlib.Core.Bool.{Bool, true}
 use mathlib.Core.List.{List}
-use Prim.Native.Nat.{ℕ, suc, _+_, _-_, _<_, _≤_}
+use Prim.Native.Nat.{ℕ, _+_, _-_, _<_}
 use native.Mathlib.Omega.{arith}
 use lib.IntN.{ℤ}
 use Rattle.backoff.specs.declared.Verdict.the-variants.{Accepted}
-use Rattle.list.specs.Table.{rowsOf, words}
+use Rattle.rows.specs.Table.{rowsOf, words}
 use Rattle.list.specs.Check.{verdictFor}
 use Rattle.list.proofs.Check.{checked-good, checked-size}
 use Rattle.filling.specs.Filled.{filledTable}
 use Rattle.filling.specs.Fill.{addable}
-use Rattle.filling.specs.Next.{lastWords}
+use Rattle.filling.specs.Next.{lastWords, ComesNext}
 use Rattle.filling.proofs.FilledRows.{filled-few}
 use Rattle.filling.proofs.FilledTable.{filled-rows}
-use Rattle.filling.proofs.Next.{Filling, filling-starts, filling-ends, filling-asks, filling-row, filling-high, filling-on, filling-longer, zeros-room}
+use Rattle.filling.proofs.Next.{filling-starts, filling-ends, next-words, next-high, next-on}
 use Rattle.filling.proofs.Ends.{best-end, addable-more, none-needing}
 use Rattle.filling.proofs.count_rows.Statement.{statement}
 use Rattle.filling.proofs.count_rows.Tie as tie
 
-record Counting (t : List ℤ) (n m high low count : ℕ) (fits : Bool) : Type 0 where
+record Counting (t : List ℤ) (n count words′ row high low : ℕ) (fits : Bool) : Type 0 where
   checked : verdictFor true t ≡ Accepted
-  filling : Filling t checked n m high low count
+  next : ComesNext t n count words′ row high low
   in-range : fits ≡ true → (j : ℕ) → j < count → addable t (words (filledTable t) j) ≡ true
 
-all-passed : {a b : ℕ} → a ≤ b → b ≤ a → a ≡ b
-all-passed l m = omega arith
-
 abbrev Inv-loop : tie.InvT-loop
-Inv-loop table n rows near₀ m₀ floor₀ count₀ fits₀ near m floor count fits = Counting table n m (floor .high) (floor .low) count fits
+Inv-loop table n near₀ next₀ count₀ fits₀ near next count fits = Counting table n count (next .words) (next .row) (next .key .high) (next .key .low) fits
 
 abbrev μ-loop : tie.MeasureT-loop
-μ-loop table n rows near₀ m₀ floor₀ count₀ fits₀ near m floor count fits = suc n - m + (rowsOf (filledTable table) - count)
+μ-loop table n near₀ next₀ count₀ fits₀ near next count fits = rowsOf (filledTable table) - count
+
+next-end-requires : tie.Need-next-end-requires Inv-loop μ-loop
+next-end-requires c κs = let p = c .before .pre in (p .0, (0, filling-starts _ (p .0) _ (p .1)))
 
 loop-holds : tie.Need-loop-holds Inv-loop μ-loop
-loop-holds c = record { checked = c .pre .0; filling = filling-starts _ (c .pre .0) _ (c .pre .1); in-range = λ e j l. absurd (omega arith) }
-
-next-row-requires : tie.Need-next-row-requires Inv-loop μ-loop
-next-row-requires c κs =
-    let v = c .before .before .loop .inv in
-    let a = filling-asks _ (v .checked) _ _ _ _ _ (v .filling) (c .before .loop-test .taken) in
-    (checked-good true _ (v .checked), a .0, a .1, a .2, a .3, a .4)
-
--- where a row was found
-abbrev start : tie.After-next-row Inv-loop μ-loop → tie.Start Inv-loop μ-loop
-start d = d .before .before .before .before
-
-module _ (d : tie.After-next-row Inv-loop μ-loop) (w : d .next-row .result .row < rowsOf (start d .args .table .now)) where
-  abbrev v : Counting (start d .args .table .now) (start d .args .n) (d .before .before .before .loop .m) (d .before .before .before .loop .floor .high) (d .before .before .before .loop .floor .low) (d .before .before .before .loop .count) (d .before .before .before .loop .fits)
-  v = d .before .before .before .loop .inv
-
-  found : (d .before .before .before .loop .count < rowsOf (filledTable (start d .args .table .now))) × (words (filledTable (start d .args .table .now)) (d .before .before .before .loop .count) ≡ lastWords (start d .args .table .now) (d .next-row .result .row) (d .before .before .before .loop .m))
-  found = filling-row _ (v .checked) _ _ _ _ _ (v .filling) (d .before .before .loop-test .taken) _ _ _ (d .next-row .ensures) w
-
-  few : d .before .before .before .loop .count + 1 ≤ 393210
-  few =
-      let g = checked-good true _ (v .checked) in
-      let s = checked-size true _ (v .checked) .1 in
-      omega (arith, found .0, filled-rows _ g, filled-few _ g)
-
-inside : (c : tie.Then1 Inv-loop μ-loop) → c .before .before .next-row .result .row < rowsOf (start (c .before .before) .args .table .now)
-unfolding rowsOf
-inside c = c .if1 .taken
+loop-holds c =
+    let p = c .before .before .pre in
+    record { checked = p .0; next = c .next-end .ensures 0 (filling-starts _ (p .0) _ (p .1)); in-range = λ e j l. absurd (omega arith) }
 
 end-fits-requires : tie.Need-end-fits-requires Inv-loop μ-loop
 end-fits-requires c κs =
-    let d = c .before .before in
-    let v = d .before .before .before .loop .inv in
-    best-end _ (v .checked) _ _ _ _ _ _ (v .filling .some) (d .next-row .ensures) (inside c) _ refl
+    let v = c .before .before .loop .inv in
+    let l = c .if1 .taken in
+    best-end _ (v .checked) _ _ _ _ _ _ (v .next .filling .some) (v .next .best l) (v .next .one l) _ refl
 
-key-after-requires : tie.Need-key-after-requires Inv-loop μ-loop
-key-after-requires c κs =
-    let d = c .before .before .before in
-    let v = d .before .before .before .loop .inv in
-    filling-high _ (v .checked) _ _ _ _ _ (v .filling) (d .before .before .loop-test .taken) _ _ _ (d .next-row .ensures) (inside (c .before))
+-- one row more of the filled list
+found : (c : tie.Then1 Inv-loop μ-loop) → let l = c .before .before in (l .loop .count < rowsOf (filledTable (l .before .before .before .args .table .now))) × (words (filledTable (l .before .before .before .args .table .now)) (l .loop .count) ≡ lastWords (l .before .before .before .args .table .now) (l .loop .next .row) (l .loop .next .words))
+found c = let v = c .before .before .loop .inv in next-words _ (v .checked) _ _ _ _ _ _ (v .next) (c .if1 .taken)
 
 add-count : tie.Need-add-count Inv-loop μ-loop
-add-count c = let h = few (c .before .before .before .before) (inside (c .before .before)) in omega arith
+add-count c =
+    let i = c .before in
+    let v = i .before .before .loop .inv in
+    let g = checked-good true _ (v .checked) in
+    let s = checked-size true _ (v .checked) .1 in
+    omega (arith, found i .0, filled-rows _ g, filled-few _ g)
+
+key-after-requires : tie.Need-key-after-requires Inv-loop μ-loop
+key-after-requires c κs = let i = c .before in let v = i .before .before .loop .inv in next-high _ (v .checked) _ _ _ _ _ _ (v .next) (i .if1 .taken)
+
+next-end-requires-2 : tie.Need-next-end-requires-2 Inv-loop μ-loop
+next-end-requires-2 c κs =
+    let i = c .before .before .before in
+    let l = i .before .before in
+    let v = l .loop .inv in
+    (v .checked, (l .loop .count + 1, next-on _ (v .checked) _ _ _ _ _ _ (v .next) (i .if1 .taken) _ _ (c .before .key-after .ensures)))
 
 loop-less : tie.Need-loop-less Inv-loop μ-loop
-loop-less c = let h = found (c .before .before .before .before) (inside (c .before .before)) .0 in omega arith
+loop-less c = let h = found (c .before .before .before .before) .0 in omega arith
 
 loop-again : tie.Need-loop-again Inv-loop μ-loop
 loop-again c =
-    let e = c .before in
-    let d = e .before .before .before in
-    let v = d .before .before .before .loop .inv in
+    let e = c .before .before .before in
+    let i = e .before in
+    let v = i .before .before .loop .inv in
     record {
       checked = v .checked;
-      filling = filling-on _ (v .checked) _ _ _ _ _ (v .filling) (d .before .before .loop-test .taken) _ _ _ (d .next-row .ensures) (inside (e .before)) _ _ (c .key-after .ensures);
-      in-range = addable-more _ (v .checked) _ _ _ _ (v .in-range) (e .end-fits .ensures) (found d (inside (e .before)) .1);
-    }
-
-with-zeros-requires : tie.Need-with-zeros-requires Inv-loop μ-loop
-with-zeros-requires c κs =
-    let d = c .before .before in
-    let v = d .before .before .before .loop .inv in
-    zeros-room _ (v .checked) _ _ _ _ _ (v .filling) (d .before .before .loop-test .taken)
-
-add-m : tie.Need-add-m Inv-loop μ-loop
-add-m c =
-    let d = c .before .before .before in
-    let v = d .before .before .before .loop .inv in
-    let a = filling-asks _ (v .checked) _ _ _ _ _ (v .filling) (d .before .before .loop-test .taken) in
-    omega (arith, a .1, a .2)
-
-loop-less-2 : tie.Need-loop-less-2 Inv-loop μ-loop
-loop-less-2 c = let l = c .before .before .before .before .before .loop-test .taken in omega arith
-
-loop-again-2 : tie.Need-loop-again-2 Inv-loop μ-loop
-unfolding rowsOf
-loop-again-2 c =
-    let d = c .before .before .before in
-    let v = d .before .before .before .loop .inv in
-    let b = d .next-row .ensures in
-    let e = b .least .within in
-    let o = c .before .if1 .left in
-    record {
-      checked = v .checked;
-      filling = filling-longer _ (v .checked) _ _ _ _ _ (v .filling) (d .before .before .loop-test .taken) _ _ _ b (all-passed e o) _ _ (c .with-zeros .ensures);
-      in-range = v .in-range;
+      next = c .next-end2 .ensures _ (next-on _ (v .checked) _ _ _ _ _ _ (v .next) (i .if1 .taken) _ _ (c .before .before .key-after .ensures));
+      in-range = addable-more _ (v .checked) _ _ _ _ (v .in-range) (e .end-fits .ensures) (found i .1);
     }
 
 returns : tie.Need-returns Inv-loop μ-loop
 returns c =
-    let v = c .before .loop .inv in
-    let e = filling-ends _ (v .checked) _ _ _ _ _ (v .filling) (c .loop-test .left) in
+    let v = c .before .before .loop .inv in
+    let e = filling-ends _ (v .checked) _ _ _ _ _ (v .next .filling) (c .if1 .left) in
     record {
       rows-are = e ∙ filled-rows _ (checked-good true _ (v .checked));
       none = λ z. none-needing _ (v .checked) (λ j l. v .in-range z j (omega arith));
@@ -134,4 +92,15 @@ returns c =
 pub count-rows-spec : {M : Type 1} → statement M
 count-rows-spec =
     tie.close
-    (tie.spec Inv-loop μ-loop loop-holds next-row-requires end-fits-requires key-after-requires add-count loop-less loop-again with-zeros-requires add-m loop-less-2 loop-again-2 returns)
+    (tie.spec
+    Inv-loop
+    μ-loop
+    next-end-requires
+    loop-holds
+    end-fits-requires
+    add-count
+    key-after-requires
+    next-end-requires-2
+    loop-less
+    loop-again
+    returns)

@@ -4,7 +4,7 @@ use native.Mathlib.Omega.{arith}
 use lib.Dec.{lit<}
 use mir.Facts.{toZ-ofZ}
 use borrow.Author.Needs.{sfits-of}
-use Rattle.list.proofs.Table.{row-in}
+use Rattle.rows.proofs.Table.{row-in}
 use Rattle.filling.proofs.Ends.{own-backoff, added-backoff}
 use Rattle.filling.proofs.end_backoff.Statement.{statement}
 use Rattle.filling.proofs.end_backoff.Tie as tie

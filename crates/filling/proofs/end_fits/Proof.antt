@@ -6,7 +6,7 @@ use borrow.Author.Needs.{needs, sfits-of}
 use Rattle.integer.specs.Integer.{between}
 use Rattle.backoff.specs.Limits.{leastProbability}
 use Rattle.backoff.specs.Model.{inProbability}
-use Rattle.list.proofs.Table.{row-in}
+use Rattle.rows.proofs.Table.{row-in}
 use Rattle.filling.proofs.Ends.{addable-by}
 use Rattle.filling.proofs.end_fits.Statement.{statement}
 use Rattle.filling.proofs.end_fits.Tie as tie

@@ -8,7 +8,7 @@ use lib.IntN.{ℤ, _+ℤ_}
 use denote.Ref.{now}
 use mir.Syntax.{w32}
 use mir.Val.{toZ, ofZ}
-use Rattle.list.specs.Search.{findIn, isAt}
+use Rattle.row_search.specs.Search.{findIn, isAt}
 use Rattle.list.proofs.Check.{checked-good}
 use Rattle.filling.specs.Filled.{filledBackoff}
 use Rattle.filling.specs.Points.{wordsFrom, rowProbability}

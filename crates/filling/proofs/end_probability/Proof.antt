@@ -4,7 +4,7 @@ use native.Mathlib.Omega.{arith}
 use lib.Dec.{lit<}
 use mir.Facts.{toZ-ofZ}
 use borrow.Author.Needs.{needs, sfits-of}
-use Rattle.list.proofs.Table.{row-in, length-limit}
+use Rattle.rows.proofs.Table.{row-in, length-limit}
 use Rattle.filling.proofs.Points.{end-places}
 use Rattle.filling.proofs.Ends.{own-probability, added-probability, added-absent}
 use Rattle.filling.proofs.end_probability.Statement.{statement}

@@ -2,7 +2,7 @@
 use native.Mathlib.Omega.{arith}
 use borrow.Author.Needs.{needs}
 use lib.ListN.{length}
-use Rattle.list.specs.Table.{rowsOf, orderOf}
+use Rattle.rows.specs.Table.{rowsOf, orderOf}
 use Rattle.list.proofs.Check.{checked-size}
 use Rattle.filling.proofs.Refusals.{Fills, fill-accepted, outcome-refused, outcome-accepted}
 use Rattle.filling.proofs.Meaning.{fill-means}

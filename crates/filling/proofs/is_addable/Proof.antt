@@ -11,8 +11,8 @@ use borrow.Author.Needs.{needs, sfits-of}
 use Rattle.integer.specs.Integer.{between}
 use Rattle.backoff.specs.Limits.{leastProbability}
 use Rattle.backoff.specs.Model.{inProbability}
-use Rattle.list.specs.Search.{findIn, isAt}
-use Rattle.list.proofs.Table.{row-in, length-limit}
+use Rattle.rows.proofs.Table.{row-in, length-limit}
+use Rattle.row_search.specs.Search.{findIn, isAt}
 use Rattle.filling.specs.Next.{lastWords}
 use Rattle.filling.proofs.Refusals.{addable-listed, addable-unlisted}
 use Rattle.filling.proofs.Points.{end-words-are, end-places, end-points-are}

@@ -5,8 +5,8 @@ use Prim.Native.Nat.{ℕ, _<_, _≤_}
 use native.Mathlib.Omega.{arith}
 use lib.IntN.{ℤ}
 use borrow.Author.Tests.{not-true, not-false}
-use Rattle.list.specs.Table.{rowsOf, lengthOf}
-use Rattle.list.proofs.Table.{row-in}
+use Rattle.rows.specs.Table.{rowsOf, lengthOf}
+use Rattle.rows.proofs.Table.{row-in}
 use Rattle.filling.specs.Fill.{neededFault}
 use Rattle.filling.proofs.Refusals.{leftFault, left-all, left-fails, left-passes, left-none}
 use Rattle.filling.proofs.needed_fault.Statement.{statement}

@@ -1,6 +1,6 @@
 -- `filling::needing_row` meets its contract. Assumes nothing.
 use native.Mathlib.Omega.{arith}
-use Rattle.list.specs.Table.{rowsOf}
+use Rattle.rows.specs.Table.{rowsOf}
 use Rattle.filling.proofs.needing_row.Statement.{statement}
 use Rattle.filling.proofs.needing_row.Tie as tie
 

@@ -5,8 +5,8 @@ use Prim.Native.Nat.{ℕ, suc, _-_, _<_, _≤_}
 use native.Mathlib.Numerals.{add-one}
 use native.Mathlib.Omega.{arith}
 use lib.IntN.{ℤ}
-use Rattle.list.specs.Table.{rowsOf}
-use Rattle.list.specs.Keys.{keyOf}
+use Rattle.rows.specs.Table.{rowsOf}
+use Rattle.rows.specs.Keys.{keyOf}
 use Rattle.filling.specs.Next.{Best}
 use Rattle.filling.proofs.Next.{best-start, best-as}
 use Rattle.filling.proofs.next_row.Statement.{statement}

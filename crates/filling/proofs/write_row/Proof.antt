@@ -13,7 +13,7 @@ use borrow.Author.Needs.{needs, sfits-of}
 use Rattle.integer.proofs.Arithmetic.{zarith}
 use Rattle.backoff.specs.Limits.{orderLimit}
 use Rattle.backoff.specs.Words.{areWords}
-use Rattle.list.proofs.Table.{row-in, length-limit}
+use Rattle.rows.proofs.Table.{row-in, length-limit}
 use Rattle.filling.specs.Next.{lastWords}
 use Rattle.filling.specs.Points.{wordsFrom}
 use Rattle.filling.proofs.Points.{end-words-are, end-places}

@@ -1,74 +1,61 @@
--- Invariant: the rows whose key is below the floor are written, and the rest of the table is as it was.
+-- Invariant: the rows ahead of the next one are written, and the rest of the table is as it was.
 use mathlib.Core.Path.{_≡_, sym, ap, _∙_}
 use mathlib.Core.Bool.{true}
 use mathlib.Core.List.{List}
-use Prim.Native.Nat.{ℕ, suc, _+_, _*_, _-_, _<_, _≤_}
+use Prim.Native.Nat.{ℕ, _+_, _*_, _-_, _<_, _≤_}
 use native.Mathlib.Omega.{arith}
 use lib.ListN.{length, length-take, length-drop}
 use lib.IntN.{ℤ}
 use borrow.Author.Needs.{needs}
 use Rattle.backoff.specs.declared.Verdict.the-variants.{Accepted}
-use Rattle.list.specs.Table.{rowsOf, words}
+use Rattle.rows.specs.Table.{rowsOf, words}
+use Rattle.rows.proofs.Table.{row-in}
 use Rattle.list.specs.Check.{verdictFor}
-use Rattle.list.proofs.Table.{row-in}
-use Rattle.list.proofs.Check.{checked-good}
 use Rattle.filling.specs.Filled.{filledRow, filledTable}
-use Rattle.filling.specs.Next.{lastWords}
-use Rattle.filling.proofs.Next.{filling-asks, filling-row, filling-high, filling-on, filling-longer, zeros-room}
+use Rattle.filling.specs.Next.{lastWords, ComesNext}
+use Rattle.filling.proofs.Next.{filling-starts, filling-ends, next-words, next-high, next-on}
 use Rattle.filling.proofs.Ends.{best-end}
-use Rattle.filling.proofs.Written.{Writing, writing-starts, writing-length, writing-ends, writing-same, writing-room, writing-on}
+use Rattle.filling.proofs.Written.{Writing, writing-starts, writing-length, writing-ends, writing-room, writing-on}
 use Rattle.filling.proofs.write_rows.Statement.{statement}
 use Rattle.filling.proofs.write_rows.Tie as tie
 
-record Under (t second : List ℤ) (n m high low start : ℕ) (filled : List ℤ) : Type 0 where
+record Under (t second : List ℤ) (n words′ row high low start : ℕ) (filled : List ℤ) : Type 0 where
   checked : verdictFor true t ≡ Accepted
-  writing : Writing t checked second n m high low start filled
-
-all-passed : {a b : ℕ} → a ≤ b → b ≤ a → a ≡ b
-all-passed l m = omega arith
+  place : ℕ
+  next : ComesNext t n place words′ row high low
+  writing : Writing t checked second place start filled
 
 abbrev Inv-loop : tie.InvT-loop
-Inv-loop table n filled₀ rows near₀ m₀ floor₀ start₀ filled near m floor start = Under table filled₀ n m (floor .high) (floor .low) start filled
+Inv-loop table n filled₀ near₀ next₀ start₀ filled near next start = Under table filled₀ n (next .words) (next .row) (next .key .high) (next .key .low) start filled
 
 abbrev μ-loop : tie.MeasureT-loop
-μ-loop table n filled₀ rows near₀ m₀ floor₀ start₀ filled near m floor start = suc n - m + (8 * rowsOf (filledTable table) - start)
+μ-loop table n filled₀ near₀ next₀ start₀ filled near next start = 8 * rowsOf (filledTable table) - start
+
+next-end-requires : tie.Need-next-end-requires Inv-loop μ-loop
+next-end-requires c κs = let p = c .before .pre in (p .0, (0, filling-starts _ (p .0) _ (p .1)))
 
 loop-holds : tie.Need-loop-holds Inv-loop μ-loop
-loop-holds c = let p = c .pre in record { checked = p .0; writing = writing-starts _ (p .0) _ _ (p .1) (p .2) }
-
-next-row-requires : tie.Need-next-row-requires Inv-loop μ-loop
-next-row-requires c κs =
-    let v = c .before .before .loop .inv in
-    let a = filling-asks _ (v .checked) _ _ _ _ _ (v .writing .filling) (c .before .loop-test .taken) in
-    (checked-good true _ (v .checked), a .0, a .1, a .2, a .3, a .4)
-
--- where a row was found
-inside : (c : tie.Then1 Inv-loop μ-loop) → c .before .before .next-row .result .row < rowsOf (c .before .before .before .before .before .before .args .table .now)
-unfolding rowsOf
-inside c = c .if1 .taken
+loop-holds c =
+    let p = c .before .before .pre in
+    record { checked = p .0; place = 0; next = c .next-end .ensures 0 (filling-starts _ (p .0) _ (p .1)); writing = writing-starts _ (p .0) _ (p .2) }
 
 abbrev lent : tie.Then1 Inv-loop μ-loop → List ℤ
-lent c = c .before .before .before .before .before .before .args .table .now
+lent c = c .before .before .before .before .before .args .table .now
 
-abbrev under : (c : tie.Then1 Inv-loop μ-loop) → Under (lent c) (c .before .before .before .before .before .before .args .filled .now) (c .before .before .before .before .before .before .args .n) (c .before .before .before .before .before .loop .m) (c .before .before .before .before .before .loop .floor .high) (c .before .before .before .before .before .loop .floor .low) (c .before .before .before .before .before .loop .start) (c .before .before .before .before .before .loop .filled)
-under c = c .before .before .before .before .before .loop .inv
+abbrev under : (c : tie.Then1 Inv-loop μ-loop) → let l = c .before .before in Under (lent c) (l .before .before .before .args .filled .now) (l .before .before .before .args .n) (l .loop .next .words) (l .loop .next .row) (l .loop .next .key .high) (l .loop .next .key .low) (l .loop .start) (l .loop .filled)
+under c = c .before .before .loop .inv
 
-found : (c : tie.Then1 Inv-loop μ-loop) → (under c .writing .place < rowsOf (filledTable (lent c))) × (words (filledTable (lent c)) (under c .writing .place) ≡ lastWords (lent c) (c .before .before .next-row .result .row) (c .before .before .before .before .before .loop .m))
-found c =
-    let d = c .before .before in
-    let v = d .before .before .before .loop .inv in
-    filling-row _ (v .checked) _ _ _ _ _ (v .writing .filling) (d .before .before .loop-test .taken) _ _ _ (d .next-row .ensures) (inside c)
+found : (c : tie.Then1 Inv-loop μ-loop) → let l = c .before .before in (under c .place < rowsOf (filledTable (lent c))) × (words (filledTable (lent c)) (under c .place) ≡ lastWords (lent c) (l .loop .next .row) (l .loop .next .words))
+found c = let v = under c in next-words _ (v .checked) _ _ _ _ _ _ (v .next) (c .if1 .taken)
 
-room : (c : tie.Then1 Inv-loop μ-loop) → (c .before .before .before .before .before .loop .start + 8 ≤ length (c .before .before .before .before .before .loop .filled)) × (c .before .before .before .before .before .loop .start + 8 ≤ 3145680)
-room c =
-    let v = c .before .before .before .before .before .loop .inv in
-    writing-room _ (v .checked) _ _ _ _ _ _ _ (v .writing) (found c .0)
+room : (c : tie.Then1 Inv-loop μ-loop) → let l = c .before .before in (l .loop .start + 8 ≤ length (l .loop .filled)) × (l .loop .start + 8 ≤ 3145680)
+room c = let v = under c in writing-room _ (v .checked) _ _ _ _ (v .writing) (v .next .filling .bracket .within) (found c .0)
 
 add-end : tie.Need-add-end Inv-loop μ-loop
 add-end c = let h = room c .1 in omega arith
 
 length-of-requires : tie.Need-length-of-requires Inv-loop μ-loop
-length-of-requires c κs = row-in _ _ (inside c)
+length-of-requires c κs = row-in _ _ (under c .next .one (c .if1 .taken))
 
 mul-write-row : tie.Need-mul-write-row Inv-loop μ-loop
 mul-write-row c = let h = room (c .before) .1 in omega arith
@@ -86,69 +73,43 @@ write-row-requires : tie.Need-write-row-requires Inv-loop μ-loop
 write-row-requires c κs =
     let d = c .before .before in
     let v = under d in
-    (best-end _ (v .checked) _ _ _ _ _ _ (v .writing .filling .some) (d .before .before .next-row .ensures) (inside d) _ (c .before .length-of .ensures .0), rw (length-take, length-drop) (omega (arith, room d .0)))
+    let l = d .if1 .taken in
+    (best-end _ (v .checked) _ _ _ _ _ _ (v .next .filling .some) (v .next .best l) (v .next .one l) _ (c .before .length-of .ensures .0), rw (length-take, length-drop) (omega (arith, room d .0)))
 
 key-after-requires : tie.Need-key-after-requires Inv-loop μ-loop
-key-after-requires c κs =
-    let t = c .before .before .before .before in
-    let d = t .before .before in
+key-after-requires c κs = let t = c .before .before .before .before in let v = under t in next-high _ (v .checked) _ _ _ _ _ _ (v .next) (t .if1 .taken)
+
+next-end-requires-2 : tie.Need-next-end-requires-2 Inv-loop μ-loop
+next-end-requires-2 c κs =
+    let t = c .before .before .before .before .before .before in
     let v = under t in
-    filling-high _ (v .checked) _ _ _ _ _ (v .writing .filling) (d .before .before .loop-test .taken) _ _ _ (d .next-row .ensures) (inside t)
+    (v .checked, (v .place + 1, next-on _ (v .checked) _ _ _ _ _ _ (v .next) (t .if1 .taken) _ _ (c .before .key-after .ensures)))
 
 loop-less : tie.Need-loop-less Inv-loop μ-loop
-loop-less c =
-    let t = c .before .before .before .before .before in
-    omega (arith, found t .0, under t .writing .at)
+loop-less c = let t = c .before .before .before .before .before .before .before in omega (arith, found t .0, under t .writing .at)
 
 loop-again : tie.Need-loop-again Inv-loop μ-loop
 loop-again c =
-    let t = c .before .before .before .before .before in
-    let d = t .before .before in
+    let k = c .before .before in
+    let r = k .before .before in
+    let t = r .before .before .before in
     let v = under t in
     record {
       checked = v .checked;
+      place = v .place + 1;
+      next = c .next-end2 .ensures _ (next-on _ (v .checked) _ _ _ _ _ _ (v .next) (t .if1 .taken) _ _ (k .key-after .ensures));
       writing =
-          writing-on _ (v .checked) _ _ _ _ _ _ _ (v .writing) (found t .0) _ _ _
-          (c .before .before .write-row .ensures ∙ ap (filledRow (lent t)) (sym (found t .1)))
-          (filling-on _ (v .checked) _ _ _ _ _ (v .writing .filling) (d .before .before .loop-test .taken) _ _ _ (d .next-row .ensures) (inside t) _ _ (c .key-after .ensures));
-    }
-
-with-zeros-requires : tie.Need-with-zeros-requires Inv-loop μ-loop
-with-zeros-requires c κs =
-    let d = c .before .before in
-    let v = d .before .before .before .loop .inv in
-    zeros-room _ (v .checked) _ _ _ _ _ (v .writing .filling) (d .before .before .loop-test .taken)
-
-add-m : tie.Need-add-m Inv-loop μ-loop
-add-m c =
-    let d = c .before .before .before in
-    let v = d .before .before .before .loop .inv in
-    let a = filling-asks _ (v .checked) _ _ _ _ _ (v .writing .filling) (d .before .before .loop-test .taken) in
-    omega (arith, a .1, a .2)
-
-loop-less-2 : tie.Need-loop-less-2 Inv-loop μ-loop
-loop-less-2 c = let l = c .before .before .before .before .before .loop-test .taken in omega arith
-
-loop-again-2 : tie.Need-loop-again-2 Inv-loop μ-loop
-unfolding rowsOf
-loop-again-2 c =
-    let d = c .before .before .before in
-    let v = d .before .before .before .loop .inv in
-    let b = d .next-row .ensures in
-    let e = b .least .within in
-    let o = c .before .if1 .left in
-    record {
-      checked = v .checked;
-      writing =
-          writing-same _ (v .checked) _ _ _ _ _ _ _ (v .writing) _ _ _
-          (filling-longer _ (v .checked) _ _ _ _ _ (v .writing .filling) (d .before .before .loop-test .taken) _ _ _ b (all-passed e o) _ _ (c .with-zeros .ensures));
+          writing-on _ (v .checked) _ _ _ _ (v .writing) (v .next .filling .bracket .within) (found t .0) _
+          (r .write-row .ensures ∙ ap (filledRow (lent t)) (sym (found t .1)));
     }
 
 same-length : tie.Need-same-length Inv-loop μ-loop
-same-length c = let v = c .before .loop .inv in writing-length _ (v .checked) _ _ _ _ _ _ _ (v .writing)
+same-length c = let v = c .before .before .loop .inv in writing-length _ (v .checked) _ _ _ _ (v .writing) (v .next .filling .bracket .within)
 
 returns : tie.Need-returns Inv-loop μ-loop
-returns c = let v = c .before .loop .inv in writing-ends _ (v .checked) _ _ _ _ _ _ _ (v .writing) (c .loop-test .left)
+returns c =
+    let v = c .before .before .loop .inv in
+    writing-ends _ (v .checked) _ _ _ _ (v .writing) (v .next .filling .bracket .within) (filling-ends _ (v .checked) _ _ _ _ _ (v .next .filling) (c .if1 .left))
 
 pub write-rows-spec : {M : Type 1} → statement M
 write-rows-spec =
@@ -156,8 +117,8 @@ write-rows-spec =
     (tie.spec
     Inv-loop
     μ-loop
+    next-end-requires
     loop-holds
-    next-row-requires
     add-end
     length-of-requires
     mul-write-row
@@ -166,11 +127,8 @@ write-rows-spec =
     part-write-row-end
     write-row-requires
     key-after-requires
+    next-end-requires-2
     loop-less
     loop-again
-    with-zeros-requires
-    add-m
-    loop-less-2
-    loop-again-2
     same-length
     returns)

@@ -7,7 +7,7 @@ use Rattle.backoff.specs.Store.{runOver}
 use Rattle.backoff.specs.declared.Verdict.the-variants.{Accepted}
 use Rattle.double_array.specs.DoubleArray.{storeIn, opened}
 use Rattle.double_array.proofs.DoubleArray.{opened-head}
-use Rattle.score.proofs.Carried.{Four}
+use Rattle.carried_state.proofs.Carried.{Four}
 use Rattle.fragments.specs.declared.Joined.{Joined}
 use Rattle.fragments.specs.Outcome.{fragmentIn, crossed, joinedAs, joinedIn, joinOutcome}
 use Rattle.fragments.specs.Meaning.{JoinMeans}

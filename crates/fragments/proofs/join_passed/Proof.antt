@@ -18,8 +18,8 @@ use Rattle.backoff.specs.Store.{Store, Ran, runOver}
 use Rattle.backoff.proofs.NineNumbers.{Bounded, stateOk-bounded}
 use Rattle.double_array.specs.DoubleArray.{storeIn}
 use Rattle.double_array.proofs.DoubleArray.{opened-order}
-use Rattle.score.specs.Answers.{numbersOf}
-use Rattle.score.proofs.Carried.{Four, length-numbers}
+use Rattle.carried_state.specs.Numbers.{numbersOf}
+use Rattle.carried_state.proofs.Carried.{Four, length-numbers}
 use Rattle.fragments.specs.declared.Fragment.{Fragment}
 use Rattle.fragments.specs.Outcome.{keptIn, fragmentIn, toNumbers, crossed, joinedFragment}
 use Rattle.fragments.specs.Inner.{mostPoints, RescoredAs}

@@ -3,7 +3,7 @@ use mathlib.Core.Path.{sym, _∙_}
 use Prim.Native.Nat.{_-_}
 use lib.ListN.{length, length-take}
 use mir.Facts.{toZ-ofZ}
-use Rattle.score.proofs.Carried.{Four, stateFrom-numbers}
+use Rattle.carried_state.proofs.Carried.{Four, stateFrom-numbers}
 use borrow.Author.Needs.{needs}
 use Rattle.fragments.proofs.kept_fragment.Statement.{statement}
 use Rattle.fragments.proofs.kept_fragment.Tie as tie

@@ -13,9 +13,9 @@ use mir.Val.{SFits, toZ, ofZ}
 use mir.Facts.{toZ-ofZ}
 use Rattle.integer.proofs.Arithmetic.{zarith, abs, add, sub}
 use Rattle.backoff.specs.Limits.{runLimit}
-use Rattle.score.specs.declared.State.{State}
-use Rattle.score.specs.Answers.{numbersOf, stateFrom}
-use Rattle.score.proofs.Carried.{Four, stateFrom-numbers}
+use Rattle.carried_state.specs.declared.State.{State}
+use Rattle.carried_state.specs.Numbers.{numbersOf, stateFrom}
+use Rattle.carried_state.proofs.Carried.{Four, stateFrom-numbers}
 use Rattle.fragments.specs.Outcome.{fourPlaces, keptIn, fragmentIn}
 use Rattle.fragments.specs.Inner.{mostPoints}
 use Rattle.fragments.proofs.Crossing.{length-keptIn, keptIn-within}

@@ -3,8 +3,8 @@ use mathlib.Core.Path.{_≡_, sym, ap, _∙_}
 use mathlib.Core.List.{[], _∷_}
 use lib.IntN.{pos}
 use Rattle.backoff.specs.NineNumbers.{nineZeros}
-use Rattle.score.specs.Answers.{stateFrom}
-use Rattle.score.proofs.Carried.{Four, stateFrom-numbers}
+use Rattle.carried_state.specs.Numbers.{stateFrom}
+use Rattle.carried_state.proofs.Carried.{Four, stateFrom-numbers}
 use Rattle.fragments.specs.Fragment.{noWords}
 use Rattle.fragments.specs.Outcome.{fourPlaces}
 use borrow.Author.Needs.{needs}

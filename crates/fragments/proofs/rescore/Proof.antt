@@ -6,8 +6,8 @@ use Rattle.backoff.specs.State.{empty}
 use Rattle.backoff.specs.NineNumbers.{nineZeros, stateIn}
 use Rattle.backoff.specs.Store.{runOver}
 use Rattle.double_array.specs.DoubleArray.{storeIn}
-use Rattle.score.specs.Answers.{numbersOf}
-use Rattle.score.proofs.Carried.{zeros-ok}
+use Rattle.carried_state.specs.Numbers.{numbersOf}
+use Rattle.carried_state.proofs.Carried.{zeros-ok}
 use Rattle.fragments.proofs.Rescoring.{summed-empty, rescored-as}
 use borrow.Author.Needs.{needs, sfits-of}
 use Rattle.fragments.proofs.rescore.Statement.{statement}

@@ -9,8 +9,8 @@ use Rattle.backoff.specs.NineNumbers.{nineZeros}
 use Rattle.backoff.specs.Store.{runOver}
 use Rattle.double_array.specs.DoubleArray.{storeIn}
 use Rattle.double_array.proofs.DoubleArray.{opened-order}
-use Rattle.score.specs.Answers.{numbersOf}
-use Rattle.score.proofs.Carried.{zeros-ok}
+use Rattle.carried_state.specs.Numbers.{numbersOf}
+use Rattle.carried_state.proofs.Carried.{zeros-ok}
 use Rattle.fragments.specs.declared.Fragment.{Fragment}
 use Rattle.fragments.specs.Outcome.{toNumbers, crossed, scoredFragment}
 use Rattle.fragments.proofs.Rescoring.{summed-empty, summed-refused, summed-scored}

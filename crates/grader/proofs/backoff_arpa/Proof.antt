@@ -1,7 +1,7 @@
 -- `grader::backoff_arpa` meets its contract: its numbers are those of the reading's outcome. Assumes nothing.
 use borrow.Author.Needs.{needs}
 use mathlib.Core.Path.{ap, _∙_}
-use Rattle.arpa.specs.Outcome.{numberOf, rowCount, placeOf}
+use Rattle.arpa.specs.Outcome.{readNumber, rowCount, readPlace}
 use Rattle.grader.proofs.backoff_arpa.Statement.{statement}
 use Rattle.grader.proofs.backoff_arpa.Tie as tie
 
@@ -24,14 +24,14 @@ returns c =
     let count = c .row-count-of .ensures in (
       record {
         count = record {
-          number = count .number ∙ ap numberOf (left .answer-is);
+          number = count .number ∙ ap readNumber (left .answer-is);
           rows = count .rows ∙ ap rowCount (left .answer-is);
-          place = count .place ∙ ap placeOf (left .answer-is);
+          place = count .place ∙ ap readPlace (left .answer-is);
         };
         table-is = left .table-is;
         store-is = left .store-is;
       },
-      rw (count .number, count .rows) means,
+      rw (count .number, count .place, count .rows) means,
     )
 
 pub backoff-arpa-spec : {M : Type 1} → statement M

@@ -1,9 +1,7 @@
--- `grader::backoff_build` meets its contract: its numbers are those of build's outcome, and a number 0 says that the array holds the list.
--- Assumes nothing.
+-- `grader::backoff_build` meets its contract: its numbers are those of build's outcome. Assumes nothing.
 use borrow.Author.Needs.{needs}
-use mathlib.Core.Path.{sym, ap, _∙_}
+use mathlib.Core.Path.{ap, _∙_}
 use Rattle.backoff.specs.Refusal.{numberOf, placeOf}
-use Rattle.build.proofs.Built.{build-number}
 use Rattle.grader.proofs.backoff_build.Statement.{statement}
 use Rattle.grader.proofs.backoff_build.Tie as tie
 
@@ -26,10 +24,14 @@ returns : tie.Need-returns
 returns c =
     let built = c .before .before .before .before .before .build .ensures in
     let is = built .0 in
-    let number = c .status-of .ensures .number ∙ ap numberOf (is .answer-is) in
-    let place = c .status-of .ensures .place ∙ ap placeOf (is .answer-is) in (
-      record { status = record { number = number; place = place }; base-is = is .base-is; check-is = is .check-is; work-is = is .work-is },
-      λ e. built .1 (is .answer-is ∙ build-number _ _ _ _ (sym number ∙ e)),
+    let status = c .status-of .ensures in (
+      record {
+        status = record { number = status .number ∙ ap numberOf (is .answer-is); place = status .place ∙ ap placeOf (is .answer-is) };
+        base-is = is .base-is;
+        check-is = is .check-is;
+        work-is = is .work-is;
+      },
+      rw (status .number, status .place) (built .1),
     )
 
 pub backoff-build-spec : {M : Type 1} → statement M

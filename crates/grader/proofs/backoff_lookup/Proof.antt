@@ -2,7 +2,7 @@
 use borrow.Author.Needs.{needs}
 use mathlib.Core.Path.{subst}
 use Rattle.double_array.specs.declared.Lookup.{Lookup}
-use Rattle.grader.specs.Exports.{FoundIs}
+use Rattle.c_answers.specs.Answers.{FoundIs}
 use Rattle.grader.proofs.backoff_lookup.Statement.{statement}
 use Rattle.grader.proofs.backoff_lookup.Tie as tie
 

@@ -14,8 +14,8 @@ use Rattle.grader.proofs.backoff_plain.Statement.{statement}
 use Rattle.grader.proofs.backoff_plain.Tie as tie
 
 -- the total as it is read back from its bits
-same-total : {t : List ℤ} {b : Bool} {r : Run} {n : ℕ} {y z : ℤ} {points : List ℤ} {lengths : List ℕ} → y ≡ z → PlainMeans t b r n z points lengths → PlainMeans t b r n y points lengths
-same-total {t} {b} {r} {n} {y} {z} {points} {lengths} e m = subst (λ (x : ℤ). PlainMeans t b r n x points lengths) (sym e) m
+same-total : {t : List ℤ} {b : Bool} {r : Run} {n k : ℕ} {y z : ℤ} {points : List ℤ} {lengths : List ℕ} → y ≡ z → PlainMeans t b r n k z points lengths → PlainMeans t b r n k y points lengths
+same-total {t} {b} {r} {n} {k} {y} {z} {points} {lengths} e m = subst (λ (x : ℤ). PlainMeans t b r n k x points lengths) (sym e) m
 
 score-plain-requires : tie.Need-score-plain-requires
 score-plain-requires c κs = search needs

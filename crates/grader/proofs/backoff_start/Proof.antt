@@ -2,13 +2,13 @@
 use mathlib.Core.Path.{_∙_}
 use denote.Ref.{now}
 use Rattle.double_array.specs.DoubleArray.{opened}
-use Rattle.grader.proofs.Crossing.{start-wrong-length, start-any, start-crosses}
+use Rattle.grader.proofs.Crossing.{start-wrong-length, start-any, start-crosses, start-means}
 use borrow.Author.Needs.{needs}
 use Rattle.grader.proofs.backoff_start.Statement.{statement}
 use Rattle.grader.proofs.backoff_start.Tie as tie
 
 returns : tie.Need-returns
-returns c = (start-wrong-length _ _ (c .if1 .taken), λ h. absurd (c .if1 .taken h))
+returns c = let is = start-wrong-length _ _ (c .if1 .taken) in (is, start-means _ _ _ is)
 
 start-requires : tie.Need-start-requires
 start-requires c κs = search needs
@@ -24,7 +24,8 @@ returns-2 c =
     let s = c .before .before .before .before .before .before in
     let started = c .before .before .before .before .start .ensures in
     let same = start-any (opened (now (s .args .base)) (now (s .args .check))) (now (s .args .state)) (search needs) in
-    (start-crosses (started .0 ∙ same) (c .before .store .ensures), λ h. rw (c .before .store .ensures) (started .1))
+    let is = start-crosses (started .0 ∙ same) (c .before .store .ensures) in
+    (is, start-means _ _ _ is)
 
 pub backoff-start-spec : {M : Type 1} → statement M
 backoff-start-spec =

@@ -46,7 +46,7 @@ returns c =
     let t = c .before in
     let a = listing (t .before) in
     let s = start a in
-    refused-answers (array s) (s .args .k) (s .args .words .now) (s .args .totals .now) _ (a .list-counted .ensures .0) _ (t .if1 .taken) (c .unnamed .ensures)
+    refused-answers (s .args .base .now) (s .args .check .now) (s .args .k) (s .args .words .now) (s .args .totals .now) _ (a .list-counted .ensures .0) _ (t .if1 .taken) (c .unnamed .ensures)
 
 unnamed-requires-2 : tie.Need-unnamed-requires-2
 unnamed-requires-2 c κs = search needs
@@ -77,7 +77,7 @@ returns-2 c =
     let a = counted k in
     let s = start a in
     let none = named-none (array s) (s .args .k) (sized k .some) (omega (arith, usable-is k, c .before .if2 .taken)) in
-    found-answers (array s) (s .args .k) (s .args .words .now) (s .args .totals .now) _ (a .list-counted .ensures .0) _ (k .before .if1 .left) (c .unnamed2 .ensures ∙ ap moveOf (sym none))
+    found-answers (s .args .base .now) (s .args .check .now) (s .args .k) (s .args .words .now) (s .args .totals .now) _ (a .list-counted .ensures .0) _ (k .before .if1 .left) (c .unnamed2 .ensures ∙ ap moveOf (sym none))
 
 cast-sentences : tie.Need-cast-sentences
 cast-sentences c = search needs
@@ -143,7 +143,7 @@ returns-3 c =
     let k = known f in
     let a = counted k in
     let s = start a in
-    found-answers (array s) (s .args .k) (s .args .words .now) (s .args .totals .now) _ (a .list-counted .ensures .0) _ (k .before .if1 .left)
+    found-answers (s .args .base .now) (s .args .check .now) (s .args .k) (s .args .words .now) (s .args .totals .now) _ (a .list-counted .ensures .0) _ (k .before .if1 .left)
     (returned (f .largest-pair .result) _ (found f) _ (toZ-ofZ (sfits-of (c .struct-told .given .0 .1))))
 
 pub find-largest-move-spec : {M : Type 1} → statement M

@@ -6,7 +6,7 @@ use lib.ListN.{length}
 use denote.Ref.{now}
 use borrow.Author.Tests.{not-true, not-false}
 use borrow.Author.Needs.{needs}
-use Rattle.list.specs.Table.{rowsOf, orderOf}
+use Rattle.rows.specs.Table.{rowsOf, orderOf}
 use Rattle.list.specs.Check.{tableFits}
 use Rattle.list.proofs.Check.{fitting-table, verdict-refused, accepted-refused}
 use Rattle.list.proofs.check_and_mark.Statement.{statement}

@@ -12,15 +12,15 @@ use Rattle.backoff.specs.Limits.{rowLimit}
 use Rattle.backoff.specs.Refusal.{reservedWord}
 use Rattle.backoff.specs.declared.Verdict.{Verdict}
 use Rattle.backoff.specs.declared.Verdict.the-variants.{Accepted, Refused}
-use Rattle.list.specs.Table.{rowsOf, withoutLast}
-use Rattle.list.specs.Search.{findIn}
+use Rattle.rows.specs.Table.{rowsOf, withoutLast}
+use Rattle.rows.specs.Good.{Good}
+use Rattle.rows.proofs.Table.{row-in}
+use Rattle.rows.proofs.Good.{good-none}
+use Rattle.row_search.specs.Search.{findIn}
+use Rattle.row_search.specs.declared.Found.{Found}
 use Rattle.list.specs.Check.{scan, verdictFor}
-use Rattle.list.specs.Good.{Good}
 use Rattle.list.specs.Marks.{markFound, Marked}
-use Rattle.list.specs.declared.Found.{Found}
-use Rattle.list.proofs.Table.{row-in}
-use Rattle.list.proofs.Good.{good-none, good-more}
-use Rattle.list.proofs.Check.{fitting-table, verdict-scan, scan-fault, scan-pass, scan-end, passed-row, accepted-refused, checked-good, checked-before}
+use Rattle.list.proofs.Check.{good-more, fitting-table, verdict-scan, scan-fault, scan-pass, scan-end, passed-row, accepted-refused, checked-good, checked-before}
 use Rattle.list.proofs.Marks.{marked-none, marked-more}
 use Rattle.list.proofs.check_rows.Statement.{statement}
 use Rattle.list.proofs.check_rows.Tie as tie

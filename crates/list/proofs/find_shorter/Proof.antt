@@ -9,10 +9,10 @@ use denote.Ref.{now}
 use borrow.Author.Needs.{needs}
 use Rattle.backoff.specs.Words.{key}
 use Rattle.backoff.proofs.Words.{first-some}
-use Rattle.list.specs.Table.{withoutLast}
-use Rattle.list.proofs.Table.{first-of-two, words-cons}
-use Rattle.list.proofs.Good.{part-good, are-words, are-words-without-last}
-use Rattle.list.proofs.Search.{finds-key}
+use Rattle.rows.specs.Table.{withoutLast}
+use Rattle.rows.proofs.Table.{first-of-two, words-cons}
+use Rattle.rows.proofs.Good.{part-good, are-words, are-words-without-last}
+use Rattle.row_search.proofs.Search.{finds-key}
 use Rattle.list.proofs.find_shorter.Statement.{statement}
 use Rattle.list.proofs.find_shorter.Tie as tie
 

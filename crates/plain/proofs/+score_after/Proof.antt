@@ -15,7 +15,7 @@ use borrow.Fn.Kinds.{In}
 use borrow.Fn.PlainCycle.{Measures, is, falls, and}
 use Rattle.backoff.specs.Model.{Model, AcceptedModel, backoff}
 use Rattle.backoff.specs.Rule as rule
-use Rattle.list.specs.Table.{wordOf, wordsOf}
+use Rattle.rows.specs.Table.{wordOf, wordsOf}
 use Rattle.list.specs.ListModel.{modelOf}
 use Rattle.list.proofs.ListModel.{accepted-model}
 use Rattle.plain.specs.Held.{IsRow, IsScore}

@@ -1,6 +1,6 @@
 -- `plain::begin` meets its contract. Assumes nothing.
 use borrow.Author.Needs.{needs}
-use Rattle.plain.specs.Held.{begun}
+use Rattle.plain.specs.Held.{firstHistory}
 use Rattle.plain.proofs.begin.Statement.{statement}
 use Rattle.plain.proofs.begin.Tie as tie
 
@@ -8,11 +8,11 @@ smaller-requires : tie.Need-smaller-requires
 smaller-requires c κs = search needs
 
 returns : tie.Need-returns
-unfolding begun
+unfolding firstHistory
 returns c = rw (c .before .if1 .taken, c .smaller .ensures)
 
 returns-2 : tie.Need-returns-2
-unfolding begun
+unfolding firstHistory
 returns-2 c = rw (c .if1 .left)
 
 pub begin-spec : {M : Type 1} → statement M

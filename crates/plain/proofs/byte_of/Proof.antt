@@ -2,7 +2,7 @@
 use mathlib.Core.Path.{_∙_}
 use mir.Facts.{toZ-ofZ}
 use borrow.Author.Needs.{needs}
-use Rattle.list.proofs.Table.{row-in}
+use Rattle.rows.proofs.Table.{row-in}
 use Rattle.list.proofs.Check.{accepted-good}
 use Rattle.plain.proofs.byte_of.Statement.{statement}
 use Rattle.plain.proofs.byte_of.Tie as tie

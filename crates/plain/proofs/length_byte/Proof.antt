@@ -14,7 +14,7 @@ use Rattle.integer.specs.Integer.{between, upTo}
 use Rattle.integer.proofs.Arithmetic.{zarith, same-bits}
 use Rattle.backoff.specs.Limits.{unknownWord}
 use Rattle.backoff.specs.Rule.{lengthByte}
-use Rattle.list.specs.Table.{wordOf}
+use Rattle.rows.specs.Table.{wordOf}
 use Rattle.plain.proofs.Words.{wordOf-some}
 use Rattle.plain.proofs.length_byte.Statement.{statement}
 use Rattle.plain.proofs.length_byte.Tie as tie

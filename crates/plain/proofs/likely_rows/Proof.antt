@@ -8,7 +8,7 @@ use mir.Val.{SFits}
 use borrow.Author.Needs.{needs, sfits-of}
 use Rattle.integer.proofs.Ranges.{between-cast}
 use Rattle.backoff.specs.Limits.{wordLimit}
-use Rattle.list.proofs.Table.{word-range}
+use Rattle.rows.proofs.Table.{word-range}
 use Rattle.plain.proofs.likely_rows.Statement.{statement}
 use Rattle.plain.proofs.likely_rows.Tie as tie
 

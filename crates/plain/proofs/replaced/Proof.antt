@@ -12,7 +12,7 @@ use borrow.Author.Needs.{needs}
 use Rattle.backoff.specs.Words.{areWords}
 use Rattle.backoff.specs.Model.{listed}
 use Rattle.backoff.proofs.Words.{words-more}
-use Rattle.list.specs.Table.{wordsOf}
+use Rattle.rows.specs.Table.{wordsOf}
 use Rattle.list.specs.ListModel.{modelOf}
 use Rattle.list.proofs.ListModel.{accepted-model}
 use Rattle.plain.proofs.Words.{wordOf-pos, replaced-known, replaced-unknown, replaced-outside}

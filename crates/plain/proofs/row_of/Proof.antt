@@ -9,11 +9,11 @@ use mir.Syntax.{w32}
 use mir.Val.{SFits}
 use mir.Facts.{toZ-ofZ}
 use borrow.Author.Needs.{needs, sfits-of}
-use Rattle.list.specs.Table.{wordsOf}
-use Rattle.list.specs.Search.{findIn}
-use Rattle.list.specs.declared.Found.the-variants.{At}
-use Rattle.list.proofs.Table.{row-in}
-use Rattle.list.proofs.Search.{found-words}
+use Rattle.rows.specs.Table.{wordsOf}
+use Rattle.rows.proofs.Table.{row-in}
+use Rattle.row_search.specs.Search.{findIn}
+use Rattle.row_search.specs.declared.Found.the-variants.{At}
+use Rattle.row_search.proofs.Search.{found-words}
 use Rattle.list.proofs.Check.{accepted-good}
 use Rattle.list.proofs.ListModel.{accepted-model}
 use Rattle.plain.proofs.TextRule.{long-row}

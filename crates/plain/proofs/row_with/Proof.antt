@@ -12,7 +12,7 @@ use mir.Facts.{toZ-ofZ}
 use borrow.Author.Needs.{needs}
 use Rattle.backoff.specs.Words.{areWords}
 use Rattle.backoff.proofs.Words.{words-more, first-some, first-limit, areWords-snoc}
-use Rattle.list.specs.Table.{wordOf, wordsOf}
+use Rattle.rows.specs.Table.{wordOf, wordsOf}
 use Rattle.list.proofs.ListModel.{accepted-model}
 use Rattle.plain.proofs.TextRule.{long-row}
 use Rattle.plain.proofs.Rows.{row-unlisted}

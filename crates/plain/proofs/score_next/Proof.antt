@@ -11,7 +11,7 @@ use Rattle.backoff.specs.Model.{Model, AcceptedModel}
 use Rattle.backoff.specs.Rule.{replaced}
 use Rattle.backoff.proofs.Words.{first-limit}
 use Rattle.backoff.proofs.Rule.{replaced-listed}
-use Rattle.list.specs.Table.{wordOf}
+use Rattle.rows.specs.Table.{wordOf}
 use Rattle.list.specs.ListModel.{modelOf}
 use Rattle.list.proofs.ListModel.{accepted-model}
 use Rattle.plain.proofs.Words.{wordOf-pos, replaced-is-word}

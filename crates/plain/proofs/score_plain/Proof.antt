@@ -9,7 +9,7 @@ use borrow.Author.Needs.{needs, sfits-of}
 use Rattle.backoff.specs.declared.Verdict.the-variants.{Accepted}
 use Rattle.backoff.specs.Run.{refusal}
 use Rattle.backoff.proofs.Run.{fits}
-use Rattle.list.specs.Table.{rowsOf, orderOf}
+use Rattle.rows.specs.Table.{rowsOf, orderOf}
 use Rattle.list.specs.Check.{verdict}
 use Rattle.list.proofs.Check.{accepted-size}
 use Rattle.plain.specs.Plain.{runOf}

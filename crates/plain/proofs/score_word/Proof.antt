@@ -7,7 +7,7 @@ use mir.Val.{SFits}
 use mir.Facts.{toZ-ofZ}
 use borrow.Author.Needs.{needs, sfits-of}
 use Rattle.backoff.specs.Rule.{textRule}
-use Rattle.list.specs.Table.{wordOf}
+use Rattle.rows.specs.Table.{wordOf}
 use Rattle.list.specs.ListModel.{modelOf}
 use Rattle.plain.specs.Held.{IsScore, inUse}
 use Rattle.plain.proofs.Newest.{history-part, history-are-words, history-length}

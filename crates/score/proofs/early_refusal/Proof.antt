@@ -7,7 +7,7 @@ use borrow.Author.Tests.{not-true, not-false}
 use Rattle.backoff.specs.NineNumbers.{stateOk}
 use Rattle.double_array.specs.DoubleArray.{isArray, orderIn, storeIn}
 use Rattle.double_array.proofs.DoubleArray.{opened-head, opened-order, opened-some, opened-none}
-use Rattle.score.specs.Answers.{numbersOf}
+use Rattle.carried_state.specs.Numbers.{numbersOf}
 use Rattle.score.proofs.early_refusal.Statement.{statement}
 use Rattle.score.proofs.early_refusal.Tie as tie
 

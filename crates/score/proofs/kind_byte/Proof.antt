@@ -2,8 +2,8 @@
 use mathlib.Core.Path.{sym, ap, subst}
 use native.Mathlib.Omega.{arith}
 use Prim.Native.Nat.{_<_}
-use Rattle.score.specs.declared.Kind.{Kind}
-use Rattle.score.specs.Answers.{kindByte}
+use Rattle.word_step.specs.declared.Kind.{Kind}
+use Rattle.word_step.specs.Answers.{kindByte}
 use borrow.Author.Needs.{needs}
 use Rattle.score.proofs.kind_byte.Statement.{statement}
 use Rattle.score.proofs.kind_byte.Tie as tie

@@ -2,7 +2,7 @@
 use mathlib.Core.Path.{ap}
 use Prim.Native.Nat.{ℕ, _+_, _<_}
 use native.Mathlib.Omega.{arith}
-use Rattle.score.specs.Answers.{kindByte}
+use Rattle.word_step.specs.Answers.{kindByte}
 use Rattle.score.proofs.length_byte.Statement.{statement}
 use Rattle.score.proofs.length_byte.Tie as tie
 

@@ -6,11 +6,10 @@ use lib.IntN.{ℤ}
 use Rattle.backoff.specs.Run.{Run, Answer, refusedRun}
 use Rattle.backoff.specs.Store.{runOutcome}
 use Rattle.double_array.specs.DoubleArray.{opened}
-use Rattle.score.specs.Answers.{numbersOf}
+use Rattle.carried_state.specs.Numbers.{numbersOf}
+use Rattle.carried_state.proofs.Carried.{Four, length-numbers}
 use Rattle.score.specs.Meaning.{RunMeans}
-use Rattle.score.proofs.Carried.{Four, length-numbers}
-use Rattle.double_array.proofs.DoubleArray.{opened-head}
-use Rattle.score.proofs.Outcomes.{refused-early, Passed, passed-all, scored-late, run-means}
+use Rattle.score.proofs.Outcomes.{refused-early, Passed, passed-all, run-means}
 use Rattle.score.proofs.run.Statement.{statement}
 use Rattle.score.proofs.run.Tie as tie
 
@@ -41,14 +40,8 @@ passed c =
     let s = c .before .before .before .before in
     passed-all (s .args .base .now) (s .args .check .now) (numbersOf (s .args .state)) (asked s) (sym (c .before .early-refusal .ensures) ∙ c .if1 .left)
 
-order-of-requires : tie.Need-order-of-requires
-order-of-requires c κs = let s = c .before .before .before .before in opened-head (s .args .base .now) (s .args .check .now) (passed c .array) .order
-
-score-words-requires : tie.Need-score-words-requires
-score-words-requires c κs =
-    let o = c .before .before in
-    let p = passed (o .before) in
-    (p .array, (o .order-of .ensures, (rw (o .order-of .ensures) (p .state), (p .sizes .few, (p .sizes .points, p .sizes .lengths)))))
+run-passed-requires : tie.Need-run-passed-requires
+run-passed-requires c κs = let p = passed (c .before .before) in (p .array, (p .state, (p .sizes .few, (p .sizes .points, p .sizes .lengths))))
 
 same-length : tie.Need-same-length
 same-length c = search needs
@@ -59,9 +52,8 @@ same-length-2 c = search needs
 returns-2 : tie.Need-returns-2
 returns-2 c =
     let k = c .before .before .before in
-    let e = k .before .before .before .before in
-    let s = e .before .before .before .before in
-    answers s _ (k .score-words .ensures ∙ sym (scored-late (s .args .base .now) (s .args .check .now) (numbersOf (s .args .state)) (asked s) (sym (e .before .early-refusal .ensures) ∙ e .if1 .left) (length-numbers (s .args .state) (arrays s))))
+    let e = k .before .before .before in
+    answers (e .before .before .before .before) _ (k .run-passed .ensures)
 
 pub run-spec : {M : Type 1} → statement M
 run-spec =
@@ -69,8 +61,7 @@ run-spec =
     (tie.spec
     early-refusal-requires
     returns
-    order-of-requires
-    score-words-requires
+    run-passed-requires
     same-length
     same-length-2
     returns-2)

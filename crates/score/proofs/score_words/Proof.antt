@@ -19,14 +19,16 @@ use Rattle.backoff.specs.State.{State as Carried}
 use Rattle.backoff.specs.Store.{Store, scored, wordStep, step}
 use Rattle.double_array.specs.DoubleArray.{freeCheck, storeIn}
 use Rattle.double_array.proofs.DoubleArray.{opened-head, opened-order}
-use Rattle.score.specs.declared.Kind.{Kind}
-use Rattle.score.specs.declared.Packed.{Packed}
-use Rattle.score.specs.Answers.{numbersOf, byteOf}
-use Rattle.score.specs.Inner.{replaced, heldIn, Carries, SteppedTo}
-use Rattle.score.proofs.Carried.{Four, count-low, all-in-words, all-in-backoff, packed-held, packed-carries, carries-bounded}
-use Rattle.score.proofs.Rows.{rows-in-probability}
-use Rattle.score.proofs.Written.{written-set}
-use Rattle.score.proofs.Stepping.{told, refused-word, goes-on, begins-anew, start-refused}
+use Rattle.carried_state.specs.declared.Packed.{Packed}
+use Rattle.carried_state.specs.Numbers.{numbersOf}
+use Rattle.carried_state.specs.Packed.{heldIn, Carries}
+use Rattle.carried_state.proofs.Carried.{Four, count-low, all-in-words, all-in-backoff, packed-held, packed-carries, carries-bounded}
+use Rattle.word_step.specs.declared.Kind.{Kind}
+use Rattle.word_step.specs.Answers.{byteOf}
+use Rattle.word_step.specs.Inner.{replaced, SteppedTo}
+use Rattle.word_step.proofs.Rows.{rows-in-probability}
+use Rattle.word_step.proofs.Written.{written-set}
+use Rattle.word_step.proofs.Stepping.{told, refused-word, goes-on, begins-anew, start-refused}
 use Rattle.score.proofs.Running.{Running, scored-sizes, running-begins, running-on, running-refused, running-ends}
 use Rattle.score.proofs.score_words.Statement.{statement}
 use Rattle.score.proofs.score_words.Tie as tie

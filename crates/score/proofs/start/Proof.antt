@@ -14,8 +14,8 @@ use Rattle.score.proofs.start.Statement.{statement}
 use Rattle.score.proofs.start.Tie as tie
 
 -- an answer that is the outcome also means what it should
-answers : (base check : List ℤ) (a : Started) → a ≡ startOutcome (opened base check) nineZeros → (a ≡ startOutcome (opened base check) nineZeros) × StartMeans base check (a .number) (a .state)
-answers base check a e = (e, rw e (start-means base check nineZeros refl))
+answers : (base check : List ℤ) (a : Started) → a ≡ startOutcome (opened base check) nineZeros → (a ≡ startOutcome (opened base check) nineZeros) × StartMeans base check nineZeros (a .number) (a .place) (a .state)
+answers base check a e = (e, rw e (start-means base check nineZeros))
 
 is-array-requires : tie.Need-is-array-requires
 is-array-requires c κs = search needs

@@ -9,9 +9,9 @@ use Rattle.backoff.specs.Limits.{startWord}
 use Rattle.backoff.specs.Store.{wordStep, startStep}
 use Rattle.double_array.specs.DoubleArray.{storeIn}
 use Rattle.double_array.proofs.DoubleArray.{opened-head, opened-order}
-use Rattle.score.specs.declared.Word.{Word}
-use Rattle.score.specs.Answers.{stepOf}
-use Rattle.score.specs.Inner.{heldIn}
+use Rattle.carried_state.specs.Packed.{heldIn}
+use Rattle.word_step.specs.declared.Word.{Word}
+use Rattle.word_step.specs.Answers.{stepOf}
 use Rattle.score.proofs.start_in.Statement.{statement}
 use Rattle.score.proofs.start_in.Tie as tie
 

@@ -15,20 +15,21 @@ use mir.Val.{toZ, ofZ, SFits}
 use mir.Facts.{toZ-ofZ}
 use Rattle.backoff.specs.Limits.{endWord}
 use Rattle.backoff.specs.NineNumbers.{stateIn}
-use Rattle.backoff.specs.Store.{Store, runOver}
+use Rattle.backoff.specs.Store.{Store, runOver, modelIn}
 use Rattle.double_array.specs.DoubleArray.{opened, storeIn}
 use Rattle.double_array.proofs.DoubleArray.{opened-head}
+use Rattle.carried_state.specs.Numbers.{numbersOf}
 use Rattle.score.specs.declared.Ran.{Ran}
-use Rattle.score.specs.declared.Closed.{Closed}
-use Rattle.score.specs.declared.Closed.the-variants.{Points, Refused}
-use Rattle.score.specs.Answers.{numbersOf, summedOf, summed}
-use Rattle.score.specs.Closing.{pointsOver}
+use Rattle.sums.specs.declared.Closed.{Closed}
+use Rattle.sums.specs.declared.Closed.the-variants.{Points, Refused}
+use Rattle.sums.specs.Sums.{summedOf, summed}
+use Rattle.sums.specs.Closing.{pointsOver}
 use Rattle.sentences.specs.Sentences.{endedBy}
 use Rattle.sentences.specs.Listing.{sentenceTotal, isScored}
 use Rattle.sentences.specs.Inner.{sentenceAt, AllWritten}
 use Rattle.sentences.proofs.Sentences.{length-sentenceAt}
 use Rattle.sentences.proofs.NthSentence.{front-long}
-use Rattle.sentences.proofs.Calls.{start-ok, front-ok, front-unscored, last-unscored, last-scored, total-fits}
+use Rattle.sentences.proofs.Calls.{model-ok, front-ok, front-unscored, last-unscored, last-scored, total-fits}
 use Rattle.sentences.proofs.Groups.{group-words-long, group-totals-long, group-done, group-room, group-refused, group-next, group-none}
 use Rattle.sentences.proofs.write_group.Statement.{statement}
 use Rattle.sentences.proofs.write_group.Tie as tie
@@ -94,7 +95,7 @@ sum-words-requires : tie.Need-sum-words-requires Inv-loop μ-loop
 sum-words-requires c κs =
     let n = c .before in
     let s = n .before .before .before in
-    (s .pre .0 .array, (n .before .order-of .ensures, (rw (n .before .order-of .ensures) (start-ok (s .args .base .now) (s .args .check .now) (s .args .state) (s .pre .0)), omega (arith, slice-aggregate-sum-words c, s .pre .1 .1 .0))))
+    (s .pre .0 .array, (n .before .order-of .ensures, (rw (n .before .order-of .ensures) (unfold modelIn storeIn in model-ok (s .args .base .now) (s .args .check .now) (s .args .state) (s .pre .0)), omega (arith, slice-aggregate-sum-words c, s .pre .1 .1 .0))))
 
 -- what they came to
 abbrev entry : tie.After-sum-words Inv-loop μ-loop → tie.Start Inv-loop μ-loop

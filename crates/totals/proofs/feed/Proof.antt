@@ -10,14 +10,14 @@ use lib.Seq.{length-take-le}
 use native.Mathlib.Omega.{arith}
 use borrow.Author.Needs.{needs}
 use lib.ListN.{length, take}
-use Rattle.score.specs.Meaning.{rowsIn}
+use Rattle.word_step.specs.Rows.{arrayModel}
 use Rattle.totals.proofs.Feeding.{Feeding, feeding-start, feeding-line, feeding-more, fed-end, fed-refused, fed-long}
 use Rattle.totals.proofs.feed.Statement.{statement}
 use Rattle.totals.proofs.feed.Tie as tie
 
 abbrev Inv-loop : tie.InvT-loop
 Inv-loop base check start piece line₀ out₀ number₀ count₀ written₀ i₀ line out number count written i =
-    Feeding (rowsIn base check) piece number₀ count₀ line₀ line out number count written i
+    Feeding (arrayModel base check) piece number₀ count₀ line₀ line out number count written i
 
 abbrev μ-loop : tie.MeasureT-loop
 μ-loop base check start piece line₀ out₀ number₀ count₀ written₀ i₀ line out number count written i =
@@ -72,7 +72,7 @@ returns c =
     let room : l .written + r .append-sentence .result .length ≤ length (r .append-sentence .last .1 .1 .1 .1 .1 .0) = omega (arith, r .append-sentence .kept .1 .1 .1 .1 .1 .0, l .inv .few, l .inv .size, P .room, t .loop-test .taken, k .before .before .before .before .before .before .before .before .before .before .before .before .before .before .before .pre .1 .1 .0 .0) in
     let a = k .before .before .before .before .before .before .before .before .before .before .before .before .before .before .before .args in
     let out = r .append-sentence .last .1 .1 .1 .1 .1 .0 in
-    subst (λ (q : Progress). Counts (q .written) out × Fed (rowsIn (now (a .base)) (now (a .check))) (now (a .piece)) (a .progress) (now (a .line)) q (l .line) (take (q .written) out)) (sym (c .refused-at .ensures))
+    subst (λ (q : Progress). Counts (q .written) out × Fed (arrayModel (now (a .base)) (now (a .check))) (now (a .piece)) (a .progress) (now (a .line)) q (l .line) (take (q .written) out)) (sym (c .refused-at .ensures))
     ((room, sym (length-take-le _ _ room)), fed-refused (l .inv) (t .loop-test .taken) refl (r .before .before .before .if1 .taken) P (sym (P .accepted) ∙ not-true _ (k .if2 .taken)))
 
 add-number : tie.Need-add-number Inv-loop μ-loop
@@ -114,7 +114,7 @@ returns-2 c =
     let room : r .append-refusal .result ≤ length (r .append-refusal .last .1 .0) = omega (arith, r .append-refusal .kept .1 .0, r .append-refusal .ensures .0, l .inv .few, l .inv .size, t .loop-test .taken, k .before .before .before .before .before .before .before .before .before .before .before .before .pre .1 .1 .0 .0) in
     let a = k .before .before .before .before .before .before .before .before .before .before .before .before .args in
     let out = r .append-refusal .last .1 .0 in
-    subst (λ (q : Progress). Counts (q .written) out × Fed (rowsIn (now (a .base)) (now (a .check))) (now (a .piece)) (a .progress) (now (a .line)) q (l .line) (take (q .written) out)) (sym (c .refused-at2 .ensures))
+    subst (λ (q : Progress). Counts (q .written) out × Fed (arrayModel (now (a .base)) (now (a .check))) (now (a .piece)) (a .progress) (now (a .line)) q (l .line) (take (q .written) out)) (sym (c .refused-at2 .ensures))
     ((room, sym (length-take-le _ _ room)), fed-long (l .inv) (t .loop-test .taken) refl (k .before .before .before .before .before .if1 .left) (k .before .before .before .before .if3 .taken) (r .append-refusal .result) (r .append-refusal .last .1 .0) (r .append-refusal .ensures .1))
 
 slice-write-line : tie.Need-slice-write-line Inv-loop μ-loop

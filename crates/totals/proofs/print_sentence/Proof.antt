@@ -3,7 +3,7 @@ use mathlib.Core.Path.{_≡_, refl, sym, ap, _∙_}
 use mathlib.Core.List.{List, [], _∷_, _++_}
 use Prim.Native.Nat.{ℕ, _+_, _≤_}
 use borrow.Author.Needs.{needs}
-use Rattle.score.specs.Meaning.{rowsIn}
+use Rattle.word_step.specs.Rows.{arrayModel}
 use Rattle.totals_text.specs.Lines.{textWords}
 use Rattle.totals.proofs.Sentences.{not-in-form, in-form, words-few, closed-count, refused-output, sentence-is}
 use native.Mathlib.Omega.{arith}
@@ -32,7 +32,7 @@ returns c =
     let r = c .refused-line .ensures in
     let e = not-in-form _ (sym (c .before .before .before .before .before .read-sentence .ensures .0) ∙ c .before .before .enum-told .given .1) in
     let a = c .before .before .before .before .before .before .before .args in
-    let q = refused-output (rowsIn (now (a .base)) (now (a .check))) (a .number) (now (a .line)) e in
+    let q = refused-output (arrayModel (now (a .base)) (now (a .check))) (a .number) (now (a .line)) e in
     (sym e, (r .0 ∙ ap length q, (r .1 .0, r .1 .1 ∙ ap (λ (l : List ℕ). written l (now (a .out))) q)))
 
 cast-count : tie.Need-cast-count
@@ -71,7 +71,7 @@ returns-2 c =
     let a = k .before .before .before .before .before .before .args in
     let r = c .score-sentence .ensures in
     let e = in-form _ _ (sym (k .before .before .before .before .read-sentence .ensures .0) ∙ k .before .read .given .1) in
-    let q = sentence-is (rowsIn (now (a .base)) (now (a .check))) (a .number) (now (a .line)) _ _ _ _ e (ap (λ (n : ℕ). take (n + 1) (k .before .before .before .before .read-sentence .result .words)) (answered k .0) ∙ closed k) (answered k .0) refl refl in
+    let q = sentence-is (arrayModel (now (a .base)) (now (a .check))) (a .number) (now (a .line)) _ _ _ _ e (ap (λ (n : ℕ). take (n + 1) (k .before .before .before .before .read-sentence .result .words)) (answered k .0) ∙ closed k) (answered k .0) refl refl in
     (sym e, (r .0 ∙ ap length q, (r .1 .0, r .1 .1 ∙ ap (λ (l : List ℕ). written l (now (a .out))) q)))
 
 pub print-sentence-spec : {M : Type 1} → statement M

@@ -6,13 +6,13 @@ use borrow.Author.Needs.{needs, sfits-of}
 use mir.Syntax.{w32}
 use mir.Val.{SFits, toZ, ofZ}
 use mir.Facts.{toZ-ofZ}
-use Rattle.totals_text.specs.Lines.{numberOf}
+use Rattle.totals_text.specs.Lines.{columnValue}
 use Rattle.totals_text.proofs.Lines.{column-end, Filling, fill-start, fill-step, fill-end}
 use Rattle.totals_text.proofs.fill_row.Statement.{statement}
 use Rattle.totals_text.proofs.fill_row.Tie as tie
 
 abbrev Inv-loop : tie.InvT-loop
-Inv-loop line width count row₀ i₀ row i = Filling numberOf width line count row₀ row i
+Inv-loop line width count row₀ i₀ row i = Filling columnValue width line count row₀ row i
 
 abbrev μ-loop : tie.MeasureT-loop
 μ-loop line width count row₀ i₀ row i = count - i
@@ -20,7 +20,7 @@ abbrev μ-loop : tie.MeasureT-loop
 loop-holds : tie.Need-loop-holds Inv-loop μ-loop
 loop-holds c =
     let a = c .before .args in
-    fill-start numberOf (a .width) (a .line .now) (a .count) (a .row .now)
+    fill-start columnValue (a .width) (a .line .now) (a .count) (a .row .now)
 
 mul-at : tie.Need-mul-at Inv-loop μ-loop
 mul-at c = let a = c .before .before .before .args in omega (arith, column-end (a .width) (a .count) (c .before .loop .i) (c .loop-test .taken))
@@ -59,7 +59,7 @@ loop-again : tie.Need-loop-again Inv-loop μ-loop
 loop-again c =
     let l = c .before .before .before in
     let a = l .before .before .args in
-    fill-step numberOf (a .width) (a .line .now) (a .count) (a .row .now) (l .loop .row) (l .loop .i) (toZ w32 (ofZ w32 (c .number-in .result))) (c .before .before .loop-test .taken) (toZ-ofZ (number-fits c) ∙ c .number-in .ensures) (l .loop .inv)
+    fill-step columnValue (a .width) (a .line .now) (a .count) (a .row .now) (l .loop .row) (l .loop .i) (toZ w32 (ofZ w32 (c .number-in .result))) (c .before .before .loop-test .taken) (toZ-ofZ (number-fits c) ∙ c .number-in .ensures) (l .loop .inv)
 
 same-length : tie.Need-same-length Inv-loop μ-loop
 same-length c = c .before .loop .inv .long
@@ -68,7 +68,7 @@ returns : tie.Need-returns Inv-loop μ-loop
 returns c =
     let l = c .before in
     let a = l .before .before .args in
-    fill-end numberOf (a .width) (a .line .now) (a .count) (a .row .now) (l .loop .row) (l .loop .i) (c .loop-test .left) (l .loop .inv)
+    fill-end columnValue (a .width) (a .line .now) (a .count) (a .row .now) (l .loop .row) (l .loop .i) (c .loop-test .left) (l .loop .inv)
 
 pub fill-row-spec : {M : Type 1} → statement M
 fill-row-spec =

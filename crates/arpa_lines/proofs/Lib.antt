@@ -1,0 +1,9 @@
+-- Laws for the proofs of this crate and of those above it.
+pub mod HeldTexts
+pub mod JoinedRows
+pub mod WordSteps
+pub mod Tables
+pub mod Stages
+pub mod Fields
+pub mod Counts
+pub mod LongSteps

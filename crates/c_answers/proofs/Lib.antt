@@ -1,0 +1,2 @@
+-- Laws of lists of nine.
+pub mod Items

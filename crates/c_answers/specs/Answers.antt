@@ -1,0 +1,31 @@
+-- Answers as they cross to C, as numbers. Assumes nothing.
+use mathlib.Core.Path.{_≡_}
+use Rattle.backoff.specs.Refusal.{numberOf, placeOf}
+use Rattle.backoff.specs.declared.Verdict.{Verdict}
+use Rattle.double_array.specs.Lookup as lookup
+use Rattle.double_array.specs.declared.Lookup.{Lookup}
+use Rattle.arpa.specs.Outcome as arpa
+use Rattle.arpa.specs.declared.Rows.{Rows}
+use Rattle.c_answers.specs.declared.Status.{Status}
+use Rattle.c_answers.specs.declared.Found.{Found}
+use Rattle.c_answers.specs.declared.RowCount.{RowCount}
+
+-- a verdict as its number and place
+pub record StatusIs (v : Verdict) (r : Status) : Type 0 where
+  pub number : r .number ≡ numberOf v
+  pub place : r .place ≡ placeOf v
+
+-- a lookup's answer; a refused one, and one that found nothing, have two zeros
+pub record FoundIs (l : Lookup) (r : Found) : Type 0 where
+  pub number : r .number ≡ lookup.lookupNumber l
+  pub place : r .place ≡ lookup.lookupPlace l
+  pub found : r .found ≡ lookup.foundOf l
+  pub p : r .p ≡ lookup.pOf l
+  pub b : r .b ≡ lookup.bOf l
+  pub left : r .left ≡ lookup.leftOf l
+
+-- a reading's answer: the row count, or a refusal's number with its line or row
+pub record RowCountIs (a : Rows) (r : RowCount) : Type 0 where
+  pub number : r .number ≡ arpa.readNumber a
+  pub rows : r .rows ≡ arpa.rowCount a
+  pub place : r .place ≡ arpa.readPlace a

@@ -1,0 +1,2 @@
+-- Answers as C has them.
+pub mod Answers

@@ -1,0 +1,4 @@
+-- The laws of the carried state.
+pub mod Parts
+pub mod Digits
+pub mod Carried

@@ -1,0 +1,2 @@
+-- What must be believed of the rows that put one more word in front of a row.
+pub mod Stretch

@@ -1,0 +1,2 @@
+-- How nodes are put in order: only private contracts cite this.
+pub mod BreadthFirst

@@ -1,0 +1,3 @@
+-- The laws of sums of points.
+pub mod Pieces
+pub mod Closing

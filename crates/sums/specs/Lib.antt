@@ -1,0 +1,3 @@
+-- What must be believed of sums of points.
+pub mod Sums
+pub mod Closing

@@ -1,0 +1,391 @@
+// One word from a carried state over any lent double array: the walk, the word's answer and the state that it leaves.
+use carried_state::Packed;
+use double_array::Child;
+use double_array::Marker;
+ghost use mathlib.Core.Path.{_≡_};
+ghost use mathlib.Core.Bool.{Bool, true, false};
+ghost use Prim.Native.Nat.{ℕ, _*_, _%_, _≤_, _<_};
+ghost use lib.ListN.{length, getD};
+ghost use lib.IntN.{negsuc, natAbs};
+ghost use Rattle.backoff.specs.Limits.{unknownWord, startWord, slotLimit, largestBackoff};
+ghost use Rattle.backoff.specs.Words.{isWord, radix};
+ghost use Rattle.backoff.specs.Rule.{lengthByte};
+ghost use Rattle.backoff.specs.State.{State as Carried, empty as emptyState};
+ghost use Rattle.backoff.specs.Store.{isBroken, wordStep};
+ghost use Rattle.double_array.specs.DoubleArray.{freeCheck, keptMarker, lookMarker, childAt, rootChild, isArray, orderIn, storeIn};
+ghost use Rattle.carried_state.specs.Packed.{heldIn, Carries};
+ghost use Rattle.word_step.specs.Answers.{byteOf};
+ghost use Rattle.word_step.specs.Inner.{isChild, replaced, firstOf, longestLive, endedAt, storedAt, WalkedOver, Readable, ReachedOver, ScoredAs, SteppedTo};
+ghost use Rattle.word_step.specs.Rows.{InRange};
+
+// A scored word is known or unknown, and each kind carries its matched length.
+pub enum Kind {
+    Known(u8),
+    Unknown(u8),
+}
+
+// A word's answer; `extended` says whether some row puts a further word in front of the matched one.
+pub enum Word {
+    Scored {
+        kind: Kind,
+        points: i32,
+        extended: bool,
+    },
+    Refused,
+}
+
+// The slot at which a word's walk begins, and the word that it is scored as.
+pub enum First {
+    From { slot: usize, word: u32 },
+    Missing,
+}
+
+// The number of a row's words, and the sum of the back-offs that a state of these words has.
+pub struct Kept {
+    pub count: usize,
+    pub owed: i32,
+}
+
+// How far a walk through a state's words has come: to its end, as the next word has no child; to the node behind which there are no more words, which is still to
+// be read, with what is owed of the state's back-offs and the sum of those read; or to a node without a sound marker.
+pub enum Reached {
+    End {
+        points: i32,
+        passed: usize,
+        kept: Kept,
+        extended: bool,
+    },
+    Last {
+        slot: usize,
+        owed: i32,
+        sum: i32,
+        kept: Kept,
+    },
+    Stuck,
+}
+
+// A walk through a state's words: where each node on it had a sound marker, the word's points, how many of the state's words were passed, the
+// longest live row that a state can hold, and whether the last row is extended.
+pub enum Walked {
+    Whole {
+        points: i32,
+        passed: usize,
+        kept: Kept,
+        extended: bool,
+    },
+    Stuck,
+}
+
+// A word's answer and the state that it leaves.
+pub struct Stepped {
+    pub word: Word,
+    pub next: Packed,
+}
+
+// A state has so many words at most: the compiler, which is told so, unrolls the walk.
+const STATE_WORDS: usize = 4;
+
+// Whether there is a child.
+fn is_child(child: Child) -> bool
+    ensures { λ r. ⌜ r ≡ isChild child ⌝ }
+{
+    match child {
+        Child::At(_) => true,
+        Child::Nothing => false,
+    }
+}
+
+// The word or, where the root has no child for it, word 1 in its place. Arithmetic decides: a processor cannot foresee whether a word has a row.
+pub fn replaced(check: &[i32], w: u32) -> u32
+    requires { ⌜ getD (now check) 1 freeCheck ≡ negsuc 0 ⌝ }
+    ensures { λ r. ⌜ r ≡ replaced (now (check .entry)) w ⌝ }
+{
+    let child = double_array::root_child(check, w);
+    let known = is_child(child) as u32;
+    w * known + (1 - known)
+}
+
+// The root's child for the word or, where there is none, for word 1 in its place.
+pub fn first_node(check: &[i32], w: u32) -> First
+    requires { ⌜ getD (now check) 1 freeCheck ≡ negsuc 0 ⌝ }
+    ensures { λ r. ⌜ r ≡ firstOf w (rootChild (now (check .entry)) w) (rootChild (now (check .entry)) unknownWord) ⌝ }
+{
+    if let Child::At(slot) = double_array::root_child(check, w) {
+        return First::From { slot, word: w };
+    }
+    let Child::At(slot) = double_array::root_child(check, backoff::UNKNOWN_WORD) else {
+        return First::Missing;
+    };
+    First::From {
+        slot,
+        word: backoff::UNKNOWN_WORD,
+    }
+}
+
+// The longest live row, once the row of `count` words has been read too. One of n words has neither b nor f.
+fn longest_live(kept: Kept, count: usize, owed: i32, b: i32, f: bool) -> Kept
+    ensures { λ r. ⌜ r ≡ longestLive kept (record { count = count; owed = owed }) b f ⌝ }
+{
+    if (b != 0) | f {
+        Kept { count, owed }
+    } else {
+        kept
+    }
+}
+
+// The child for the next older word of a state. A sound marker's slot has no parent, so that the word needs no test for 0.
+fn next_node(base: &[i32], check: &[i32], s: usize, older: u64) -> Child
+    requires { ⌜ s < length (now base) ⌝ }
+    requires { ⌜ length (now base) ≤ slotLimit ⌝ }
+    requires { ⌜ isBroken (lookMarker (keptMarker (now base) (now check) s)) ≡ false ⌝ }
+    ensures { λ r. ⌜ r ≡ childAt (now (base .entry)) (now (check .entry)) s (older % radix) ⌝ }
+{
+    let d = base[s] as usize;
+    double_array::beside_marker(check, s, d, (older % backoff::RADIX) as usize)
+}
+
+// The end of a walk at a node with this marker, once `passed` of the state's words are passed: `owed` is the sum of the state's back-offs that are left, `sum` that
+// of the back-offs of the nodes before this one.
+fn end_walk(
+    marker: Marker,
+    passed: usize,
+    owed: i32,
+    sum: i32,
+    kept: Kept,
+    backoffs: &mut [i32; 5],
+) -> Walked
+    requires { ⌜ (passed ≤ 4) × (length (now backoffs) ≡ 5) ⌝ }
+    requires { ⌜ (natAbs owed ≤ 4 * largestBackoff) × (natAbs sum ≤ 4 * largestBackoff) ⌝ }
+    requires { ⌜ InRange (lookMarker marker) ⌝ }
+    ensures walked { λ r. ⌜ r ≡ endedAt marker passed owed sum kept ⌝ }
+    ensures backoffs { λ _. ⌜ now (backoffs .exit) ≡ storedAt marker passed (now (backoffs .entry)) ⌝ }
+{
+    let Marker::Sound { p, b, e, f } = marker else {
+        return Walked::Stuck;
+    };
+    backoffs[passed] = b;
+    let kept = longest_live(kept, passed + 1, sum + b, b, f);
+    Walked::Whole {
+        points: p + owed,
+        passed,
+        kept,
+        extended: e,
+    }
+}
+
+// The walk from the node in this slot, that of a word v, through the state's words, so far that its last node may be one of n words. Each node's back-off takes the
+// place of one of the state's.
+pub fn walk(
+    base: &[i32],
+    check: &[i32],
+    slot: usize,
+    carried: Packed,
+    backoffs: &mut [i32; 5],
+) -> Reached
+    requires { ⌜ isArray (now base) (now check) ≡ true ⌝ }
+    requires { ⌜ slot < length (now base) ⌝ }
+    requires { ⌜ Carries (orderIn (now check)) carried (now backoffs) ⌝ }
+    ensures last { λ r. ⌜ (length (now (backoffs .exit)) ≡ 5) × Readable (now (base .entry)) r ⌝ }
+    ensures reached { λ r. ⌜ ((v : ℕ) → childAt (now (base .entry)) (now (check .entry)) 0 v ≡ Child.At slot → ReachedOver (now (base .entry)) (now (check .entry)) (heldIn carried (now (backoffs .entry))) v (carried .count) r (now (backoffs .exit))) ⌝ }
+{
+    let count = carried.count;
+    let mut older = carried.words;
+    let mut owed = carried.owed;
+    let mut s = slot;
+    let mut passed = 0;
+    let mut sum = 0;
+    let mut kept = Kept { count: 0, owed: 0 };
+    while (passed < count) & (passed < STATE_WORDS) {
+        let Marker::Sound { p, b, e, f } = double_array::kept_marker(base, check, s) else {
+            return Reached::Stuck;
+        };
+        let old = backoffs[passed];
+        backoffs[passed] = b;
+        sum += b;
+        kept = longest_live(kept, passed + 1, sum, b, f);
+        let Child::At(t) = next_node(base, check, s, older) else {
+            return Reached::End {
+                points: p + owed,
+                passed,
+                kept,
+                extended: e,
+            };
+        };
+        owed -= old;
+        older /= backoff::RADIX;
+        s = t;
+        passed += 1;
+    }
+    Reached::Last {
+        slot: s,
+        owed,
+        sum,
+        kept,
+    }
+}
+
+// The whole walk of a word from a state of `count` words: what it has reached, or its last node read too.
+pub fn last_node(
+    base: &[i32],
+    check: &[i32],
+    order: usize,
+    count: usize,
+    reached: Reached,
+    backoffs: &mut [i32; 5],
+) -> Walked
+    requires { ⌜ (isArray (now base) (now check) ≡ true) × (order ≡ orderIn (now check)) ⌝ }
+    requires { ⌜ (count ≤ 4) × (length (now backoffs) ≡ 5) × Readable (now base) reached ⌝ }
+    ensures { λ r. ⌜ ((s : Carried) (v : ℕ) → ReachedOver (now (base .entry)) (now (check .entry)) s v count reached (now (backoffs .entry)) → WalkedOver (storeIn (now (base .entry)) (now (check .entry))) s v r (now (backoffs .exit))) ⌝ }
+{
+    match reached {
+        Reached::End {
+            points,
+            passed,
+            kept,
+            extended,
+        } => Walked::Whole {
+            points,
+            passed,
+            kept,
+            extended,
+        },
+        Reached::Last {
+            slot,
+            owed,
+            sum,
+            kept,
+        } => {
+            let marker = double_array::read_marker(base, check, order, count + 1, slot);
+            end_walk(marker, count, owed, sum, kept, backoffs)
+        }
+        Reached::Stuck => Walked::Stuck,
+    }
+}
+
+// The kind of a word that is scored as this one.
+fn kind_of(word: u32, matched: u8) -> Kind
+    ensures { λ r. ⌜ ((e : Bool) → byteOf r e ≡ lengthByte matched word e) ⌝ }
+{
+    if word == backoff::UNKNOWN_WORD {
+        Kind::Unknown(matched)
+    } else {
+        Kind::Known(matched)
+    }
+}
+
+// The answer of a word whose walk is done, and the state that it leaves.
+pub fn scored(
+    words: u64,
+    word: u32,
+    points: i32,
+    passed: usize,
+    kept: Kept,
+    extended: bool,
+) -> Stepped
+    requires { ⌜ isWord word ≡ true ⌝ }
+    requires { ⌜ passed ≤ 4 ⌝ }
+    ensures { λ r. ⌜ ScoredAs words word points passed kept extended r ⌝ }
+{
+    let kind = kind_of(word, passed as u8 + 1);
+    let next = Packed {
+        count: kept.count,
+        words: words % backoff::THREE_DIGITS * backoff::RADIX + word as u64,
+        owed: kept.owed,
+    };
+    let word = Word::Scored {
+        kind,
+        points,
+        extended,
+    };
+    Stepped { word, next }
+}
+
+// The walk of a word v from the empty state, which reads the node in this slot alone.
+fn walk_alone(
+    base: &[i32],
+    check: &[i32],
+    order: usize,
+    slot: usize,
+    backoffs: &mut [i32; 5],
+) -> Walked
+    requires { ⌜ isArray (now base) (now check) ≡ true ⌝ }
+    requires { ⌜ order ≡ orderIn (now check) ⌝ }
+    requires { ⌜ slot < length (now base) ⌝ }
+    requires { ⌜ length (now backoffs) ≡ 5 ⌝ }
+    ensures { λ r. ⌜ ((v : ℕ) → childAt (now (base .entry)) (now (check .entry)) 0 v ≡ Child.At slot → WalkedOver (storeIn (now (base .entry)) (now (check .entry))) emptyState v r (now (backoffs .exit))) ⌝ }
+{
+    let none = Kept { count: 0, owed: 0 };
+    let marker = double_array::read_marker(base, check, order, 1, slot);
+    end_walk(marker, 0, 0, 0, none, backoffs)
+}
+
+// The step of `<s>` from the empty state, which start takes.
+pub fn begin(base: &[i32], check: &[i32], order: usize, backoffs: &mut [i32; 5]) -> Stepped
+    requires { ⌜ isArray (now base) (now check) ≡ true ⌝ }
+    requires { ⌜ order ≡ orderIn (now check) ⌝ }
+    requires { ⌜ length (now backoffs) ≡ 5 ⌝ }
+    ensures { λ r. ⌜ SteppedTo order (wordStep (storeIn (now (base .entry)) (now (check .entry))) emptyState startWord) r (now (backoffs .exit)) ⌝ }
+{
+    let none = Packed {
+        count: 0,
+        words: 0,
+        owed: 0,
+    };
+    let First::From { slot, word } = first_node(check, backoff::START_WORD) else {
+        return Stepped {
+            word: Word::Refused,
+            next: none,
+        };
+    };
+    let walked = walk_alone(base, check, order, slot, backoffs);
+    let Walked::Whole {
+        points,
+        passed,
+        kept,
+        extended,
+    } = walked
+    else {
+        return Stepped {
+            word: Word::Refused,
+            next: none,
+        };
+    };
+    scored(0, word, points, passed, kept, extended)
+}
+
+// One word w from a state, which is scored as `word`. What it ends is told by `ends_sentence`.
+pub fn step(
+    base: &[i32],
+    check: &[i32],
+    order: usize,
+    carried: Packed,
+    backoffs: &mut [i32; 5],
+    word: u32,
+) -> Stepped
+    requires { ⌜ isArray (now base) (now check) ≡ true ⌝ }
+    requires { ⌜ order ≡ orderIn (now check) ⌝ }
+    requires { ⌜ Carries order carried (now backoffs) ⌝ }
+    ensures { λ r. ⌜ ((w : ℕ) → word ≡ replaced (now (check .entry)) w → SteppedTo order (wordStep (storeIn (now (base .entry)) (now (check .entry))) (heldIn carried (now (backoffs .entry))) w) r (now (backoffs .exit))) ⌝ }
+{
+    let Child::At(slot) = double_array::root_child(check, word) else {
+        return Stepped {
+            word: Word::Refused,
+            next: carried,
+        };
+    };
+    let reached = walk(base, check, slot, carried, backoffs);
+    let walked = last_node(base, check, order, carried.count, reached, backoffs);
+    let Walked::Whole {
+        points,
+        passed,
+        kept,
+        extended,
+    } = walked
+    else {
+        return Stepped {
+            word: Word::Refused,
+            next: carried,
+        };
+    };
+    scored(carried.words, word, points, passed, kept, extended)
+}
