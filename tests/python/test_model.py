@@ -2,12 +2,14 @@
 
 from __future__ import annotations
 
+import contextlib
 import copy
 import gc
 import multiprocessing
 import os
 import pickle
 import random
+import signal
 import tempfile
 import unittest
 from concurrent.futures import ThreadPoolExecutor
@@ -31,6 +33,22 @@ def copies(thing: object) -> Iterator:
     yield copy.deepcopy(thing)
     for protocol in range(pickle.HIGHEST_PROTOCOL + 1):
         yield pickle.loads(pickle.dumps(thing, protocol))
+
+
+def end_waiting(*_: object) -> None:
+    raise TimeoutError("it waits for something that does not come")
+
+
+@contextlib.contextmanager
+def ends_in(seconds: int) -> Iterator[None]:
+    """What waits longer, as for a writer of a pipe, fails."""
+    before = signal.signal(signal.SIGALRM, end_waiting)
+    signal.alarm(seconds)
+    try:
+        yield
+    finally:
+        signal.alarm(0)
+        signal.signal(signal.SIGALRM, before)
 
 
 class Sentences(unittest.TestCase):
@@ -167,12 +185,15 @@ class ModelItself(unittest.TestCase):
                 written = thread.submit(Path(path).write_bytes, lists.SAMPLE.read_bytes())
                 model = backoff.Model(path)
                 written.result()
-            self.assertEqual({twin.points("four five") for twin in copies(model)}, {-6_500})
+            with ends_in(20):
+                self.assertEqual({twin.points("four five") for twin in copies(model)}, {-6_500})
 
     def test_forked(self) -> None:
+        model = lists.model(lists.SAMPLE.read_bytes())
+        self.assertFalse(os.path.exists(model.path))
         for method in ("fork", "spawn"):
-            with multiprocessing.get_context(method).Pool(1) as pool:
-                self.assertEqual(pool.map(self.model.points, ["four five", "nine"]), [-6_500, -33_000])
+            with ends_in(60), multiprocessing.get_context(method).Pool(1) as pool:
+                self.assertEqual(pool.map(model.points, ["four five", "nine"]), [-6_500, -33_000])
 
     def test_configuration_is_not_taken_for_filling(self) -> None:
         with self.assertRaises(TypeError):

@@ -8,7 +8,7 @@ use crate::score::{Scorer, With};
 use crate::side_by_side::side_by_side;
 use crate::subcommands::{Asked, Shown, Source, Way};
 use crate::tally::Tally;
-use crate::text::{parts, worthwhile};
+use crate::text::parts;
 use crate::text_file::TextFile;
 use std::io::Write;
 
@@ -33,7 +33,7 @@ fn score(scorer: Scorer, asked: &Asked, progress: &Progress, out: &mut impl Writ
     let mut tally = Tally::default();
     while let Some(piece) = text.next(asked.threads * PART_BYTES)? {
         let answer = |part| scorer.scored(part).map(|reading| asked.form.answer(&reading));
-        for answer in side_by_side(parts(&piece, worthwhile(piece.len(), asked.threads)), answer)? {
+        for answer in side_by_side(parts(&piece, asked.threads), answer)? {
             out.write_all(&answer.lines).map_err(Failure::output)?;
             tally += answer.tally;
             progress.add_words(answer.tally.tokens);

@@ -127,3 +127,36 @@ fn more_is_at_hand(file: &File) -> bool {
     // SAFETY: it is one item, and no longer used behind the call.
     unsafe { poll(&mut polled, 1, PATIENCE) == 1 }
 }
+
+#[cfg(test)]
+mod tests {
+    use super::{Input, Source};
+    use std::fs::File;
+    use std::io::{pipe, Read, Write};
+    use std::os::fd::OwnedFd;
+    use std::thread;
+
+    const WRITTEN: usize = 1 << 22;
+    const READ: usize = 1 << 18;
+
+    /// How many reads a pipe takes that somebody fills as fast as it is read.
+    fn reads() -> usize {
+        let (reader, mut writer) = pipe().unwrap();
+        let written = thread::spawn(move || writer.write_all(&vec![b'x'; WRITTEN]).unwrap());
+        let mut input = Input { source: Source::File(File::from(OwnedFd::from(reader))), ended: false };
+        let (mut buffer, mut reads, mut bytes) = (vec![0; READ], 0, 0);
+        while let Ok(read @ 1..) = input.read(&mut buffer) {
+            reads += 1;
+            bytes += read;
+        }
+        written.join().unwrap();
+        assert_eq!(bytes, WRITTEN);
+        reads
+    }
+
+    /// A pipe holds less than is asked for, and a read waits for what comes at once. Of some tries the best counts, since the writer may be kept from writing.
+    #[test]
+    fn pipes_are_read_in_large_pieces() {
+        assert!((0..10).any(|_| reads() <= 2 * WRITTEN / READ));
+    }
+}

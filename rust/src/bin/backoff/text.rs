@@ -60,13 +60,13 @@ impl<R: Read> Pieces<R> {
     }
 }
 
-/// How many parts of so many bytes are worth a thread each.
-pub fn worthwhile(bytes: usize, threads: usize) -> usize {
-    threads.min(bytes / FEWEST_BYTES).max(1)
+/// A text cut at line ends into parts for so many threads, or for fewer where it is too small.
+pub fn parts(text: &[u8], threads: usize) -> Vec<&[u8]> {
+    cut(text, threads.min(text.len() / FEWEST_BYTES).max(1))
 }
 
 /// A text cut at line ends into parts of about one size, so many at most; none is empty.
-pub fn parts(text: &[u8], count: usize) -> Vec<&[u8]> {
+fn cut(text: &[u8], count: usize) -> Vec<&[u8]> {
     let mut parts = Vec::with_capacity(count);
     let mut rest = text;
     for left in (1..=count).rev() {
@@ -95,7 +95,7 @@ pub fn words(line: &[u8]) -> impl Iterator<Item = &[u8]> {
 
 #[cfg(test)]
 mod tests {
-    use super::{parts, words, worthwhile, Pieces};
+    use super::{cut, parts, words, Pieces};
     use std::io::Read;
 
     /// Gives a few bytes at a time.
@@ -130,7 +130,7 @@ mod tests {
     fn parts_are_whole_lines() {
         let text = b"a\nbb\n\nccc ccc ccc\nd\ne";
         for count in 1..12 {
-            let parts = parts(text, count);
+            let parts = cut(text, count);
             assert_eq!(parts.concat(), text);
             assert!(parts.len() <= count && (parts.len() > 1) == (count > 1), "{count}");
             assert!(parts.iter().rev().skip(1).all(|part| part.ends_with(b"\n")), "{count}");
@@ -139,8 +139,9 @@ mod tests {
 
     #[test]
     fn small_parts_have_no_threads() {
-        assert_eq!([0, 1, 20_000, 65_000, 1 << 20].map(|bytes| worthwhile(bytes, 8)), [1, 1, 1, 3, 8]);
-        assert_eq!(worthwhile(1 << 20, 1), 1);
+        let text = b"a\n".repeat(1 << 19);
+        assert_eq!([0, 2, 20_000, 65_000, 1 << 20].map(|bytes| parts(&text[..bytes], 8).len()), [0, 1, 1, 3, 8]);
+        assert_eq!(parts(&text, 1).len(), 1);
     }
 
     #[test]
