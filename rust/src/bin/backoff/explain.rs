@@ -12,6 +12,7 @@ use crate::progress::Progress;
 use crate::query::PART_BYTES;
 use crate::row_names::RowNames;
 use crate::score::{Scorer, With};
+use crate::standard;
 use crate::subcommands::{Source, Text};
 use crate::text_file::TextFile;
 use std::io::Write;
@@ -21,7 +22,7 @@ use std::path::Path;
 pub fn explain(source: &Source, text: &Text, page: Option<&Path>, out: &mut impl Write) -> Result<(), Failure> {
     let progress = Progress::start(true);
     progress.say("reading the model");
-    for read in [Some(&source.path), text.path.as_ref()].into_iter().flatten() {
+    for read in [source.path.as_path(), text.path.as_deref().unwrap_or(Path::new(standard::NAME))] {
         page.map_or(Ok(()), |page| files::require_another(page, read))?;
     }
     let file = ModelFile::read(source)?;
