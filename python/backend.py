@@ -12,22 +12,30 @@ import os
 import re
 import subprocess
 import sysconfig
-import tempfile
 import zipfile
 from pathlib import Path
-from typing import Optional
+from tempfile import TemporaryDirectory
+from typing import Optional, Union
 
 HERE = Path(__file__).resolve().parent
-MODULE = HERE / "backoff.py"
-VERSION = re.search(r'^__version__ = "(.*)"$', MODULE.read_text(), re.MULTILINE)[1]
+LIBRARY = "libbackoff.so"
+
+
+def _stated(file: str, name: str) -> str:
+    """What a file of this folder says of the project: a text in quotation marks, on a line of its own."""
+    return re.search(rf'^{name} = "(.*)"$', (HERE / file).read_text(), re.MULTILINE)[1]
+
+
+NAME = _stated("pyproject.toml", "name")
+VERSION = _stated("backoff.py", "__version__")
 TAG = "py3-none-" + re.sub(r"[-.]", "_", sysconfig.get_platform())
-INFO = f"backoff-{VERSION}.dist-info"
+INFO = f"{NAME}-{VERSION}.dist-info"
 METADATA = f"""\
 Metadata-Version: 2.1
-Name: backoff
+Name: {NAME}
 Version: {VERSION}
-Summary: Back-off scoring of n-gram lists, with the interface of KenLM's Python module
-Requires-Python: >=3.9
+Summary: {_stated("pyproject.toml", "description")}
+Requires-Python: {_stated("pyproject.toml", "requires-python")}
 """
 WHEEL = f"Wheel-Version: 1.0\nGenerator: backoff\nRoot-Is-Purelib: false\nTag: {TAG}\n"
 
@@ -40,14 +48,13 @@ def _environment() -> dict[str, str]:
     return environment
 
 
-def _library() -> bytes:
-    """The shared library; what cannot be made ends with the words of ./setup or of make-library."""
-    with tempfile.TemporaryDirectory() as folder:
-        library = os.path.join(folder, "libbackoff.so")
-        for command in ([HERE.parent / "setup", "archive"], [HERE / "make-library", library]):
-            if subprocess.run(command, env=_environment()).returncode:
-                raise SystemExit("the shared library was not made; above stands why")
-        return Path(library).read_bytes()
+def _make_library(folder: Union[str, Path]) -> Path:
+    """Puts the shared library into a folder; what cannot be made ends with the words of ./setup or of make-library."""
+    library = Path(folder, LIBRARY)
+    for command in ([HERE.parent / "setup", "archive"], [HERE / "make-library", library]):
+        if subprocess.run(command, env=_environment()).returncode:
+            raise SystemExit("the shared library was not made; above stands why")
+    return library
 
 
 def _record(name: str, data: bytes) -> str:
@@ -56,20 +63,30 @@ def _record(name: str, data: bytes) -> str:
     return f"{name},sha256={digest},{len(data)}\n"
 
 
+def _write_wheel(folder: str, files: dict[str, bytes]) -> str:
+    """Writes a wheel with these files, and gives its name."""
+    files = {**files, f"{INFO}/METADATA": METADATA.encode(), f"{INFO}/WHEEL": WHEEL.encode()}
+    records = "".join(_record(name, data) for name, data in files.items())
+    files[f"{INFO}/RECORD"] = f"{records}{INFO}/RECORD,,\n".encode()
+    wheel = f"{NAME}-{VERSION}-{TAG}.whl"
+    with zipfile.ZipFile(os.path.join(folder, wheel), "w", zipfile.ZIP_DEFLATED) as archive:
+        for name, data in files.items():
+            archive.writestr(name, data)
+    return wheel
+
+
 def build_wheel(
     wheel_directory: str, config_settings: Optional[dict] = None, metadata_directory: Optional[str] = None
 ) -> str:
     """What pip calls."""
-    files = {
-        "backoff.py": MODULE.read_bytes(),
-        "libbackoff.so": _library(),
-        f"{INFO}/METADATA": METADATA.encode(),
-        f"{INFO}/WHEEL": WHEEL.encode(),
-    }
-    records = "".join(_record(name, data) for name, data in files.items())
-    files[f"{INFO}/RECORD"] = f"{records}{INFO}/RECORD,,\n".encode()
-    wheel = f"backoff-{VERSION}-{TAG}.whl"
-    with zipfile.ZipFile(os.path.join(wheel_directory, wheel), "w", zipfile.ZIP_DEFLATED) as archive:
-        for name, data in files.items():
-            archive.writestr(name, data)
-    return wheel
+    with TemporaryDirectory() as folder:
+        files = {"backoff.py": (HERE / "backoff.py").read_bytes(), LIBRARY: _make_library(folder).read_bytes()}
+    return _write_wheel(wheel_directory, files)
+
+
+def build_editable(
+    wheel_directory: str, config_settings: Optional[dict] = None, metadata_directory: Optional[str] = None
+) -> str:
+    """What pip calls for `pip install --editable ./python`: this folder, with the library in it, is the one installed."""
+    _make_library(HERE)
+    return _write_wheel(wheel_directory, {"backoff.pth": f"{HERE}\n".encode()})
