@@ -211,10 +211,11 @@ fn outputs_that_take_nothing() {
     assert_eq!(first, "four=4 2 -0.004\tfive=5 3 -0.001\t</s>=3 2 -0.0015\tTotal: -0.0065 OOV: 0\n");
     assert_eq!(folder.get("status"), b"0\n");
     // A closed one is told too, also where it was only opened for reading.
+    folder.put("other", "four\n");
     for command in
         ["check m", "dump array", "query m text", "explain m text", "compare m text text", "in-form m", "--help", "bench m", "build m -"]
     {
-        for closed in [">&-", "1<text"] {
+        for closed in [">&-", "1<other"] {
             let told = folder.shell(&format!("backoff {command} {closed}")).refused();
             assert_eq!(told, "backoff: standard output: Bad file descriptor (os error 9)\n", "{command} {closed}");
         }

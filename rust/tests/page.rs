@@ -266,7 +266,10 @@ fn files_that_are_written() {
     let lost = "would be lost: give another name\n";
     assert!(folder.run("explain m text --html ./m").refused().ends_with(lost));
     assert!(folder.run("explain m text --html=text").refused().ends_with(lost));
-    assert_eq!(folder.shell("backoff explain m --html text <text").refused(), format!("backoff: text: it is read as standard input, and {lost}"));
+    assert_eq!(
+        folder.shell("backoff explain m --html text <text").refused(),
+        format!("backoff: text: it is read as standard input, and {lost}")
+    );
     assert_eq!((folder.get("m"), folder.get("text")), (SAMPLE.as_bytes().to_vec(), b"four\n".to_vec()));
     let shown = folder.run("explain m text --html /dev/stdout").printed();
     assert_eq!(folder.run("explain m text --html -").printed(), shown);

@@ -75,6 +75,32 @@ fn standard_input_and_output() {
     assert_eq!(folder.get("arpa"), SAMPLE.as_bytes());
 }
 
+/// What is printed does not go to a file that is read, which would grow as it is read.
+#[test]
+fn output_to_what_is_read() {
+    let folder = Folder::new();
+    folder.put("arpa", SAMPLE);
+    folder.put("text", "four five\nnine\n");
+    folder.run("build arpa array").printed();
+    let files = ["arpa", "array", "text"].map(|name| folder.get(name));
+    for (command, read) in [
+        ("query arpa text >>text", "text"),
+        ("query arpa <text >>text", "standard input"),
+        ("query array text --plain >>array", "array"),
+        ("explain arpa text >>arpa", "arpa"),
+        ("compare arpa array text >>text", "text"),
+        ("sentences arpa 1 >>arpa", "arpa"),
+        ("check arpa >>arpa", "arpa"),
+        ("dump array >>array", "array"),
+        ("in-form arpa >>arpa", "arpa"),
+        ("in-form <arpa >>arpa", "standard input"),
+    ] {
+        let told = format!("backoff: standard output: it is read as {read}, and would be lost: give another name\n");
+        assert_eq!(folder.shell(&format!("backoff {command}")).refused(), told, "{command}");
+    }
+    assert!(["arpa", "array", "text"].map(|name| folder.get(name)) == files);
+}
+
 /// More threads than processors are not begun, and small pieces have none of their own: from a pipe, 256 take about as long as one.
 #[test]
 fn many_threads_from_a_pipe() {

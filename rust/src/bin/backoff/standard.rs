@@ -1,6 +1,7 @@
 //! Standard input and output. Rust opens /dev/null in the place of what is closed when a program begins, and takes some errors for success; here every error is told.
 
 use crate::failure::Failure;
+use crate::files;
 use std::ffi::{c_int, c_short, c_ulong};
 use std::fs::File;
 use std::io::{self, Read, Write};
@@ -88,8 +89,9 @@ enum Source {
     Standard(Standard),
 }
 
-/// Opens the file of this name, or standard input.
+/// Opens the file of this name, or standard input. Standard output is another one, since what is written would be read again.
 pub fn open(path: &Path) -> Result<Input, Failure> {
+    files::require_another(Path::new(NAME), path)?;
     let source = match path.as_os_str() == NAME {
         true => Source::Standard(Standard::new(0)),
         false => Source::File(File::open(path).map_err(|error| Failure::file(path, error))?),
