@@ -1,5 +1,5 @@
-/* backoff.h: back-off scoring over a double array, for C99 and C++: cc prog.c $(pkg-config --cflags --libs backoff)
- * The rule that scores a word is in docs/back-off.md.
+/* backoff.h: back-off scoring over a double array, for C99 and C++. To compile:
+ * cc prog.c $(pkg-config --cflags --libs backoff). The rule that scores a word is in docs/back-off.md.
  *
  * Lists. A point is 1/1,000,000 of a base-10 logarithm. A list has eight numbers to a row: m, five words oldest first
  * (unused ones 0), log-probability p, back-off b. Words are 1 to 65,535: 1 is the unknown word, 2 is <s>, 3 is </s>.

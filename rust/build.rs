@@ -12,7 +12,8 @@ fn main() {
 
 fn link_archive() {
     println!("cargo:rerun-if-env-changed=BACKOFF_LIB_DIR");
-    let folder = var_os("BACKOFF_LIB_DIR").map_or_else(own_folder, |folder| from_caller(folder.into()));
+    let given = var_os("BACKOFF_LIB_DIR").filter(|folder| !folder.is_empty());
+    let folder = given.map_or_else(own_folder, |folder| from_caller(folder.into()));
     let name = ["grader", "backoff"].into_iter().find(|name| folder.join(format!("lib{name}.a")).is_file());
     let Some(name) = name else {
         fail(&format!(
