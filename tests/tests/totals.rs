@@ -64,21 +64,27 @@ impl Drop for Folder {
     }
 }
 
-/// What the program prints; a file that is none is not there.
-fn printed(list: Option<&[u8]>, text: Option<&[u8]>) -> String {
+/// What the program prints in a folder, and what it tells on standard error.
+fn run_in(folder: &Folder, output: Stdio) -> [String; 2] {
+    let program = Path::new(env!("CARGO_MANIFEST_DIR")).join("../target/bin/totals");
+    let ran = Command::new(program).current_dir(&folder.0).stdout(output).output().unwrap();
+    assert!(ran.status.success(), "{ran:?}");
+    [ran.stdout, ran.stderr].map(|bytes| String::from_utf8(bytes).unwrap())
+}
+
+/// The same for two files; one that is none is not there.
+fn ran(list: Option<&[u8]>, text: Option<&[u8]>) -> [String; 2] {
     let folder = Folder::new();
     folder.put("LIST", list);
     folder.put("TEXT", text);
-    let program = Path::new(env!("CARGO_MANIFEST_DIR")).join("../target/bin/totals");
-    let ran = Command::new(program).current_dir(&folder.0).output().unwrap();
-    assert!(ran.status.success() && ran.stderr.is_empty(), "{ran:?}");
-    String::from_utf8(ran.stdout).unwrap()
+    run_in(&folder, Stdio::piped())
 }
 
 /// What the program and the second description agree on.
 fn agreed(list: impl AsRef<[u8]>, text: impl AsRef<[u8]>) -> String {
     let (list, text) = (list.as_ref(), text.as_ref());
-    let ours = printed(Some(list), Some(text));
+    let [ours, told] = ran(Some(list), Some(text));
+    assert_eq!(told, "");
     let second = output(list, text);
     assert!(ours == second, "{}", differing(&ours, &second, list, text));
     ours
@@ -285,40 +291,71 @@ fn a_list_of_narrow_columns() {
     assert_eq!(agreed(narrow, line([4])), refusal(13, 1));
 }
 
+/// "A file that cannot be opened counts as empty"; standard error tells it.
 #[test]
 fn missing_and_empty_files() {
     let (rows, sentence) = (sample(), line([4, 5]));
     let (rows, sentence) = (Some(rows.as_bytes()), Some(sentence.as_bytes()));
-    for nothing in [None, Some(&b""[..])] {
-        assert_eq!(printed(nothing, sentence), refusal(1, 0));
-        assert_eq!(printed(nothing, nothing), refusal(1, 0));
-        assert_eq!(printed(rows, nothing), "");
+    for (nothing, list_told, text_told) in
+        [(None, "totals: LIST cannot be opened\n", "totals: TEXT cannot be opened\n"), (Some(&b""[..]), "", "")]
+    {
+        assert_eq!(ran(nothing, sentence), [&refusal(1, 0), list_told]);
+        assert_eq!(ran(nothing, nothing), [&refusal(1, 0), list_told]);
+        assert_eq!(ran(rows, nothing), ["", text_told]);
     }
     assert_eq!(agreed("\n", line([4, 5])), refusal(13, 1));
     assert_eq!(agreed(sample(), "\n"), "       1       0       0          -13000\n");
 }
 
-/// "LF after every line."
-/// Directories count as empty files. Of an output that takes nothing a program of the kit is not told: README says what is seen then.
+/// Directories count as empty files.
 #[test]
-fn directories_and_outputs_that_take_nothing() {
+fn directories() {
     let folder = Folder::new();
-    let program = Path::new(env!("CARGO_MANIFEST_DIR")).join("../target/bin/totals");
-    let run = |output: Stdio| Command::new(&program).current_dir(&folder.0).stdout(output).output().unwrap();
     fs::create_dir(folder.0.join("LIST")).unwrap();
     fs::create_dir(folder.0.join("TEXT")).unwrap();
-    assert_eq!(run(Stdio::piped()).stdout, refusal(1, 0).as_bytes());
+    assert_eq!(run_in(&folder, Stdio::piped()), [&refusal(1, 0), "totals: LIST cannot be read\n"]);
     fs::remove_dir(folder.0.join("LIST")).unwrap();
     folder.put("LIST", Some(sample().as_bytes()));
-    assert_eq!(run(Stdio::piped()).stdout, b"");
-    fs::remove_dir(folder.0.join("TEXT")).unwrap();
-    folder.put("TEXT", Some(b"       4\n"));
-    let ran = run(fs::File::create("/dev/full").unwrap().into());
-    assert!(ran.status.success() && ran.stderr.is_empty(), "{ran:?}");
-    let ran = run(fs::File::open("/dev/null").unwrap().into());
-    assert!(ran.status.success() && ran.stderr.is_empty(), "{ran:?}");
+    assert_eq!(run_in(&folder, Stdio::piped()), ["", "totals: TEXT cannot be read\n"]);
 }
 
+/// A full disk and an output that is not open for writing are told once, however much would follow; so is a closed one.
+#[test]
+fn outputs_that_take_nothing() {
+    let folder = Folder::new();
+    folder.put("LIST", Some(sample().as_bytes()));
+    let told = "totals: standard output takes no more\n";
+    for text in ["       4\n".repeat(1_000), "\n".to_string(), "wrong".to_string()] {
+        folder.put("TEXT", Some(text.as_bytes()));
+        for output in [fs::File::create("/dev/full").unwrap(), fs::File::open("/dev/null").unwrap()] {
+            assert_eq!(run_in(&folder, output.into())[1], told, "{text:.10}");
+        }
+        let closed = format!("exec {}/../target/bin/totals >&-", env!("CARGO_MANIFEST_DIR"));
+        let ran = Command::new("sh").args(["-c", &closed]).current_dir(&folder.0).output().unwrap();
+        assert_eq!((ran.status.success(), String::from_utf8(ran.stderr).unwrap()), (true, told.to_string()), "{text:.10}");
+    }
+    assert_eq!(fs::read(folder.0.join("LIST")).unwrap(), sample().as_bytes());
+}
+
+/// TEXT through a pipe, a few bytes at a time.
+#[test]
+fn text_from_a_pipe() {
+    let folder = Folder::new();
+    folder.put("LIST", Some(sample().as_bytes()));
+    std::os::unix::fs::symlink("/dev/stdin", folder.0.join("TEXT")).unwrap();
+    let text = text_of(&[vec![4, 5], vec![5, 4], vec![9], vec![]]);
+    let fed = format!(
+        "for part in '{}' '{}'; do printf %s \"$part\"; sleep 0.1; done | {}/../target/bin/totals",
+        &text[..21],
+        &text[21..],
+        env!("CARGO_MANIFEST_DIR")
+    );
+    let ran = Command::new("sh").args(["-c", &fed]).current_dir(&folder.0).output().unwrap();
+    assert_eq!(String::from_utf8(ran.stdout).unwrap(), output(sample().as_bytes(), text.as_bytes()));
+    assert_eq!(ran.stderr, b"");
+}
+
+/// "LF after every line."
 #[test]
 fn line_ends() {
     let (rows, text) = (sample(), text_of(&[vec![4, 5], vec![], vec![9]]));

@@ -1,6 +1,7 @@
 // The totals program of document 01: it builds the double array of the rows in LIST, and prints a line for each sentence of TEXT.
 use backoff::Verdict;
 use carried_state::State;
+use libc::STDERR_FILENO;
 use libc::STDOUT_FILENO;
 use totals_text::TextLine;
 ghost use mathlib.Core.Path.{_≡_};
@@ -32,7 +33,7 @@ const TEXT_LINE: usize = 512;
 // A length byte has 8 added where the word is unknown. The matched length is below it, and all else that is added is a multiple of 16.
 const UNKNOWN: u8 = 8;
 
-// The most pieces of TEXT that are read: 2^53, of 1,024 bytes.
+// The most pieces of TEXT that are read: 2^53, of up to 1,024 bytes.
 const MOST_PIECES: u64 = 9007199254740992;
 
 // What LIST holds: so many rows, or the number of its first line that is not in form.
@@ -53,8 +54,8 @@ struct Printed {
     length: usize,
 }
 
-// How far TEXT is read: the number of the line that has begun, how many characters of it are known, whether the output has ended with a refusal, and
-// how many characters the last piece of TEXT printed.
+// How far TEXT is read: the number of the line that has begun, how many characters of it are known, whether the output has ended, with a refusal or since
+// it is not taken, and how many characters the last piece of TEXT printed.
 struct Progress {
     number: u64,
     count: usize,
@@ -317,16 +318,30 @@ fn finish(progress: Progress, out: &mut [u8; 64]) -> usize
     totals_text::refused_line(backoff::TEXT_LINE, progress.number, out)
 }
 
+// Tells on standard error what standard output does not show: that a file counts as empty since it cannot be opened or read, and an output that is not taken.
+fn tell(text: &[u8]) {
+    io::write_all(STDERR_FILENO, text);
+}
+
+// Writes to standard output: whether it took all.
+fn print(text: &[u8]) -> bool {
+    let taken = io::write_all(STDOUT_FILENO, text);
+    if !taken {
+        tell(b"totals: standard output takes no more\n");
+    }
+    taken
+}
+
 fn print_refusal(number: u32, place: u64) {
     let mut out = [0u8; 64];
     let length = totals_text::refused_line(number, place, &mut out);
-    io::write_all(STDOUT_FILENO, &out[..length]);
+    print(&out[..length]);
 }
 
 fn print_end(progress: Progress) {
     let mut out = [0u8; 64];
     let length = finish(progress, &mut out);
-    io::write_all(STDOUT_FILENO, &out[..length]);
+    print(&out[..length]);
 }
 
 // Scores a piece of TEXT and prints its lines.
@@ -345,13 +360,26 @@ fn print_piece(
     ensures number { λ r. ⌜ r .number ≤ progress .number + length (now (piece .entry)) ⌝ }
 {
     let mut out = io::large_buffer();
-    let after = feed(base, check, start, piece, progress, line, &mut out);
+    let mut after = feed(base, check, start, piece, progress, line, &mut out);
     let written = after.written;
-    io::write_all(STDOUT_FILENO, &out[..written]);
+    if !print(&out[..written]) {
+        after.refused = true;
+    }
     after
 }
 
-// Reads TEXT piece by piece. A proved loop has to end, and nothing says that a file does: after 2^63 bytes the reading would stop.
+// Reads a piece of TEXT: how many bytes, which is none at its end and where it cannot be read.
+fn read_text(file: i32, piece: &mut [u8]) -> usize
+    ensures { λ r. ⌜ Counts r (now (piece .exit)) ⌝ }
+{
+    let got = libc::read(file, piece);
+    if got < 0 {
+        tell(b"totals: TEXT cannot be read\n");
+    }
+    io::count(got, piece)
+}
+
+// Reads TEXT piece by piece. A proved loop has to end, and nothing says that a file does: after 2^53 pieces the reading would stop.
 fn print_text(base: &[i32], check: &[i32], start: State, file: i32)
     requires { ⌜ Ready (now base) (now check) (numbersOf start) ⌝ }
 {
@@ -365,7 +393,7 @@ fn print_text(base: &[i32], check: &[i32], start: State, file: i32)
     let mut turns = MOST_PIECES;
     while turns > 0 {
         let mut piece = [0u8; 1024];
-        let got = io::read_full(file, &mut piece);
+        let got = read_text(file, &mut piece);
         if got == 0 {
             print_end(progress);
             return;
@@ -384,6 +412,7 @@ fn print_file(base: &[i32], check: &[i32], start: State)
 {
     let file = os::open_read(b"TEXT");
     if file < 0 {
+        tell(b"totals: TEXT cannot be opened\n");
         return;
     }
     print_text(base, check, start, file);
@@ -410,15 +439,25 @@ fn build_list(table: &[i32]) {
     }
 }
 
+// What `io::read_full` does not tell: that LIST cannot be read further.
+fn tell_unread(file: i32) {
+    let mut further = [0u8; 16];
+    if libc::read(file, &mut further) < 0 {
+        tell(b"totals: LIST cannot be read\n");
+    }
+}
+
 // The first bytes of LIST, as many as fit, and how many there are. The first 49,665 decide: 512 lines of 97, and one more.
 fn load_list(text: &mut [u8]) -> usize
     ensures { λ r. ⌜ Counts r (now (text .exit)) ⌝ }
 {
     let file = os::open_read(b"LIST");
     if file < 0 {
+        tell(b"totals: LIST cannot be opened\n");
         return 0;
     }
     let count = io::read_full(file, text);
+    tell_unread(file);
     libc::close(file);
     count
 }

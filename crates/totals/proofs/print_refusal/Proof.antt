@@ -16,11 +16,11 @@ counts c =
 array-share-prefix-out : tie.Need-array-share-prefix-out
 array-share-prefix-out c = counts c .0
 
-slice-aggregate-write-all : tie.Need-slice-aggregate-write-all
-slice-aggregate-write-all c = counts (c .before) .1
+slice-aggregate-print : tie.Need-slice-aggregate-print
+slice-aggregate-print c = counts (c .before) .1
 
-write-all-requires : tie.Need-write-all-requires
-write-all-requires c κs = search needs
+print-requires : tie.Need-print-requires
+print-requires c κs = search needs
 
 returns : tie.Need-returns
 returns c = search needs
@@ -31,6 +31,6 @@ print-refusal-spec =
     (tie.spec
     refused-line-requires
     array-share-prefix-out
-    slice-aggregate-write-all
-    write-all-requires
+    slice-aggregate-print
+    print-requires
     returns)

@@ -20,11 +20,11 @@ loop-holds : tie.Need-loop-holds Inv-loop μ-loop
 unfolding indexOf
 loop-holds c = (record { buffer = refl; room = omega arith; no-end = refl }, omega arith)
 
-slice-aggregate-read-full : tie.Need-slice-aggregate-read-full Inv-loop μ-loop
-slice-aggregate-read-full c = search needs
+slice-aggregate-read-text : tie.Need-slice-aggregate-read-text Inv-loop μ-loop
+slice-aggregate-read-text c = search needs
 
-read-full-requires : tie.Need-read-full-requires Inv-loop μ-loop
-read-full-requires c κs = search needs
+read-text-requires : tie.Need-read-text-requires Inv-loop μ-loop
+read-text-requires c κs = search needs
 
 print-end-requires : tie.Need-print-end-requires Inv-loop μ-loop
 print-end-requires c κs = search needs
@@ -33,8 +33,8 @@ returns : tie.Need-returns Inv-loop μ-loop
 returns c = search needs
 
 -- a piece has at most 1,024 bytes
-short : (c : tie.After-read-full Inv-loop μ-loop) → length (take (c .read-full .result) (c .read-full .last .1 .0)) ≤ 1024
-short c = omega (arith, c .read-full .ensures .0, c .read-full .ensures .1, c .read-full .kept .1 .0)
+short : (c : tie.After-read-text Inv-loop μ-loop) → length (take (c .read-text .result) (c .read-text .last .1 .0)) ≤ 1024
+short c = omega (arith, c .read-text .ensures .0, c .read-text .ensures .1, c .read-text .kept .1 .0)
 
 array-share-prefix-piece : tie.Need-array-share-prefix-piece Inv-loop μ-loop
 array-share-prefix-piece c = search needs
@@ -75,8 +75,8 @@ print-text-spec =
     Inv-loop
     μ-loop
     loop-holds
-    slice-aggregate-read-full
-    read-full-requires
+    slice-aggregate-read-text
+    read-text-requires
     print-end-requires
     returns
     array-share-prefix-piece
