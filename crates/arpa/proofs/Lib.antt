@@ -7,6 +7,5 @@ pub mod NewTexts
 pub mod LineRows
 pub mod LineByLine
 pub mod Positions
-pub mod Refusals
 pub mod OrderedRows
 pub mod Meaning

@@ -2,114 +2,32 @@
 use mathlib.Core.Path.{_≡_, refl, sym, ap, _∙_, subst}
 use mathlib.Core.Logic.{_⊎_, inl, inr, ⊎-elim}
 use mathlib.Core.Bool.{Bool, true, false, cond, _&&_, _||_, true≢false}
-use mathlib.Core.List.{List, [], _∷_, _++_, map, append-assoc, append-nil, List·Memᴰ, List·Memᴰ·head, List·Memᴰ·tail, List·Memᴰ·not-nil, List·Memᴰ·append-cases, Memᴰ·append-left, Memᴰ·append-right, List·Memᴰ·eq-of-singleton, cons≢nil}
+use mathlib.Core.List.{List, [], _∷_, _++_, map, append-assoc, append-nil, List·Memᴰ, List·Memᴰ·head, List·Memᴰ·tail, cons≢nil}
 use mathlib.Core.Option.{Option, none, some}
 use Prim.Native.Nat.{ℕ, suc, _*_, _-_, _<_, _≤_}
-use native.Mathlib.Numerals.{add-one}
 use native.Mathlib.Omega.{arith}
+use native.Mathlib.Numerals.{add-one}
 use lib.Dec.{eqb, ltb, leb}
-use lib.IntN.{ℤ}
-use lib.ListN.{length, getD, drop, set, length-append, length-set, List·getD-append}
-use lib.Seq.{getD-set-same, getD-set-other, getD-append-seam}
-use borrow.Author.Tests.{eqb-true, eqb-false, eq-eqb, ne-eqb, ltb-true, ltb-false, lt-ltb, le-ltb, leb-true, leb-false, le-leb}
-use Rattle.integer.proofs.Ranges.{and-left, and-right, and-both, lt-or-ge}
+use lib.ListN.{length, getD, length-append}
+use borrow.Author.Tests.{eqb-true, leb-true, eqb-false, ltb-true, ltb-false, lt-ltb, le-ltb, leb-false, le-leb}
+use Rattle.integer.proofs.Ranges.{and-left, and-right, and-both}
 use Rattle.backoff.specs.Limits.{orderLimit}
 use Rattle.backoff.specs.Refusal.{shortSlice, lineForm, unlistedText, sectionCount}
 use Rattle.backoff.specs.Words.{sameWords}
 use Rattle.backoff.proofs.Words.{same-eq, same-refl}
-use Rattle.row_search.specs.declared.Found.the-variants.{At}
-use Rattle.list.specs.Check.{orElse}
-use Rattle.word_index.specs.Texts.{searchFrom, givenBy}
 use Rattle.arpa_text.specs.declared.Count.{Count}
 use Rattle.arpa_text.specs.declared.Count.the-variants.{Announced, NotInForm}
-use Rattle.arpa_text.specs.Parts.{parts, before}
-use Rattle.arpa_text.specs.Lines.{dataLine, sectionLine, endLine, readCount, Listed, readRow, isText, areTexts}
-use Rattle.arpa_words.specs.Words.{unknownText, startText, endText, reservedNumber, numberMet, numberGiven, someMissing, withText}
-use Rattle.arpa_words.specs.Held.{TextsSound}
-use Rattle.arpa_lines.specs.Reading.{Reading, unread, Step, goes, refusedBy, announce, enter, firstSection, countStep, dataStep, closes, closeSection, rowOf, addRow, rowFits, recordFits, wordStep, longerStep, rowStep, sectionStep, stageStep, lineStep, Lines, done, stopped, onward, lastPiece, readLines}
-use Rattle.arpa.specs.Meaning.{rowLines, wordCount, lineTexts, wordTexts, withNew, newTexts, Position, at-start, in-counts, in-section, at-end, Leads, skipped, data-line, count-line, first-heading, row-of, next-heading, end-line, numberBy, HasLine, LineMeets, not-in-form, no-word-line, heading-count, end-count, row-past, text-past, ReadTo, no-lines, one-more, linesIn, lastIn, AllRead, ReadRefusedBy, at-line, no-end-line, no-line-end}
+use Rattle.arpa_text.specs.Parts.{before, parts}
+use Rattle.arpa_text.specs.Lines.{dataLine, sectionLine, endLine, readCount, Listed, readRow}
+use Rattle.arpa_words.specs.Words.{numberMet, someMissing}
+use Rattle.arpa_lines.specs.Reading.{Reading, Step, goes, refusedBy, announce, enter, firstSection, countStep, dataStep, closes, closeSection, rowOf, addRow, rowFits, recordFits, wordStep, longerStep, rowStep, sectionStep, stageStep, lineStep, Lines, done, stopped, onward, lastPiece, readLines, unread}
 use Rattle.arpa_lines.specs.declared.Stage.{Stage}
 use Rattle.arpa_lines.specs.declared.Stage.the-variants.{Start, Counts, Section, Ended}
-use Rattle.arpa_words.proofs.Words.{text-not-empty, none-met, no-texts-sound}
-use Rattle.arpa_words.proofs.TextSteps.{same-or-not}
-use Rattle.arpa_lines.proofs.Fields.{parts-some, read-texts}
-use Rattle.arpa.proofs.RowLines.{NoTab, row-line, other-line, empty-no-tab, data-no-tab, end-no-tab, section-no-tab, count-no-tab, row-has-tab, count-of-row, texts-of-row}
-use Rattle.arpa.proofs.NewTexts.{numberIn, Known, known-met, met-known}
-use Rattle.arpa.proofs.LineRows.{texts-members, none-missing, WordRow, word-row}
-
--- ---- one line more
-
-rows-more : (ls : List (List ℕ)) (line : List ℕ) → rowLines (ls ++ (line ∷ [])) ≡ rowLines ls ++ rowLines (line ∷ [])
-unfolding rowLines
-rows-more [] line = refl
-rows-more (i ∷ ls) line = go (ltb (before 9 i) (length i)) (rows-more ls line)
-  where
-    go : (t : Bool) → rowLines (ls ++ (line ∷ [])) ≡ rowLines ls ++ rowLines (line ∷ [])
-        → cond t (i ∷ rowLines (ls ++ (line ∷ []))) (rowLines (ls ++ (line ∷ []))) ≡ cond t (i ∷ rowLines ls) (rowLines ls) ++ rowLines (line ∷ [])
-    go true e = ap (λ (rows : List (List ℕ)). i ∷ rows) e
-    go false e = e
-
-no-row-more : (ls : List (List ℕ)) (line : List ℕ) → NoTab line → rowLines (ls ++ (line ∷ [])) ≡ rowLines ls
-unfolding rowLines
-no-row-more ls line e = rows-more ls line ∙ ap (λ (rows : List (List ℕ)). rowLines ls ++ rows) (other-line line [] e) ∙ append-nil (rowLines ls)
-
-row-more : (ls : List (List ℕ)) (line : List ℕ) → before 9 line < length line → rowLines (ls ++ (line ∷ [])) ≡ rowLines ls ++ (line ∷ [])
-unfolding rowLines
-row-more ls line l = rows-more ls line ∙ ap (λ (rows : List (List ℕ)). rowLines ls ++ rows) (row-line line [] l)
-
-word-more : (rows : List (List ℕ)) (line : List ℕ) → wordCount line ≡ 1 → wordTexts (rows ++ (line ∷ [])) ≡ wordTexts rows ++ (getD (lineTexts line) 0 [] ∷ [])
-unfolding wordTexts
-word-more [] line e = rw (eq-eqb (wordCount line) 1 e) refl
-word-more (i ∷ rows) line e = go (eqb (wordCount i) 1) (word-more rows line e)
-  where
-    go : (t : Bool) → wordTexts (rows ++ (line ∷ [])) ≡ wordTexts rows ++ (getD (lineTexts line) 0 [] ∷ [])
-        → cond t (getD (lineTexts i) 0 [] ∷ wordTexts (rows ++ (line ∷ []))) (wordTexts (rows ++ (line ∷ []))) ≡ cond t (getD (lineTexts i) 0 [] ∷ wordTexts rows) (wordTexts rows) ++ (getD (lineTexts line) 0 [] ∷ [])
-    go true f = ap (λ (us : List (List ℕ)). getD (lineTexts i) 0 [] ∷ us) f
-    go false f = f
-
-no-word-more : (rows : List (List ℕ)) (line : List ℕ) → (wordCount line ≡ 1 → ⊥) → wordTexts (rows ++ (line ∷ [])) ≡ wordTexts rows
-unfolding wordTexts
-no-word-more [] line n = rw (ne-eqb (wordCount line) 1 n) refl
-no-word-more (i ∷ rows) line n = go (eqb (wordCount i) 1) (no-word-more rows line n)
-  where
-    go : (t : Bool) → wordTexts (rows ++ (line ∷ [])) ≡ wordTexts rows → cond t (getD (lineTexts i) 0 [] ∷ wordTexts (rows ++ (line ∷ []))) (wordTexts (rows ++ (line ∷ []))) ≡ cond t (getD (lineTexts i) 0 [] ∷ wordTexts rows) (wordTexts rows)
-    go true f = ap (λ (us : List (List ℕ)). getD (lineTexts i) 0 [] ∷ us) f
-    go false f = f
-
-new-more : (met texts : List (List ℕ)) (u : List ℕ) → newTexts met (texts ++ (u ∷ [])) ≡ withNew (newTexts met texts) u
-unfolding newTexts
-new-more met [] u = refl
-new-more met (v ∷ texts) u = new-more (withNew met v) texts u
-
--- a text's number by the lines
-pub number-by : (lines : List (List ℕ)) (u : List ℕ) → numberBy lines u ≡ numberIn (newTexts [] (wordTexts lines)) u
-unfolding numberBy numberMet numberIn searchFrom reservedNumber
-number-by lines u = go (sameWords u unknownText) (sameWords u startText) (sameWords u endText)
-  where
-    go : (a b c : Bool) → givenBy (cond a (At 1) (cond b (At 2) (cond c (At 3) (searchFrom u 4 (newTexts [] (wordTexts lines)))))) 0 ≡ orElse (cond a 1 (cond b 2 (cond c 3 0))) (givenBy (searchFrom u 4 (newTexts [] (wordTexts lines))) 0)
-    go true b c = refl
-    go false true c = refl
-    go false false true = refl
-    go false false false = refl
-
--- the texts once word k has its text: this one, and those that were there
-with-or-was : (texts : List (List ℕ)) (k : ℕ) (text u : List ℕ) → Known (withText texts k text) u → (u ≡ text) ⊎ Known texts u
-unfolding withText
-with-or-was texts k text u = go (leb k (length texts)) refl
-  where
-    go : (t : Bool) → leb k (length texts) ≡ t → Known (cond t (set texts (k - 1) text) (texts ++ (text ∷ []))) u → (u ≡ text) ⊎ Known texts u
-    go true e (j, l, f) =
-        let s = length-set texts (k - 1) text in
-        ⊎-elim
-        (λ (w : j ≡ k - 1). inl (sym f ∙ ap (λ (i : ℕ). getD (set texts (k - 1) text) i []) w ∙ getD-set-same texts (k - 1) text [] (omega arith)))
-        (λ (w : j ≡ k - 1 → ⊥). inr (j, omega arith, sym (getD-set-other texts (k - 1) j text [] w) ∙ f))
-        (same-or-not j (k - 1))
-    go false e (j, l, f) =
-        let s = length-append texts (text ∷ []) in
-        ⊎-elim
-        (λ (w : j < length texts). inr (j, w, sym (List·getD-append texts (text ∷ []) [] j w) ∙ f))
-        (λ (w : length texts ≤ j). let z : j ≡ length texts = omega arith in inl (sym f ∙ ap (λ (i : ℕ). getD (texts ++ (text ∷ [])) i []) z ∙ getD-append-seam texts text [] []))
-        (lt-or-ge j (length texts))
+use Rattle.arpa.specs.Meaning.{rowLines, Position, at-start, in-counts, in-section, at-end, Leads, skipped, data-line, count-line, first-heading, row-of, next-heading, end-line, numberBy, HasLine, LineMeets, not-in-form, no-word-line, heading-count, end-count, row-no-longer-fits, text-no-longer-fits, ReadTo, no-lines, one-more, linesIn, lastIn, AllRead, ReadRefusedBy, at-line, no-end-line, no-line-end, bad-list}
+use Rattle.arpa_lines.proofs.Fields.{parts-some}
+use Rattle.arpa.proofs.RowLines.{NoTab, other-line, empty-no-tab, data-no-tab, end-no-tab, section-no-tab, count-no-tab, row-has-tab}
+use Rattle.arpa.proofs.NewTexts.{known-met}
+use Rattle.arpa.proofs.LineRows.{onlyText, onlyNumber, textsWith, no-row-more, row-more, Fresh, Holds, holds-begun, row-count, word-held, word-number, only-text, word-there, all-listed, longer-held}
 
 -- ---- what a line may be behind a position
 
@@ -164,35 +82,25 @@ module _ (room size : ℕ) (earlier : List (List ℕ)) where
   none-meets _ _ _ (no-word-line cs m k line l e n u i h) x = h (x .listed l e n u i)
   none-meets _ _ _ (heading-count cs m k l n) x = n (x .heading l refl)
   none-meets _ _ _ (end-count cs m k l n) x = n (x .end l refl)
-  none-meets _ _ _ (row-past cs m k line l e a h) x = let z = x .row-fits l e in omega arith
-  none-meets _ _ _ (text-past cs k line l e u i h) x = let z = x .text-fits l e refl u i in omega arith
+  none-meets _ _ _ (row-no-longer-fits cs m k line l e a h) x = let z = x .row-fits l e in omega arith
+  none-meets _ _ _ (text-no-longer-fits cs k line l e u i h) x = let z = x .text-fits l e refl u i in omega arith
 
--- ---- what a reading holds of the lines of rows that it has read
+  meets-some : (q : Position) (line : List ℕ) (n : ℕ) → LineMeets room size earlier q line n → n ≡ 0 → ⊥
+  meets-some _ _ _ (not-in-form q line h) z = omega arith
+  meets-some _ _ _ (no-word-line cs m k line l e n u i h) z = omega arith
+  meets-some _ _ _ (heading-count cs m k l n) z = omega arith
+  meets-some _ _ _ (end-count cs m k l n) z = omega arith
+  meets-some _ _ _ (row-no-longer-fits cs m k line l e a h) z = omega arith
+  meets-some _ _ _ (text-no-longer-fits cs k line l e u i h) z = omega arith
 
-abbrev Fresh : Stage → List ℕ → Type 0
-Fresh Start cs = cs ≡ []
-Fresh Counts cs = Unit {0}
-Fresh (Section m) cs = Unit {0}
-Fresh Ended cs = Unit {0}
+-- no refusal has number 0
+pub refused-some : (filling : Bool) (room size : ℕ) (text : List ℕ) (n p : ℕ) → ReadRefusedBy filling room size text n p → n ≡ 0 → ⊥
+refused-some filling room size text _ _ (at-line earlier line later e q to n m) z = meets-some room size earlier q line n m z
+refused-some filling room size text _ _ (no-end-line q to h) z = omega arith
+refused-some filling room size text _ _ (no-line-end q to h) z = omega arith
+refused-some filling room size text _ _ (bad-list all n p not-0 v) z = not-0 z
 
-record Holds (r : Reading) (rows : List (List ℕ)) : Type 0 where
-  sound : TextsSound (r .texts)
-  fresh : Fresh (r .stage) (r .announced)
-  count : length (r .rows) ≡ length rows
-  news : drop 3 (r .texts) ≡ newTexts [] (wordTexts rows)
-  listed : (u : List ℕ) → isText u ≡ true → Known (r .texts) u → List·Memᴰ u (wordTexts rows)
-  known : (u : List ℕ) → List·Memᴰ u (wordTexts rows) → (isText u ≡ true) × Known (r .texts) u
-
-holds-begun : Holds unread []
-unfolding newTexts wordTexts
-holds-begun = record {
-  sound = no-texts-sound;
-  fresh = refl;
-  count = refl;
-  news = refl;
-  listed = λ u f k. absurd (text-not-empty u f (sym (k .2) ∙ none-met (k .0)));
-  known = λ u m. absurd (List·Memᴰ·not-nil m);
-}
+-- ---- one line
 
 -- where a reading stands
 abbrev positionAt : Stage → List ℕ → ℕ → Position
@@ -216,11 +124,9 @@ missing-text f (u ∷ us) e = go (eqb (f u) 0) refl e (missing-text f us)
     go true g h rest = (u, List·Memᴰ·head refl, eqb-true (f u) 0 g)
     go false g h rest = let r = rest h in (r .0, List·Memᴰ·tail (r .1), r .2)
 
--- ---- one line
-
-module _ (room size : ℕ) (ls : List (List ℕ)) (r : Reading) (h : Holds r (rowLines ls)) where
+module _ (room size : ℕ) (ls : List (List ℕ)) (r : Reading) (h : Holds room size r (rowLines ls)) where
   abbrev Told : Position → List ℕ → Step → Type 0
-  Told q line (goes s) = Leads q line (positionOf s) × ((n : ℕ) → LineMeets room size ls q line n → ⊥) × Holds s (rowLines (ls ++ (line ∷ [])))
+  Told q line (goes s) = Leads q line (positionOf s) × ((n : ℕ) → LineMeets room size ls q line n → ⊥) × Holds room size s (rowLines (ls ++ (line ∷ [])))
   Told q line (refusedBy n) = LineMeets room size ls q line n
 
   by-test : (q : Position) (line : List ℕ) (t : Bool) (x y : Step) → (t ≡ true → Told q line x) → (t ≡ false → Told q line y) → Told q line (cond t x y)
@@ -228,10 +134,10 @@ module _ (room size : ℕ) (ls : List (List ℕ)) (r : Reading) (h : Holds r (ro
   by-test q line false x y f g = g refl
 
   -- a line that brings no row
-  same-rows : (line : List ℕ) → NoTab line → (stage : Stage) (cs : List ℕ) (k : ℕ) → Fresh stage cs → Holds (record { stage = stage; announced = cs; lines = k; rows = r .rows; texts = r .texts }) (rowLines (ls ++ (line ∷ [])))
+  same-rows : (line : List ℕ) → NoTab line → (stage : Stage) (cs : List ℕ) (k : ℕ) → Fresh stage cs → Holds room size (record { stage = stage; announced = cs; lines = k; rows = r .rows; texts = r .texts }) (rowLines (ls ++ (line ∷ [])))
   same-rows line n stage cs k f =
-      subst (Holds (record { stage = stage; announced = cs; lines = k; rows = r .rows; texts = r .texts })) (sym (no-row-more ls line n))
-      (record { sound = h .sound; fresh = f; count = h .count; news = h .news; listed = h .listed; known = h .known })
+      subst (Holds room size (record { stage = stage; announced = cs; lines = k; rows = r .rows; texts = r .texts })) (sym (no-row-more ls line n))
+      (record { texts = h .texts; records = h .records; row-room = h .row-room; fresh = f; said = h .said; rows = h .rows; news = h .news; in-form = h .in-form; known = h .known; listed = h .listed; met = h .met })
 
   -- ---- before the sections
 
@@ -333,12 +239,6 @@ module _ (room size : ℕ) (ls : List (List ℕ)) (r : Reading) (h : Holds r (ro
 
     -- ---- a row
     module _ (stage : r .stage ≡ Section m) (line : List ℕ) (l : Listed) (is : readRow m line ≡ some l) where
-      are-texts : areTexts m (l .texts) ≡ true
-      are-texts = read-texts m line l is
-
-      in-form : (u : List ℕ) → List·Memᴰ u (l .texts) → isText u ≡ true
-      in-form u i = texts-members m (l .texts) are-texts u i
-
       leads : Leads here line (positionAt (r .stage) cs (suc (r .lines)))
       leads = rw stage (row-of cs m (r .lines) line l is)
 
@@ -352,91 +252,48 @@ module _ (room size : ℕ) (ls : List (List ℕ)) (r : Reading) (h : Holds r (ro
             behind = positionAt (r .stage) cs (suc (r .lines));
             leads = leads;
             listed = λ l′ e o u i. listed o u (subst (λ (s : Listed). List·Memᴰ u (s .texts)) (some-same (sym e ∙ is)) i);
-            row-fits = λ l′ e. let f = leb-true (8 * suc (length (r .rows))) room fits in let c = h .count in omega arith;
+            row-fits = λ l′ e. let f = leb-true (8 * suc (length (r .rows))) room fits in let c = row-count room size r (rowLines ls) h in omega arith;
             text-fits = λ l′ e o u i. texts o u (subst (λ (s : Listed). List·Memᴰ u (s .texts)) (some-same (sym e ∙ is)) i);
             heading = λ a e. absurd (row-only m line l is (section-no-tab (suc m) line (ap (λ (i : List ℕ). sameWords i (sectionLine (suc m))) e ∙ same-refl (sectionLine (suc m)))));
             end = λ a e. absurd (row-only m line l is (end-no-tab line (ap (λ (i : List ℕ). sameWords i endLine) e ∙ same-refl endLine)));
           })
 
-      row-count : (row : List ℤ) → length (r .rows ++ (row ∷ [])) ≡ length (rowLines ls ++ (line ∷ []))
-      row-count row =
-          let a = length-append (r .rows) (row ∷ []) in
-          let b = length-append (rowLines ls) (line ∷ []) in
-          let c = h .count in
-          omega arith
-
       too-many : rowFits room r ≡ false → room < 8 * suc (length (rowLines ls))
       unfolding rowFits
-      too-many e = let f = leb-false (8 * suc (length (r .rows))) room e in let c = h .count in omega arith
+      too-many e = let f = leb-false (8 * suc (length (r .rows))) room e in let c = row-count room size r (rowLines ls) h in omega arith
 
-      fresh-row : Fresh (r .stage) cs
-      fresh-row = rw stage tt
+      more-rows : rowLines ls ++ (line ∷ []) ≡ rowLines (ls ++ (line ∷ []))
+      more-rows = sym (row-more ls line (row-has-tab m line l is))
 
       -- ---- of the one-word section
-      word-told : m ≡ 1 → Told here line (wordStep room size r l (getD (l .texts) 0 []) (numberGiven (r .texts) (getD (l .texts) 0 [])))
+      word-told : m ≡ 1 → Told here line (wordStep room size r l (onlyText l) (onlyNumber r l))
       unfolding wordStep addRow recordFits
       word-told one =
-          by-test here line (rowFits room r && recordFits size k) (goes (addRow r (rowOf (k ∷ []) (l .p) (l .b)) next)) (refusedBy shortSlice)
-          (λ t. (
+          by-test here line (rowFits room r && recordFits size k) (goes (addRow r (rowOf (k ∷ []) (l .p) (l .b)) (textsWith r l))) (refusedBy shortSlice)
+          (λ t.
+          let f = and-left (rowFits room r) (recordFits size k) t in
+          let g = and-right (rowFits room r) (recordFits size k) t in (
             leads,
-            passes (λ n. absurd (n one)) (and-left (rowFits room r) (recordFits size k) t) (λ o u i. text-fits (and-right (rowFits room r) (recordFits size k) t) u i),
-            subst (Holds (addRow r (rowOf (k ∷ []) (l .p) (l .b)) next)) (sym (row-more ls line (row-has-tab m line l is))) held,
+            passes (λ n. absurd (n one)) f (λ o u i. text-fits g u i),
+            subst (Holds room size (addRow r (rowOf (k ∷ []) (l .p) (l .b)) (textsWith r l))) more-rows (word-held room size r (rowLines ls) h line m l is one f g),
           ))
           (λ t. refused (rowFits room r) refl (recordFits size k) refl t)
         where
-          text : List ℕ
-          text = getD (l .texts) 0 []
-
           k : ℕ
-          k = numberGiven (r .texts) text
+          k = onlyNumber r l
 
-          next : List (List ℕ)
-          next = withText (r .texts) k text
-
-          w : WordRow size r l
-          w = word-row size r (h .sound) line l (rw one at is)
-
-          words : wordTexts (rowLines ls ++ (line ∷ [])) ≡ wordTexts (rowLines ls) ++ (text ∷ [])
-          words = word-more (rowLines ls) line (count-of-row m line l is ∙ one) ∙ ap (λ (us : List (List ℕ)). wordTexts (rowLines ls) ++ (getD us 0 [] ∷ [])) (texts-of-row m line l is)
-
-          news : drop 3 next ≡ newTexts [] (wordTexts (rowLines ls ++ (line ∷ [])))
-          news = w .read .news ∙ ap (λ (ns : List (List ℕ)). withNew ns text) (h .news) ∙ sym (new-more [] (wordTexts (rowLines ls)) text) ∙ ap (newTexts []) (sym words)
-
-          number : numberBy (rowLines (ls ++ (line ∷ []))) text ≡ k
-          number =
-              number-by (rowLines (ls ++ (line ∷ []))) text
-              ∙ ap (λ (rows : List (List ℕ)). numberIn (newTexts [] (wordTexts rows)) text) (row-more ls line (row-has-tab m line l is))
-              ∙ ap (λ (ns : List (List ℕ)). numberIn ns text) (sym news)
-              ∙ sym (w .read .number)
-
-          is-text : (u : List ℕ) → List·Memᴰ u (l .texts) → u ≡ text
-          is-text u i = List·Memᴰ·eq-of-singleton (subst (λ (us : List (List ℕ)). List·Memᴰ u us) (w .only) i)
+          number : numberBy (rowLines (ls ++ (line ∷ []))) (onlyText l) ≡ k
+          number = ap (λ (rows : List (List ℕ)). numberBy rows (onlyText l)) (sym more-rows) ∙ word-number room size r (rowLines ls) h line m l is one
 
           text-fits : recordFits size k ≡ true → (u : List ℕ) → List·Memᴰ u (l .texts) → 64 * suc (numberBy (rowLines (ls ++ (line ∷ []))) u) ≤ size
-          text-fits e u i = let f = leb-true (64 * suc k) size e in rw (is-text u i, number) f
+          text-fits e u i = let f = leb-true (64 * suc k) size e in rw (only-text room size r (rowLines ls) h line m l is one u i, number) f
 
           refused : (a : Bool) → rowFits room r ≡ a → (b : Bool) → recordFits size k ≡ b → (a && b) ≡ false → LineMeets room size ls here line shortSlice
-          refused false e b f t = row-past cs m (r .lines) line l is (λ n. absurd (n one)) (too-many e)
+          refused false e b f t = row-no-longer-fits cs m (r .lines) line l is (λ n. absurd (n one)) (too-many e)
           refused true e true f t = absurd (true≢false t)
           refused true e false f t =
               subst (λ (i : ℕ). LineMeets room size ls (in-section cs i (r .lines)) line shortSlice) (sym one)
-              (text-past cs (r .lines) line l (rw one at is) text (subst (λ (us : List (List ℕ)). List·Memᴰ text us) (sym (w .only)) (List·Memᴰ·head refl)) (let g = leb-false (64 * suc k) size f in rw number g))
-
-          held : Holds (addRow r (rowOf (k ∷ []) (l .p) (l .b)) next) (rowLines ls ++ (line ∷ []))
-          held = record {
-            sound = w .read .sound;
-            fresh = fresh-row;
-            count = row-count (rowOf (k ∷ []) (l .p) (l .b));
-            news = news;
-            listed = λ u f i.
-                subst (λ (us : List (List ℕ)). List·Memᴰ u us) (sym words)
-                (⊎-elim (λ z. Memᴰ·append-right (wordTexts (rowLines ls)) (List·Memᴰ·head z)) (λ z. Memᴰ·append-left (text ∷ []) (h .listed u f z)) (with-or-was (r .texts) k text u i));
-            known = λ u i.
-                ⊎-elim
-                (λ z. let y = h .known u z in (y .0, w .read .still u (y .0) (y .1)))
-                (λ z. let e = List·Memᴰ·eq-of-singleton z in (ap isText e ∙ w .in-form, subst (Known next) (sym e) (w .read .known)))
-                (List·Memᴰ·append-cases (wordTexts (rowLines ls)) (subst (λ (us : List (List ℕ)). List·Memᴰ u us) words i));
-          }
+              (text-no-longer-fits cs (r .lines) line l (rw one at is) (onlyText l) (word-there room size r (rowLines ls) h line m l is one) (let g = leb-false (64 * suc k) size f in rw number g))
 
       -- ---- of a longer section
       longer-told : (m ≡ 1 → ⊥) → Told here line (longerStep room r l (map (numberMet (r .texts)) (l .texts)))
@@ -446,34 +303,19 @@ module _ (room size : ℕ) (ls : List (List ℕ)) (r : Reading) (h : Holds r (ro
           (λ t.
           let u = missing-text (numberMet (r .texts)) (l .texts) t in
           no-word-line cs m (r .lines) line l is more (u .0) (u .1)
-          (λ i. let y = h .known (u .0) i in let z = known-met (r .texts) (h .sound) (u .0) (y .0) (y .1) in let w = u .2 in omega arith))
+          (λ i. let y = h .met (u .0) i in let z = known-met (r .texts) (h .texts) (u .0) (y .0) (y .1) in let w = u .2 in omega arith))
           (λ t.
+          let listed = all-listed room size r (rowLines ls) h line m l is more t in
           by-test here line (rowFits room r) (goes (addRow r (rowOf numbers (l .p) (l .b)) (r .texts))) (refusedBy shortSlice)
           (λ f. (
             leads,
-            passes (λ n u i. listed t u i) f (λ o. absurd (more o)),
-            subst (Holds (addRow r (rowOf numbers (l .p) (l .b)) (r .texts))) (sym (row-more ls line (row-has-tab m line l is))) held,
+            passes (λ n. listed) f (λ o. absurd (more o)),
+            subst (Holds room size (addRow r (rowOf numbers (l .p) (l .b)) (r .texts))) more-rows (longer-held room size r (rowLines ls) h line m l is more t f),
           ))
-          (λ f. row-past cs m (r .lines) line l is (λ n u i. listed t u i) (too-many f)))
+          (λ f. row-no-longer-fits cs m (r .lines) line l is (λ n. listed) (too-many f)))
         where
           numbers : List ℕ
           numbers = map (numberMet (r .texts)) (l .texts)
-
-          listed : someMissing numbers ≡ false → (u : List ℕ) → List·Memᴰ u (l .texts) → HasLine ls u
-          listed e u i = h .listed u (in-form u i) (met-known (r .texts) (h .sound) u (in-form u i) (none-missing (numberMet (r .texts)) (l .texts) e u i))
-
-          words : wordTexts (rowLines ls ++ (line ∷ [])) ≡ wordTexts (rowLines ls)
-          words = no-word-more (rowLines ls) line (λ z. more (sym (count-of-row m line l is) ∙ z))
-
-          held : Holds (addRow r (rowOf numbers (l .p) (l .b)) (r .texts)) (rowLines ls ++ (line ∷ []))
-          held = record {
-            sound = h .sound;
-            fresh = fresh-row;
-            count = row-count (rowOf numbers (l .p) (l .b));
-            news = h .news ∙ ap (newTexts []) (sym words);
-            listed = λ u f i. subst (λ (us : List (List ℕ)). List·Memᴰ u us) (sym words) (h .listed u f i);
-            known = λ u i. h .known u (subst (λ (us : List (List ℕ)). List·Memᴰ u us) words i);
-          }
 
     row-told : r .stage ≡ Section m → (c : ℕ) (line : List ℕ) → closes m (length cs) (c ∷ line) ≡ false → (o : Option Listed) → readRow m (c ∷ line) ≡ o → Told here (c ∷ line) (rowStep room size m r o)
     unfolding rowStep
@@ -485,7 +327,7 @@ module _ (room size : ℕ) (ls : List (List ℕ)) (r : Reading) (h : Holds r (ro
         (may-stand here (c ∷ line) q x))
     row-told stage c line other (some l) e =
         by-test here (c ∷ line) (eqb m 1)
-        (wordStep room size r l (getD (l .texts) 0 []) (numberGiven (r .texts) (getD (l .texts) 0 [])))
+        (wordStep room size r l (onlyText l) (onlyNumber r l))
         (longerStep room r l (map (numberMet (r .texts)) (l .texts)))
         (λ t. word-told stage (c ∷ line) l e (eqb-true m 1 t))
         (λ t. longer-told stage (c ∷ line) l e (eqb-false m 1 t))
@@ -534,14 +376,26 @@ module _ (room size : ℕ) (ls : List (List ℕ)) (r : Reading) (h : Holds r (ro
 
 -- ---- all lines
 
+-- what stands behind the last LF is no row
+rows-in-lines : (pieces : List (List ℕ)) → (pieces ≡ [] → ⊥) → lastIn pieces ≡ [] → rowLines (linesIn pieces) ≡ rowLines pieces
+unfolding linesIn lastIn rowLines
+rows-in-lines [] n e = absurd (n refl)
+rows-in-lines (piece ∷ []) n e = sym (other-line piece [] (subst NoTab (sym e) empty-no-tab))
+rows-in-lines (line ∷ next ∷ pieces) n e = go (ltb (before 9 line) (length line)) (rows-in-lines (next ∷ pieces) (λ z. cons≢nil z) e)
+  where
+    go : (t : Bool) → rowLines (linesIn (next ∷ pieces)) ≡ rowLines (next ∷ pieces)
+        → cond t (line ∷ rowLines (linesIn (next ∷ pieces))) (rowLines (linesIn (next ∷ pieces))) ≡ cond t (line ∷ rowLines (next ∷ pieces)) (rowLines (next ∷ pieces))
+    go true i = ap (λ (rows : List (List ℕ)). line ∷ rows) i
+    go false i = i
+
 module _ (filling : Bool) (room size : ℕ) (text : List ℕ) where
   abbrev pub LinesTold : Lines → Type 0
-  LinesTold (done r) = AllRead room size text
+  LinesTold (done r) = AllRead room size text × Holds room size r (rowLines (parts 10 text))
   LinesTold (stopped number place) = ReadRefusedBy filling room size text number place
 
-  piece-told : (ls : List (List ℕ)) (r : Reading) → ReadTo room size ls (positionOf r) → (piece : List ℕ) → linesIn (parts 10 text) ≡ ls → lastIn (parts 10 text) ≡ piece
+  piece-told : (ls : List (List ℕ)) (r : Reading) → ReadTo room size ls (positionOf r) → Holds room size r (rowLines ls) → (piece : List ℕ) → linesIn (parts 10 text) ≡ ls → lastIn (parts 10 text) ≡ piece
       → LinesTold (lastPiece (r .stage) r (suc (length ls)) piece)
-  piece-told ls r to piece e f = rw (← e) (go (r .stage) refl piece f)
+  piece-told ls r to h piece e f = rw (← e) (go (r .stage) refl piece f)
     where
       read : ReadTo room size (linesIn (parts 10 text)) (positionOf r)
       read = rw e to
@@ -550,19 +404,19 @@ module _ (filling : Bool) (room size : ℕ) (text : List ℕ) where
       go Start g piece f = no-end-line at-start (rw g at read) (λ z. let y : _≡_ {A = ℕ} 0 1 = cc in omega arith)
       go Counts g piece f = no-end-line (in-counts (r .announced)) (rw g at read) (λ z. let y : _≡_ {A = ℕ} 0 1 = cc in omega arith)
       go (Section m) g piece f = no-end-line (in-section (r .announced) m (r .lines)) (rw g at read) (λ z. let y : _≡_ {A = ℕ} 0 1 = cc in omega arith)
-      go Ended g [] f = record { lines = rw g at read; last = f }
+      go Ended g [] f = (record { lines = rw g at read; last = f }, subst (Holds room size r) (ap rowLines (sym e) ∙ rows-in-lines (parts 10 text) (parts-some 10 text) f) h)
       go Ended g (c ∷ piece) f = no-line-end at-end (rw g at read) (λ z. cons≢nil (sym f ∙ z))
 
-  lines-told : (ls : List (List ℕ)) (r : Reading) → ReadTo room size ls (positionOf r) → Holds r (rowLines ls) → (piece : List ℕ) (pieces : List (List ℕ)) → linesIn (parts 10 text) ≡ ls ++ linesIn (piece ∷ pieces)
+  lines-told : (ls : List (List ℕ)) (r : Reading) → ReadTo room size ls (positionOf r) → Holds room size r (rowLines ls) → (piece : List ℕ) (pieces : List (List ℕ)) → linesIn (parts 10 text) ≡ ls ++ linesIn (piece ∷ pieces)
       → lastIn (parts 10 text) ≡ lastIn (piece ∷ pieces) → LinesTold (readLines room size r (suc (length ls)) (piece ∷ pieces))
   unfolding readLines linesIn lastIn
-  lines-told ls r to h piece [] e f = piece-told ls r to piece (e ∙ append-nil ls) f
+  lines-told ls r to h piece [] e f = piece-told ls r to h piece (e ∙ append-nil ls) f
   lines-told ls r to h line (next ∷ pieces) e f =
       go (lineStep room size r line) (line-told room size ls r h line)
       (λ s x n i. lines-told (ls ++ (line ∷ [])) s (one-more ls line (positionOf r) (positionOf s) to n x) i next pieces (e ∙ sym (append-assoc ls (line ∷ []) (linesIn (next ∷ pieces)))) f)
     where
       go : (st : Step) → Told room size ls r h (positionOf r) line st
-          → ((s : Reading) → Leads (positionOf r) line (positionOf s) → ((n : ℕ) → LineMeets room size ls (positionOf r) line n → ⊥) → Holds s (rowLines (ls ++ (line ∷ []))) → LinesTold (readLines room size s (suc (length (ls ++ (line ∷ [])))) (next ∷ pieces)))
+          → ((s : Reading) → Leads (positionOf r) line (positionOf s) → ((n : ℕ) → LineMeets room size ls (positionOf r) line n → ⊥) → Holds room size s (rowLines (ls ++ (line ∷ []))) → LinesTold (readLines room size s (suc (length (ls ++ (line ∷ [])))) (next ∷ pieces)))
           → LinesTold (onward (λ (s : Reading). readLines room size s (suc (suc (length ls))) (next ∷ pieces)) (suc (length ls)) st)
       go (goes s) t rest = let z : length (ls ++ (line ∷ [])) ≡ suc (length ls) = length-append ls (line ∷ []) ∙ add-one (length ls) in rw z at (rest s (t .0) (t .1) (t .2))
       go (refusedBy n) t rest = at-line ls line (linesIn (next ∷ pieces)) e (positionOf r) to n t
@@ -573,4 +427,4 @@ module _ (filling : Bool) (room size : ℕ) (text : List ℕ) where
     where
       go : (pieces : List (List ℕ)) → parts 10 text ≡ pieces → (pieces ≡ [] → ⊥) → LinesTold (readLines room size unread 1 pieces)
       go [] e n = absurd (n refl)
-      go (piece ∷ pieces) e n = lines-told [] unread no-lines holds-begun piece pieces (ap linesIn e) (ap lastIn e)
+      go (piece ∷ pieces) e n = lines-told [] unread no-lines (holds-begun room size) piece pieces (ap linesIn e) (ap lastIn e)

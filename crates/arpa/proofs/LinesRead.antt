@@ -2,12 +2,12 @@
 use mathlib.Core.Path.{_≡_, refl, sym, ap, subst, _∙_}
 use mathlib.Core.Bool.{Bool, true, false, false≢true}
 use mathlib.Core.List.{List, [], _∷_, List·Memᴰ·not-nil}
-use Prim.Native.Nat.{ℕ, zero, suc, _+_, _-_, _<_, _≤_}
+use Prim.Native.Nat.{ℕ, zero, suc, _+_, _-_, _≤_}
 use native.Mathlib.Omega.{arith}
 use lib.Dec.{eqb}
 use lib.IntN.{ℤ, pos}
 use lib.ListN.{length, getD, take, drop, replicate, length-drop}
-use lib.Seq.{drop-drop, take-all}
+use lib.Seq.{drop-drop}
 use borrow.Author.Tests.{eqb-true, eq-eqb, ne-eqb}
 use Rattle.backoff.specs.Refusal.{lineForm}
 use Rattle.arpa_text.specs.Parts.{parts, before}
@@ -32,14 +32,14 @@ zeroed-zeros zero k = refl
 zeroed-zeros (suc n) zero = ap (λ (l : List ℕ). 0 ∷ l) (zeroed-zeros n 0)
 zeroed-zeros (suc n) (suc k) = ap (λ (l : List ℕ). 0 ∷ l) (zeroed-zeros n k)
 
-pub no-texts-stored : (n : ℕ) → replicate n 0 ≡ storeWith n noTexts
+no-texts-stored : (n : ℕ) → replicate n 0 ≡ storeWith n noTexts
 unfolding storeWith recordsOf recordOf zeroed
 no-texts-stored n = sym (zeroed-zeros n 256)
 
-abbrev pub firstProgress : Progress
+abbrev firstProgress : Progress
 firstProgress = record { stage = Start; counts = 0 ∷ 0 ∷ 0 ∷ 0 ∷ 0 ∷ []; order = 0; lines = 0; rows = 0; words = 4; buckets = 1 }
 
-pub held-begun : (t : List ℤ) (s : List ℕ) → t ≡ replicate (length t) (pos 0) → s ≡ replicate (length s) 0 → Held (length t) (length s) t s firstProgress unread
+held-begun : (t : List ℤ) (s : List ℕ) → t ≡ replicate (length t) (pos 0) → s ≡ replicate (length s) 0 → Held (length t) (length s) t s firstProgress unread
 held-begun t s z y = record {
   table-long = refl;
   store-long = refl;
@@ -102,11 +102,11 @@ module _ (room size : ℕ) where
   lines-next a k line [] n = absurd (n refl)
   lines-next a k line (next ∷ pieces) n = refl
 
-  pub step-goes : (t : List ℤ) (s : List ℕ) (st : Step) (r : Stepped) → StepHeld room size t s st r → r .fault ≡ 0 → (a : Reading) × (st ≡ goes a) × Held room size t s (r .progress) a
+  step-goes : (t : List ℤ) (s : List ℕ) (st : Step) (r : Stepped) → StepHeld room size t s st r → r .fault ≡ 0 → (a : Reading) × (st ≡ goes a) × Held room size t s (r .progress) a
   step-goes t s (goes a) r h z = (a, refl, h .1)
   step-goes t s (refusedBy n) r h z = let e = h .0 in let l = h .1 in absurd (omega arith)
 
-  pub step-stops : (t : List ℤ) (s : List ℕ) (st : Step) (r : Stepped) → StepHeld room size t s st r → (r .fault ≡ 0 → ⊥) → (st ≡ refusedBy (r .fault)) × (1 ≤ r .fault) × (length t ≡ room) × (length s ≡ size)
+  step-stops : (t : List ℤ) (s : List ℕ) (st : Step) (r : Stepped) → StepHeld room size t s st r → (r .fault ≡ 0 → ⊥) → (st ≡ refusedBy (r .fault)) × (1 ≤ r .fault) × (length t ≡ room) × (length s ≡ size)
   step-stops t s (goes a) r h n = absurd (n (h .0))
   step-stops t s (refusedBy k) r h n = let e = h .0 in let l = h .1 in (ap refusedBy (sym e), omega arith, h .2, h .3)
 
@@ -129,61 +129,48 @@ module _ (room size : ℕ) where
     pub within : at ≤ length text
     pub lines : place ≤ at + 1
 
-  module _ (text : List ℕ) (t : List ℤ) (s : List ℕ) (p : Progress) (place at : ℕ) (x : Reached text t s p place at) (b : ℕ) (found : b ≡ before 10 (take (length text - at) (drop at text))) where
-    rest-is : take (length text - at) (drop at text) ≡ drop at text
-    rest-is = take-all (length text - at) (drop at text) (rw length-drop (omega arith))
+  module _ (text : List ℕ) (t : List ℤ) (s : List ℕ) (p : Progress) (place at : ℕ) (x : Reached text t s p place at) (end : ℕ) (found : end ≡ at + before 10 (drop at text)) where
+    size-is : end - at ≡ before 10 (drop at text)
+    size-is = omega arith
 
-    found-is : b ≡ before 10 (drop at text)
-    found-is = found ∙ ap (before 10) rest-is
-
-    pub last-line : at + b ≡ length text → (empty : Bool) → empty ≡ eqb at (at + b) → (r : Ending) → ((a : Reading) (room size : ℕ) (t : List ℤ) (s : List ℕ) (piece : List ℕ) → Held room size t s p a → empty ≡ eqb (length piece) 0 → LinesHeld room size t s (lastPiece (a .stage) a place piece) r) → LinesHeld room size t s (readLines room size unread 1 (parts 10 text)) r
+    pub last-line : end ≡ length text → (empty : Bool) → empty ≡ eqb at end → (r : Ending) → ((a : Reading) (room size : ℕ) (t : List ℤ) (s : List ℕ) (piece : List ℕ) → Held room size t s p a → empty ≡ eqb (length piece) 0 → LinesHeld room size t s (lastPiece (a .stage) a place piece) r) → LinesHeld room size t s (readLines room size unread 1 (parts 10 text)) r
     unfolding readLines
     last-line e empty f r h =
         let l = length-drop at text in
-        let whole : b ≡ length (drop at text) = omega arith in
-        rw (x .same, parts-one 10 (drop at text) (sym found-is ∙ whole)) (h (x .reading) room size t s (drop at text) (x .held) (f ∙ tests at b (length (drop at text)) whole))
+        let whole : before 10 (drop at text) ≡ length (drop at text) = omega arith in
+        rw (x .same, parts-one 10 (drop at text) whole) (h (x .reading) room size t s (drop at text) (x .held) (f ∙ tests at end (length (drop at text)) (omega arith)))
       where
-        tests : (i j k : ℕ) → j ≡ k → eqb i (i + j) ≡ eqb k 0
-        tests i j zero e = eq-eqb i (i + j) (omega arith)
-        tests i j (suc k) e = ne-eqb i (i + j) (λ z. absurd (omega arith)) ∙ sym (ne-eqb (suc k) 0 (λ z. absurd (omega arith)))
+        tests : (i j k : ℕ) → j ≡ i + k → eqb i j ≡ eqb k 0
+        tests i j zero e = eq-eqb i j (omega arith)
+        tests i j (suc k) e = ne-eqb i j (λ z. absurd (omega arith)) ∙ sym (ne-eqb (suc k) 0 (λ z. absurd (omega arith)))
 
-    module _ (le : b ≤ length (take (length text - at) (drop at text))) (more : at + b ≡ length text → ⊥) where
-      inside : b < length (drop at text)
-      inside = let l = length-drop at text in let e = ap length rest-is in let w = x .within in omega arith
-
-      pub line-within : at + b < length text
-      line-within = let l = length-drop at text in let i = inside in omega arith
-
-      pub the-line : take (at + b - at) (drop at text) ≡ take b (drop at text)
-      the-line = let e : at + b - at ≡ b = omega arith in rw e
-
-      lines-on : readLines room size unread 1 (parts 10 text) ≡ onward (λ (a : Reading). readLines room size a (suc place) (parts 10 (drop (at + b + 1) text))) place (lineStep room size (x .reading) (take (at + b - at) (drop at text)))
+    module _ (le : end ≤ length text) (more : end ≡ length text → ⊥) where
+      lines-on : readLines room size unread 1 (parts 10 text) ≡ onward (λ (a : Reading). readLines room size a (suc place) (parts 10 (drop (end + 1) text))) place (lineStep room size (x .reading) (take (end - at) (drop at text)))
       lines-on =
-          let e : at + (b + 1) ≡ at + b + 1 = omega arith in
+          let e : at + (end - at + 1) ≡ end + 1 = omega arith in
+          let l = length-drop at text in
           x .same
           ∙ ap (readLines room size (x .reading) place)
-          (parts-front 10 (drop at text) b found-is inside ∙ ap (λ (l : List ℕ). take b (drop at text) ∷ parts 10 l) (drop-drop (b + 1) at text ∙ ap (λ (n : ℕ). drop n text) e))
-          ∙ lines-next (x .reading) place (take b (drop at text)) (parts 10 (drop (at + b + 1) text)) (parts-some 10 (drop (at + b + 1) text))
-          ∙ ap (λ (l : List ℕ). onward (λ (a : Reading). readLines room size a (suc place) (parts 10 (drop (at + b + 1) text))) place (lineStep room size (x .reading) l)) (sym the-line)
+          (parts-front 10 (drop at text) (end - at) size-is (omega arith) ∙ ap (λ (l : List ℕ). take (end - at) (drop at text) ∷ parts 10 l) (drop-drop (end - at + 1) at text ∙ ap (λ (n : ℕ). drop n text) e))
+          ∙ lines-next (x .reading) place (take (end - at) (drop at text)) (parts 10 (drop (end + 1) text)) (parts-some 10 (drop (end + 1) text))
 
-      module _ (t′ : List ℤ) (s′ : List ℕ) (r : Stepped) (h : StepHeld room size t′ s′ (lineStep room size (x .reading) (take (at + b - at) (drop at text))) r) where
+      module _ (t′ : List ℤ) (s′ : List ℕ) (r : Stepped) (h : StepHeld room size t′ s′ (lineStep room size (x .reading) (take (end - at) (drop at text))) r) where
         pub line-stops : (r .fault ≡ 0 → ⊥) → (e : Ending) → (e .fault ≡ r .fault) × (e .place ≡ place) → LinesHeld room size t′ s′ (readLines room size unread 1 (parts 10 text)) e
         line-stops n e f =
-            let st = lineStep room size (x .reading) (take (at + b - at) (drop at text)) in
+            let st = lineStep room size (x .reading) (take (end - at) (drop at text)) in
             let d = step-stops t′ s′ st r h n in
             rw (lines-on, d .0) (f .0, d .1, f .1, d .2, d .3)
 
-        pub line-goes : r .fault ≡ 0 → Reached text t′ s′ (r .progress) (place + 1) (at + b + 1)
+        pub line-goes : r .fault ≡ 0 → Reached text t′ s′ (r .progress) (place + 1) (end + 1)
         line-goes z =
-            let st = lineStep room size (x .reading) (take (at + b - at) (drop at text)) in
+            let st = lineStep room size (x .reading) (take (end - at) (drop at text)) in
             let d = step-goes t′ s′ st r h z in
             let e : suc place ≡ place + 1 = omega arith in
-            let w = line-within in
             let l = x .lines in
             record {
               reading = d .0;
               held = d .2;
-              same = lines-on ∙ ap (onward (λ (a : Reading). readLines room size a (suc place) (parts 10 (drop (at + b + 1) text))) place) (d .1) ∙ ap (λ (k : ℕ). readLines room size (d .0) k (parts 10 (drop (at + b + 1) text))) e;
+              same = lines-on ∙ ap (onward (λ (a : Reading). readLines room size a (suc place) (parts 10 (drop (end + 1) text))) place) (d .1) ∙ ap (λ (k : ℕ). readLines room size (d .0) k (parts 10 (drop (end + 1) text))) e;
               within = omega arith;
               lines = omega arith;
             }

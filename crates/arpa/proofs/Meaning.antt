@@ -7,8 +7,9 @@ use Prim.Native.Nat.{ℕ, zero, suc, _+_, _*_, _-_, _/_, _<_, _≤_}
 use native.Mathlib.Omega.{arith}
 use lib.Dec.{lit<}
 use lib.IntN.{ℤ, pos}
-use lib.ListN.{length, getD, take, drop, replicate, length-map, length-drop, length-replicate}
+use lib.ListN.{length, getD, take, drop, replicate, length-drop, length-replicate}
 use lib.Seq.{getD-drop, take-at}
+use Rattle.integer.proofs.Each.{map-equal}
 use Rattle.integer.proofs.Ranges.{and-left, and-right, lt-or-ge}
 use Rattle.backoff.specs.Limits.{textLimit, unknownWord, startWord, endWord}
 use Rattle.backoff.specs.Model.{AcceptedModel}
@@ -39,20 +40,15 @@ use Rattle.arpa.specs.Meaning.{rowLines, textsIn, lineTexts, rowWith, li
 use Rattle.arpa.specs.declared.Rows.{Rows}
 use Rattle.arpa.specs.declared.Rows.the-variants.{Read}
 use Rattle.arpa_words.proofs.Searches.{search-told, texts-are}
-use Rattle.arpa_words.proofs.Words.{text-some, text-short, none-met, no-texts-sound, reserved-same, placed-at}
+use Rattle.arpa_words.proofs.Words.{text-some, text-short, reserved-same, placed-at}
 use Rattle.arpa_words.proofs.Stores.{zeroed-length, record-text-there}
 use Rattle.arpa_lines.proofs.JoinedRows.{Eights, row-eight, joined-length}
 use Rattle.arpa.proofs.RowsHeld.{padded-zeros, order-length}
-use Rattle.arpa.proofs.RowLines.{map-equal, row-same-numbers}
+use Rattle.arpa.proofs.RowLines.{row-same-numbers}
 use Rattle.arpa.proofs.NewTexts.{numberIn, Known, search-more, known-is-number, known-number}
-use Rattle.arpa.proofs.LineRows.{Sound, Brings, LinesBring, lines-read}
-use Rattle.arpa.proofs.Refusals.{LinesNumbered, lines-numbered}
-use Rattle.arpa.proofs.LineByLine.{number-by, LinesTold, all-told}
+use Rattle.arpa.proofs.LineRows.{number-by, Holds, row-count}
+use Rattle.arpa.proofs.LineByLine.{refused-some, LinesTold, all-told}
 use Rattle.arpa.proofs.OrderedRows.{order-joined, sorted-row, one-word-row}
-
--- ---- before the first line
-begun-sound : (room size : ℕ) → Sound room size unread
-begun-sound room size = record { texts = no-texts-sound; records = λ j l n. absurd (n (none-met j)); rows = omega arith }
 
 -- ---- numbers from 4 on
 searched-number : (text : List ℕ) (news : List (List ℕ)) (k : ℕ) → k < 3 → givenBy (searchFrom text 4 news) 0 ≡ suc k → ⊥
@@ -75,7 +71,7 @@ one-number : (f : List ℕ → ℕ) (us : List (List ℕ)) (k : ℕ) → map f u
 one-number f [] k e = absurd (let z : _≡_ {A = ℕ} 0 1 = cc in omega arith)
 one-number f (u ∷ us) k e = (u, List·Memᴰ·head refl, cc)
 
-first-three : (us : List (List ℕ)) → 3 ≤ length us → us ≡ getD us 0 [] ∷ getD us 1 [] ∷ getD us 2 [] ∷ drop 3 us
+pub first-three : (us : List (List ℕ)) → 3 ≤ length us → us ≡ getD us 0 [] ∷ getD us 1 [] ∷ getD us 2 [] ∷ drop 3 us
 first-three [] l = absurd (omega arith)
 first-three (a ∷ []) l = absurd (omega arith)
 first-three (a ∷ b ∷ []) l = absurd (omega arith)
@@ -90,16 +86,16 @@ texts-split s k (suc a) b =
     rw (e, f) (ap (λ (us : List (List ℕ)). textOf s k ∷ us) (texts-split s (suc k) a b))
 
 -- ---- the rows of a reading
-module _ (r : Reading) (lines : List (List ℕ)) (brings : Brings unread r lines) where
+module _ (room size : ℕ) (r : Reading) (lines : List (List ℕ)) (held : Holds room size r lines) where
   line-eight : (number : List ℕ → ℕ) (line : List ℕ) → List·Memᴰ line lines → length (lineRow number line) ≡ 8
   unfolding lineRow
   line-eight number line m =
-      let s = brings .said line m in
+      let s = held .said line m in
       ap (λ (o : _). length (rowWith number o)) (s .1) ∙ row-eight (map number (s .0 .texts)) (s .0 .p) (s .0 .b)
 
   eights : Eights (r .rows)
   eights row m =
-      let x = Memᴰ·of-map (lineRow (numberIn (drop 3 (r .texts)))) lines (subst (λ (rows : List (List ℤ)). List·Memᴰ row rows) (brings .rows) m) in
+      let x = Memᴰ·of-map (lineRow (numberIn (drop 3 (r .texts)))) lines (subst (λ (rows : List (List ℤ)). List·Memᴰ row rows) (held .rows) m) in
       ap length (sym (x .2)) ∙ line-eight (numberIn (drop 3 (r .texts))) (x .0) (x .1)
 
   ordered-is : ordered r ≡ joined (sortBy rowBefore (r .rows))
@@ -110,19 +106,16 @@ module _ (r : Reading) (lines : List (List ℕ)) (brings : Brings unread r lines
   unfolding ordered
   ordered-long = order-length (joined (r .rows)) (length (r .rows)) (joined-length (r .rows) eights)
 
-  row-count : length (r .rows) ≡ length lines
-  row-count = ap length (brings .rows) ∙ simp length-map refl
-
   -- by the numbers that the lines give
   ordered-by : ordered r ≡ joined (sortBy rowBefore (map (lineRow (numberBy lines)) lines))
   ordered-by =
       ordered-is
       ∙ ap (λ (rows : List (List ℤ)). joined (sortBy rowBefore rows))
-      (brings .rows ∙ map-equal (lineRow (numberIn (drop 3 (r .texts)))) (lineRow (numberBy lines)) lines
-      (λ line m. row-same-numbers (numberIn (drop 3 (r .texts))) (numberBy lines) line (λ u n. ap (λ (ns : List (List ℕ)). numberIn ns u) (brings .news) ∙ sym (number-by lines u))))
+      (held .rows ∙ map-equal (lineRow (numberIn (drop 3 (r .texts)))) (lineRow (numberBy lines)) lines
+      (λ line m. row-same-numbers (numberIn (drop 3 (r .texts))) (numberBy lines) line (λ u n. ap (λ (ns : List (List ℕ)). numberIn ns u) (held .news) ∙ sym (number-by lines u))))
 
 -- ---- an accepted reading
-module _ (room size : ℕ) (r : Reading) (sound : Sound room size r) (lines : List (List ℕ)) (brings : Brings unread r lines) (filling : Bool) (accepted : verdictFor filling (ordered r) ≡ Accepted) where
+module _ (room size : ℕ) (r : Reading) (lines : List (List ℕ)) (held : Holds room size r lines) (filling : Bool) (accepted : verdictFor filling (ordered r) ≡ Accepted) where
   abbrev news : List (List ℕ)
   news = newTexts [] (wordTexts lines)
 
@@ -135,8 +128,8 @@ module _ (room size : ℕ) (r : Reading) (sound : Sound room size r) (lines : Li
   -- ---- rows
   table-front : take (8 * length (r .rows)) table ≡ ordered r
   table-front =
-      let l = sound .rows in
-      let e = ordered-long r lines brings in
+      let l = held .row-room in
+      let e = ordered-long room size r lines held in
       ap (take (8 * length (r .rows))) (padded-zeros room (ordered r) (omega arith)) ∙ take-at (ordered r) (replicate (room - length (ordered r)) (pos 0)) (8 * length (r .rows)) e
 
   -- ---- the reserved texts are met
@@ -147,13 +140,13 @@ module _ (room size : ℕ) (r : Reading) (sound : Sound room size r) (lines : Li
   line-of-row : (row : List ℤ) → List·Memᴰ row (r .rows) → (line : List ℕ) × List·Memᴰ line lines × (l : Listed) × (lineTexts line ≡ l .texts) × (rowOf (map number (l .texts)) (l .p) (l .b) ≡ row)
   unfolding lineTexts lineRow
   line-of-row row m =
-      let x = Memᴰ·of-map (lineRow number) lines (subst (λ (rows : List (List ℤ)). List·Memᴰ row rows) (brings .rows) m) in
-      let s = brings .said (x .0) (x .1) in
+      let x = Memᴰ·of-map (lineRow number) lines (subst (λ (rows : List (List ℤ)). List·Memᴰ row rows) (held .rows) m) in
+      let s = held .said (x .0) (x .1) in
       (x .0, x .1, s .0, ap textsIn (s .1), ap (rowWith number) (sym (s .1)) ∙ x .2)
 
   listed-row : (i : ℕ) → i < rowsOf (ordered r) → List·Memᴰ (rowAt (ordered r) i) (r .rows)
   listed-row i l =
-      subst (λ (t : List ℤ). List·Memᴰ (rowAt t i) (r .rows)) (sym (ordered-is r lines brings)) (sorted-row (r .rows) (eights r lines brings) i (subst (λ (t : List ℤ). i < rowsOf t) (ordered-is r lines brings) l))
+      subst (λ (t : List ℤ). List·Memᴰ (rowAt t i) (r .rows)) (sym (ordered-is room size r lines held)) (sorted-row (r .rows) (eights room size r lines held) i (subst (λ (t : List ℤ). i < rowsOf t) (ordered-is room size r lines held) l))
 
   -- a line of the reserved word k + 1 has its text
   reserved-line : (k : ℕ) → k < 3 → (line : List ℕ) → List·Memᴰ line lines → (l : Listed) → lineTexts line ≡ l .texts → map number (l .texts) ≡ suc k ∷ []
@@ -161,7 +154,7 @@ module _ (room size : ℕ) (r : Reading) (sound : Sound room size r) (lines : Li
   reserved-line k small line m l e f =
       let u = one-number number (l .texts) (suc k) f in
       let here : List·Memᴰ (u .0) (lineTexts line) = subst (λ (us : List (List ℕ)). List·Memᴰ (u .0) us) (sym e) (u .1) in
-      (u .0, reserved-number (u .0) (drop 3 (r .texts)) k small (u .2), brings .in-form line m (u .0) here, brings .known line m (u .0) here)
+      (u .0, reserved-number (u .0) (drop 3 (r .texts)) k small (u .2), held .in-form line m (u .0) here, held .known line m (u .0) here)
 
   reserved-row : (k i : ℕ) → k < 3 → i < rowsOf (ordered r) → words (ordered r) i ≡ suc k ∷ [] → (u : List ℕ) × (reservedNumber u ≡ suc k) × (isText u ≡ true) × Known (r .texts) u
   reserved-row k i small l e =
@@ -171,7 +164,7 @@ module _ (room size : ℕ) (r : Reading) (sound : Sound room size r) (lines : Li
 
   reserved-known : (k : ℕ) (spelling u : List ℕ) → reservedNumber spelling ≡ suc k → reservedNumber u ≡ suc k → isText u ≡ true → Known (r .texts) u → getD (r .texts) k [] ≡ spelling
   reserved-known k spelling u e f g known =
-      let place = placed-at (r .texts) (sound .texts) u g (known .0) k (known .1) (known .2) f in
+      let place = placed-at (r .texts) (held .texts) u g (known .0) k (known .1) (known .2) f in
       ap (λ (j : ℕ). getD (r .texts) j []) (sym place) ∙ known .2 ∙ reserved-same u spelling k f e
 
   reserved-met : (k : ℕ) (spelling : List ℕ) → k < 3 → reservedNumber spelling ≡ suc k → isAt (findIn (ordered r) (suc k ∷ [])) ≡ true → getD (r .texts) k [] ≡ spelling
@@ -204,7 +197,7 @@ module _ (room size : ℕ) (r : Reading) (sound : Sound room size r) (lines : Li
   end-met = reserved-met 2 endText (lit< tt) refl end-listed
 
   texts-met : r .texts ≡ unknownText ∷ startText ∷ endText ∷ news
-  texts-met = first-three (r .texts) (sound .texts .long) ∙ rw (unknown-met, start-met, end-met, brings .news) refl
+  texts-met = first-three (r .texts) (held .texts .long) ∙ rw (unknown-met, start-met, end-met, held .news) refl
 
   -- ---- the store's texts
   abbrev records : ℕ
@@ -218,7 +211,7 @@ module _ (room size : ℕ) (r : Reading) (sound : Sound room size r) (lines : Li
   met-some j l =
       ⊎-elim
       (λ (m : j < 3). by j m)
-      (λ (m : 3 ≤ j). let f = sound .texts .in-form j m l in (text-some (getD (r .texts) j []) f, text-short (getD (r .texts) j []) f))
+      (λ (m : 3 ≤ j). let f = held .texts .in-form j m l in (text-some (getD (r .texts) j []) f, text-short (getD (r .texts) j []) f))
       (lt-or-ge j 3)
     where
       by : (k : ℕ) → k < 3 → (1 ≤ length (getD (r .texts) k [])) × (length (getD (r .texts) k []) ≤ textLimit)
@@ -230,7 +223,7 @@ module _ (room size : ℕ) (r : Reading) (sound : Sound room size r) (lines : Li
   record-fits : (j : ℕ) → j < length (r .texts) → 64 * suc j + 64 ≤ size
   record-fits j l =
       let f = met-some j l .0 in
-      let g = sound .records j l (λ z. let e : length (getD (r .texts) j []) ≡ 0 = ap length z in absurd (omega arith)) in
+      let g = held .records j l (λ z. let e : length (getD (r .texts) j []) ≡ 0 = ap length z in absurd (omega arith)) in
       omega arith
 
   text-there : (j : ℕ) → j < length (r .texts) → textOf store (1 + j) ≡ getD (r .texts) j []
@@ -242,7 +235,7 @@ module _ (room size : ℕ) (r : Reading) (sound : Sound room size r) (lines : Li
   all-fit : length (r .texts) ≤ records
   all-fit =
       let e = store-long in
-      let long = sound .texts .long in
+      let long = held .texts .long in
       let f = record-fits (length (r .texts) - 1) (omega arith) in
       omega arith
 
@@ -263,8 +256,8 @@ module _ (room size : ℕ) (r : Reading) (sound : Sound room size r) (lines : Li
       ap (λ (us : List (List ℕ)). givenBy (searchFrom u 1 us) 0) stored-texts
       ∙ ap (λ (x : Found). givenBy x 0) (search-more u 1 (1 + w .0) (r .texts) (textsFrom store (1 + length (r .texts)) (records - length (r .texts))) (w .1 .found) ∙ sym (w .1 .found)))
       (search-told u 1 (r .texts))
-      ∙ known-is-number (r .texts) (sound .texts) u f k
-      ∙ ap (λ (ns : List (List ℕ)). numberIn ns u) (brings .news)
+      ∙ known-is-number (r .texts) (held .texts) u f k
+      ∙ ap (λ (ns : List (List ℕ)). numberIn ns u) (held .news)
 
   -- the text of the word that a number is
   stored-text : (u : List ℕ) → 0 < numberStored store u → getD (textsFrom store 1 records) (numberStored store u - 1) [] ≡ u
@@ -286,14 +279,14 @@ module _ (room size : ℕ) (r : Reading) (sound : Sound room size r) (lines : Li
   reserved-stored : (k : ℕ) (spelling : List ℕ) → k < 3 → reservedNumber spelling ≡ suc k → isText spelling ≡ true → getD (r .texts) k [] ≡ spelling → numberStored store spelling ≡ suc k
   unfolding numberIn
   reserved-stored k spelling small e f met =
-      let long = sound .texts .long in
+      let long = held .texts .long in
       stored-number spelling f (k, omega arith, met) ∙ rw e refl
 
   new-place : (i : ℕ) → i < length news → (3 + i < length (r .texts)) × (getD (r .texts) (3 + i) [] ≡ getD news i [])
   new-place i l =
-      let e = ap length (brings .news) in
+      let e = ap length (held .news) in
       let f = length-drop 3 (r .texts) in
-      (omega arith, sym (getD-drop 3 (r .texts) i []) ∙ ap (λ (us : List (List ℕ)). getD us i []) (brings .news))
+      (omega arith, sym (getD-drop 3 (r .texts) i []) ∙ ap (λ (us : List (List ℕ)). getD us i []) (held .news))
 
   new-same : (i j : ℕ) → i < length news → j < length news → getD news j [] ≡ getD news i [] → i ≡ j
   new-same i j l m e =
@@ -302,10 +295,10 @@ module _ (room size : ℕ) (r : Reading) (sound : Sound room size r) (lines : Li
       let a = p .0 in
       let b = q .0 in
       ⊎-elim
-      (λ (x : i < j). absurd (sound .texts .distinct (3 + i) (3 + j) (omega arith) (omega arith) (q .0) (p .1 ∙ sym e ∙ sym (q .1))))
+      (λ (x : i < j). absurd (held .texts .distinct (3 + i) (3 + j) (omega arith) (omega arith) (q .0) (p .1 ∙ sym e ∙ sym (q .1))))
       (λ (x : j ≤ i).
       ⊎-elim
-      (λ (y : j < i). absurd (sound .texts .distinct (3 + j) (3 + i) (omega arith) (omega arith) (p .0) (q .1 ∙ e ∙ sym (p .1))))
+      (λ (y : j < i). absurd (held .texts .distinct (3 + j) (3 + i) (omega arith) (omega arith) (p .0) (q .1 ∙ e ∙ sym (p .1))))
       (λ (y : i ≤ j). omega arith)
       (lt-or-ge j i))
       (lt-or-ge i j)
@@ -314,8 +307,8 @@ module _ (room size : ℕ) (r : Reading) (sound : Sound room size r) (lines : Li
   unfolding numberIn
   new-stored i l =
       let p = new-place i l in
-      let e : reservedNumber (getD news i []) ≡ 0 = ap reservedNumber (sym (p .1)) ∙ sound .texts .other (3 + i) (omega arith) (p .0) in
-      let f : isText (getD news i []) ≡ true = ap isText (sym (p .1)) ∙ sound .texts .in-form (3 + i) (omega arith) (p .0) in
+      let e : reservedNumber (getD news i []) ≡ 0 = ap reservedNumber (sym (p .1)) ∙ held .texts .other (3 + i) (omega arith) (p .0) in
+      let f : isText (getD news i []) ≡ true = ap isText (sym (p .1)) ∙ held .texts .in-form (3 + i) (omega arith) (p .0) in
       stored-number (getD news i []) f (3 + i, p .0, p .1)
       ∙ rw e
       (⊎-elim
@@ -327,41 +320,41 @@ module _ (room size : ℕ) (r : Reading) (sound : Sound room size r) (lines : Li
   row-numbers : (line : List ℕ) → List·Memᴰ line lines → lineRow number line ≡ lineRow (numberStored store) line
   row-numbers line m =
       row-same-numbers number (numberStored store) line
-      (λ u n. sym (stored-number u (brings .in-form line m u n) (brings .known line m u n) ∙ ap (λ (ns : List (List ℕ)). numberIn ns u) (sym (brings .news))))
+      (λ u n. sym (stored-number u (held .in-form line m u n) (held .known line m u n) ∙ ap (λ (ns : List (List ℕ)). numberIn ns u) (sym (held .news))))
 
   listed-table : table ≡ padded (length table) (joined (sortBy rowBefore (map (lineRow (numberStored store)) lines)))
   listed-table =
       ap₂ padded (sym (length-padded room (ordered r)))
-      (ordered-is r lines brings ∙ ap (λ (rows : List (List ℤ)). joined (sortBy rowBefore rows)) (brings .rows ∙ map-equal (lineRow number) (lineRow (numberStored store)) lines row-numbers))
+      (ordered-is room size r lines held ∙ ap (λ (rows : List (List ℤ)). joined (sortBy rowBefore rows)) (held .rows ∙ map-equal (lineRow number) (lineRow (numberStored store)) lines row-numbers))
 
   known-stored : (line : List ℕ) → List·Memᴰ line lines → (u : List ℕ) → List·Memᴰ u (lineTexts line) → 0 < numberStored store u
   known-stored line m u n =
-      let f = brings .in-form line m u n in
-      let k = brings .known line m u n in
-      let l = known-number (r .texts) (sound .texts) u f k in
-      let e = stored-number u f k ∙ ap (λ (ns : List (List ℕ)). numberIn ns u) (sym (brings .news)) in
+      let f = held .in-form line m u n in
+      let k = held .known line m u n in
+      let l = known-number (r .texts) (held .texts) u f k in
+      let e = stored-number u f k ∙ ap (λ (ns : List (List ℕ)). numberIn ns u) (sym (held .news)) in
       omega arith
 
 -- ---- what every answer means
 module _ (filling : Bool) (room size : ℕ) (text : List ℕ) where
-  accepted-means : (r : Reading) → Sound room size r → Brings unread r (rowLines (parts 10 text)) → verdictFor filling (ordered r) ≡ Accepted
+  accepted-means : (r : Reading) → Holds room size r (rowLines (parts 10 text)) → verdictFor filling (ordered r) ≡ Accepted
       → ReadsTheLines filling text (length (r .rows)) (padded room (ordered r)) (storeWith size (r .texts)) × (filling ≡ false → AcceptedModel (modelOf (take (8 * length (r .rows)) (padded room (ordered r)))))
   unfolding reservedNumber sameWords isText allAbove
-  accepted-means r sound brings accepted =
+  accepted-means r held accepted =
       let lines = rowLines (parts 10 text) in
-      let front = table-front room size r sound lines brings filling accepted in
+      let front = table-front room size r lines held filling accepted in
       let listed : verdictFor filling (take (8 * length (r .rows)) (padded room (ordered r))) ≡ Accepted = ap (verdictFor filling) front ∙ accepted in (
         record {
-          in-form = brings .said;
-          count = row-count r lines brings;
-          listed = listed-table room size r sound lines brings filling accepted;
-          stored = ap₂ storeWith (sym (store-long room size r sound lines brings filling accepted)) (texts-met room size r sound lines brings filling accepted);
-          unknown = reserved-stored room size r sound lines brings filling accepted 0 unknownText (lit< tt) refl refl (unknown-met room size r sound lines brings filling accepted);
-          start = reserved-stored room size r sound lines brings filling accepted 1 startText (lit< tt) refl refl (start-met room size r sound lines brings filling accepted);
-          end = reserved-stored room size r sound lines brings filling accepted 2 endText (lit< tt) refl refl (end-met room size r sound lines brings filling accepted);
-          others = new-stored room size r sound lines brings filling accepted;
-          same = same-text room size r sound lines brings filling accepted;
-          known = known-stored room size r sound lines brings filling accepted;
+          in-form = held .said;
+          count = row-count room size r lines held;
+          listed = listed-table room size r lines held filling accepted;
+          stored = ap₂ storeWith (sym (store-long room size r lines held filling accepted)) (texts-met room size r lines held filling accepted);
+          unknown = reserved-stored room size r lines held filling accepted 0 unknownText (lit< tt) refl refl (unknown-met room size r lines held filling accepted);
+          start = reserved-stored room size r lines held filling accepted 1 startText (lit< tt) refl refl (start-met room size r lines held filling accepted);
+          end = reserved-stored room size r lines held filling accepted 2 endText (lit< tt) refl refl (end-met room size r lines held filling accepted);
+          others = new-stored room size r lines held filling accepted;
+          same = same-text room size r lines held filling accepted;
+          known = known-stored room size r lines held filling accepted;
           accepted = listed;
         },
         λ z. accepted-model (take (8 * length (r .rows)) (padded room (ordered r))) (rw z at listed),
@@ -370,20 +363,22 @@ module _ (filling : Bool) (room size : ℕ) (text : List ℕ) where
   abbrev Means : Outcome → Type 0
   Means o = ReadMeans filling text (readNumber (o .answer)) (readPlace (o .answer)) (rowCount (o .answer)) (o .table) (o .store)
 
-  refused-means : (number place : ℕ) → (number ≡ 0 → ⊥) → ReadRefusedBy filling room size text number place → Means (refusedOutcome room size number place)
+  refused-means : (number place : ℕ) → ReadRefusedBy filling room size text number place → Means (refusedOutcome room size number place)
   unfolding refusedOutcome
-  refused-means number place some by = record {
-    lines = λ z. absurd (some z);
-    model = λ z. absurd (some z);
-    all-read = λ z. absurd (some z);
-    no-place = λ z. absurd (some z);
-    refused = λ z. rw (length-replicate room (pos 0), length-replicate {A = ℕ} size 0) by;
-  }
+  refused-means number place by =
+      let some = refused-some filling room size text number place by in
+      record {
+        lines = λ z. absurd (some z);
+        model = λ z. absurd (some z);
+        all-read = λ z. absurd (some z);
+        no-place = λ z. absurd (some z);
+        refused = λ z. rw (length-replicate room (pos 0), length-replicate {A = ℕ} size 0) by;
+      }
 
-  judged-means : (r : Reading) → Sound room size r → Brings unread r (rowLines (parts 10 text)) → AllRead room size text → (v : Verdict) → verdictFor filling (ordered r) ≡ v → Means (judged room size r v)
+  judged-means : (r : Reading) → Holds room size r (rowLines (parts 10 text)) → AllRead room size text → (v : Verdict) → verdictFor filling (ordered r) ≡ v → Means (judged room size r v)
   unfolding storeWith
-  judged-means r sound brings all Accepted e =
-      let m = accepted-means r sound brings e in
+  judged-means r held all Accepted e =
+      let m = accepted-means r held e in
       record {
         lines = λ z. m .0;
         model = λ z. m .1;
@@ -391,19 +386,19 @@ module _ (filling : Bool) (room size : ℕ) (text : List ℕ) where
         no-place = λ z. refl;
         refused = λ z. absurd (z refl);
       }
-  judged-means r sound brings all (Refused number place) e =
+  judged-means r held all (Refused number place) e =
       let some : number ≡ 0 → ⊥ = λ z. accepted-refused _ _ (sym e ∙ checked-number filling (ordered r) (ap numberOf e ∙ z)) in
-      let same : ordered r ≡ listOf text = ordered-by r (rowLines (parts 10 text)) brings ∙ (unfold listOf in refl) in
-      refused-means number place some (bad-list all number place some (refused-verdict filling (listOf text) number place (ap (verdictFor filling) (sym same) ∙ e)))
+      let same : ordered r ≡ listOf text = ordered-by room size r (rowLines (parts 10 text)) held ∙ (unfold listOf in refl) in
+      refused-means number place (bad-list all number place some (refused-verdict filling (listOf text) number place (ap (verdictFor filling) (sym same) ∙ e)))
 
-  lines-mean : (l : Lines) → LinesBring room size unread (parts 10 text) l → LinesNumbered l → LinesTold filling room size text l → Means (linesOutcome filling room size l)
-  lines-mean (done r) w n t = judged-means r (w .0) (w .1) t (verdictFor filling (ordered r)) refl
-  lines-mean (stopped number place) w n t = refused-means number place (λ z. omega arith) t
+  lines-mean : (l : Lines) → LinesTold filling room size text l → Means (linesOutcome filling room size l)
+  lines-mean (done r) t = judged-means r (t .1) (t .0) (verdictFor filling (ordered r)) refl
+  lines-mean (stopped number place) t = refused-means number place t
 
   outcome-means : Means (readArpa filling room size text)
   unfolding readArpa
   outcome-means =
-      lines-mean (readLines room size unread 1 (parts 10 text)) (lines-read room size unread 1 (parts 10 text) (begun-sound room size)) (lines-numbered room size unread 1 (parts 10 text)) (all-told filling room size text)
+      lines-mean (readLines room size unread 1 (parts 10 text)) (all-told filling room size text)
 
   -- whatever a call leaves
   pub read-means : (answer : Rows) (table : List ℤ) (store : List ℕ) → Leaves (readArpa filling room size text) answer table store → ReadMeans filling text (readNumber answer) (readPlace answer) (rowCount answer) table store

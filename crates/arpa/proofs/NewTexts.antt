@@ -9,7 +9,7 @@ use lib.Dec.{eqb}
 use lib.ListN.{length, getD, drop, set, length-append, length-drop, length-set, List·getD-append}
 use lib.Seq.{getD-set-same, getD-set-other, drop-set-lt, drop-append-le, getD-append-seam}
 use borrow.Author.Tests.{eq-eqb, ne-eqb}
-use Rattle.integer.proofs.Ranges.{lt-or-ge}
+use Rattle.integer.proofs.Ranges.{lt-or-ge, equal-or-not}
 use Rattle.backoff.specs.Words.{sameWords}
 use Rattle.backoff.proofs.Words.{same-refl}
 use Rattle.row_search.specs.declared.Found.{Found}
@@ -22,7 +22,7 @@ use Rattle.arpa.specs.Meaning.{withNew}
 use Rattle.arpa_words.specs.Held.{TextsSound}
 use Rattle.arpa_words.proofs.Searches.{Absent, Placed, search-told}
 use Rattle.arpa_words.proofs.Words.{text-not-empty, reserved-small, reserved-same, met-reserved, met-or-not, met-other, given-is}
-use Rattle.arpa_words.proofs.TextSteps.{same-or-not, with-met, with-reserved, with-next, sound-reserved, sound-next}
+use Rattle.arpa_words.proofs.TextSteps.{with-met, with-reserved, with-next, sound-reserved, sound-next}
 
 -- the number of a text, where `news` are the texts from word 4 on
 unfoldable pub numberIn : List (List ℕ) → List ℕ → ℕ
@@ -62,7 +62,7 @@ found-or-not text i k us =
     (search-told text i us)
 
 -- ---- the number of a text that is known
-pub number-kept : (news more : List (List ℕ)) (u : List ℕ) → 0 < numberIn news u → numberIn (news ++ more) u ≡ numberIn news u
+number-kept : (news more : List (List ℕ)) (u : List ℕ) → 0 < numberIn news u → numberIn (news ++ more) u ≡ numberIn news u
 unfolding numberIn
 number-kept news more u l = go (reservedNumber u) l
   where
@@ -176,13 +176,13 @@ module _ (size : ℕ) (texts : List (List ℕ)) (sound : TextsSound texts) (text
             (λ z. (i, omega arith, getD-set-same texts i text [] (omega arith) ∙ reserved-same text u i e (ap reservedNumber (sym here) ∙ z)))
             (sound .reserved i (omega arith)))
             (λ (w : k .0 ≡ i → ⊥). let l = k .1 in (k .0, omega arith, getD-set-other texts i (k .0) text [] w ∙ k .2))
-            (same-or-not (k .0) i);
+            (equal-or-not (k .0) i);
         kept = λ u l. ap (λ (ns : List (List ℕ)). numberIn ns u) same;
         fits = λ f l j m n.
             ⊎-elim
             (λ (w : j ≡ i). omega arith)
             (λ (w : j ≡ i → ⊥). f j (omega arith) (λ z. n (getD-set-other texts i j text [] w ∙ z)))
-            (same-or-not j i);
+            (equal-or-not j i);
       })
 
   -- the next word

@@ -36,7 +36,7 @@ module _ (row t : List ℤ) (eight : length row ≡ 8) where
   rows-behind i zero = refl
   rows-behind i (suc n) = ap₂ (λ (r : List ℤ) (rs : List (List ℤ)). r ∷ rs) (row-behind i) (rows-behind (suc i) n)
 
-pub rows-joined : (rows : List (List ℤ)) → Eights rows → rowsAt (joined rows) 0 (length rows) ≡ rows
+rows-joined : (rows : List (List ℤ)) → Eights rows → rowsAt (joined rows) 0 (length rows) ≡ rows
 unfolding joined rowsAt
 rows-joined [] h = refl
 rows-joined (row ∷ rows) h =

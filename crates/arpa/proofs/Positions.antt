@@ -85,7 +85,7 @@ module _ (room size : ℕ) where
   read-after _ _ no-lines = refl
   read-after _ _ (one-more earlier line q q′ to none x) = leads-after q line q′ x ∙ ap (λ (p : Position). after p line) (read-after earlier q to) ∙ sym (after-more at-start earlier line)
 
-  pub one-position : (lines : List (List ℕ)) (p q : Position) → ReadTo room size lines p → ReadTo room size lines q → p ≡ q
+  one-position : (lines : List (List ℕ)) (p q : Position) → ReadTo room size lines p → ReadTo room size lines q → p ≡ q
   one-position lines p q x y = read-after lines p x ∙ sym (read-after lines q y)
 
   -- ---- a line among lines that are read

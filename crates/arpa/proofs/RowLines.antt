@@ -2,7 +2,7 @@
 use mathlib.Core.Path.{_≡_, refl, sym, ap, _∙_}
 use mathlib.Core.Logic.{⊎-elim}
 use mathlib.Core.Bool.{Bool, true, false, cond}
-use mathlib.Core.List.{List, [], _∷_, _++_, map, List·Memᴰ, List·Memᴰ·head, List·Memᴰ·tail}
+use mathlib.Core.List.{List, [], _∷_, _++_, map, List·Memᴰ}
 use mathlib.Core.Option.{Option, none, some}
 use Prim.Native.Nat.{ℕ, suc, _+_, _<_}
 use native.Mathlib.Omega.{arith}
@@ -10,6 +10,7 @@ use lib.Dec.{eqb}
 use lib.IntN.{pos}
 use lib.ListN.{length, getD, take, drop}
 use borrow.Author.Tests.{eqb-true, lt-ltb, le-ltb, ne-eqb}
+use Rattle.integer.proofs.Each.{map-equal}
 use Rattle.backoff.specs.Words.{sameWords}
 use Rattle.backoff.proofs.Words.{same-eq}
 use Rattle.arpa_text.specs.Parts.{parts, before}
@@ -169,10 +170,6 @@ module _ (m : ℕ) (line : List ℕ) (l : Listed) (e : readRow m line ≡ some l
   numbers-of-row number = ap (rowWith number) row-read
 
 -- ---- the texts of a line
-pub map-equal : {A B : Type 0} (f g : A → B) (us : List A) → ((u : A) → List·Memᴰ u us → f u ≡ g u) → map f us ≡ map g us
-map-equal f g [] h = refl
-map-equal f g (u ∷ us) h = rw (h u (List·Memᴰ·head refl), map-equal f g us (λ v m. h v (List·Memᴰ·tail m))) refl
-
 pub row-same-numbers : (f g : List ℕ → ℕ) (line : List ℕ) → ((u : List ℕ) → List·Memᴰ u (lineTexts line) → f u ≡ g u) → lineRow f line ≡ lineRow g line
 unfolding lineRow lineTexts
 row-same-numbers f g line h = go (readRow (wordCount line) line) h

@@ -17,6 +17,7 @@ use Rattle.backoff.specs.NineNumbers.{padded}
 use Rattle.backoff.proofs.NineNumbers.{length-padded}
 use Rattle.backoff.specs.Refusal.{tableLength}
 use Rattle.backoff.specs.declared.Verdict.the-variants.{Refused}
+use Rattle.double_array.proofs.Items.{getD-in}
 use Rattle.rows.specs.Table.{rowsOf, field, lengthOf, placeFits, placesFit}
 use Rattle.rows.specs.Good.{GoodRow}
 use Rattle.list.specs.Check.{tableFits, verdictFor}
@@ -35,7 +36,7 @@ use Rattle.arpa.specs.Held.{Ordering}
 use Rattle.arpa_lines.proofs.JoinedRows.{Eights, sound-eights, joined-length}
 
 -- ---- padded lists
-getD-padded : (n q : ℕ) (xs : List ℤ) → q < n → getD (padded n xs) q (pos 0) ≡ getD xs q (pos 0)
+pub getD-padded : (n q : ℕ) (xs : List ℤ) → q < n → getD (padded n xs) q (pos 0) ≡ getD xs q (pos 0)
 unfolding padded
 getD-padded zero q xs l = absurd (omega arith)
 getD-padded (suc n) zero [] l = refl
@@ -117,11 +118,6 @@ joined-field (row ∷ rows) (suc i) j h l m =
     let z : 8 * suc i + j ≡ length row + (8 * i + j) = omega arith in
     ap (λ (k : ℕ). getD (row ++ joined rows) k (pos 0)) z ∙ getD-append-add row (joined rows) (8 * i + j) (pos 0) ∙ joined-field rows i j (λ r k. h r (List·Memᴰ·tail k)) (omega arith) m
 
-member-at : {A : Type 0} (l : List A) (i : ℕ) (d : A) → i < length l → List·Memᴰ (getD l i d) l
-member-at [] i d h = absurd (omega arith)
-member-at (x ∷ l) zero d h = List·Memᴰ·head refl
-member-at (x ∷ l) (suc i) d h = List·Memᴰ·tail (member-at l i d (omega arith))
-
 getD-pos : (numbers : List ℕ) (j : ℕ) → getD (map pos numbers) j (pos 0) ≡ pos (getD numbers j 0)
 getD-pos [] zero = refl
 getD-pos [] (suc j) = refl
@@ -158,7 +154,7 @@ module _ (t : List ℤ) (i words : ℕ) (row : List ℤ) (r : RowSound words row
   place-fits few j a b =
       ⊎-elim
       (λ (l : j - 1 < length (r .numbers)).
-      let m = r .met (getD (r .numbers) (j - 1) 0) (member-at (r .numbers) (j - 1) 0 l) in
+      let m = r .met (getD (r .numbers) (j - 1) 0) (getD-in (r .numbers) (j - 1) 0 l) in
       let low = m .0 in
       let high = m .1 in
       rw (row-length-is, le-leb j (length (r .numbers)) (omega arith), place-number j a b) (between-yes (pos 1) (pos wordLimit) (pos (getD (r .numbers) (j - 1) 0)) (omega zarith) (omega zarith)))
@@ -181,7 +177,7 @@ module _ (t : List ℤ) (rows words : ℕ) (a : Reading) (count : rows ≡ lengt
   front-field i j l m = padded-field (length t) (joined (a .rows)) i j (omega arith) ∙ joined-field (a .rows) i j (sound-eights words (a .rows) sound) (omega arith) m
 
   front-sound : (i : ℕ) → i < rows → RowSound words (getD (a .rows) i [])
-  front-sound i l = sound (getD (a .rows) i []) (member-at (a .rows) i [] (omega arith))
+  front-sound i l = sound (getD (a .rows) i []) (getD-in (a .rows) i [] (omega arith))
 
   pub held-ordering : Ordering (padded (length t) (joined (a .rows))) rows words
   held-ordering =
@@ -213,7 +209,7 @@ unfolding sortBy
 sort-length before [] = refl
 sort-length before (x ∷ xs) = insert-length before x (sortBy before xs) ∙ ap suc (sort-length before xs)
 
-rows-count : (t : List ℤ) (i n : ℕ) → length (rowsAt t i n) ≡ n
+pub rows-count : (t : List ℤ) (i n : ℕ) → length (rowsAt t i n) ≡ n
 unfolding rowsAt
 rows-count t i zero = refl
 rows-count t i (suc n) = ap suc (rows-count t (suc i) n)
@@ -232,7 +228,7 @@ module _ (t : List ℤ) (rows words : ℕ) (a : Reading) (count : rows ≡ lengt
   rows-length : length (joined (a .rows)) ≡ 8 * rows
   rows-length = joined-length (a .rows) (sound-eights words (a .rows) sound) ∙ ap (λ (k : ℕ). 8 * k) (sym count)
 
-  pub ordered-length : length (ordered a) ≡ 8 * rows
+  ordered-length : length (ordered a) ≡ 8 * rows
   unfolding ordered
   ordered-length = order-length (joined (a .rows)) rows rows-length
 

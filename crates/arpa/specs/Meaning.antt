@@ -94,8 +94,8 @@ pub record ReadsTheLines (filling : Bool) (text : List ℕ) (rows : ℕ) (table 
 -- where lines have come to: before `\data\`, behind these counts, behind so many lines of the section of length m, behind `\end\`
 pub data Position : Type 0 where
   at-start : Position
-  in-counts : List ℕ → Position
-  in-section : List ℕ → ℕ → ℕ → Position
+  in-counts : (counts : List ℕ) → Position
+  in-section : (counts : List ℕ) (m lines : ℕ) → Position
   at-end : Position
 
 -- "a data section with counts, one section a length, an end line": a line behind the one position has its place in this form, and leads to the other
@@ -104,11 +104,15 @@ pub data Leads : Position → List ℕ → Position → Type 0 where
   skipped : (q : Position) → Leads q [] q
   data-line : Leads at-start dataLine (in-counts [])
   -- "one to five lengths are announced, from 1 upwards, and their sections follow so"
-  count-line : (cs line : List ℕ) (c : ℕ) → length cs < orderLimit → readCount (suc (length cs)) line ≡ Announced c → Leads (in-counts cs) line (in-counts (cs ++ (c ∷ [])))
-  first-heading : (cs : List ℕ) → 1 ≤ length cs → Leads (in-counts cs) (sectionLine 1) (in-section cs 1 0)
-  row-of : (cs : List ℕ) (m k : ℕ) (line : List ℕ) (l : Listed) → readRow m line ≡ some l → Leads (in-section cs m k) line (in-section cs m (suc k))
-  next-heading : (cs : List ℕ) (m k : ℕ) → m < length cs → Leads (in-section cs m k) (sectionLine (suc m)) (in-section cs (suc m) 0)
-  end-line : (cs : List ℕ) (m k : ℕ) → length cs ≤ m → Leads (in-section cs m k) endLine at-end
+  count-line : (counts line : List ℕ) (c : ℕ) → length counts < orderLimit → readCount (suc (length counts)) line ≡ Announced c → Leads (in-counts counts) line (in-counts (counts ++ (c ∷ [])))
+  first-heading : (counts : List ℕ) → 1 ≤ length counts → Leads (in-counts counts) (sectionLine 1) (in-section counts 1 0)
+  row-of : (counts : List ℕ) (m lines : ℕ) (line : List ℕ) (l : Listed) → readRow m line ≡ some l → Leads (in-section counts m lines) line (in-section counts m (suc lines))
+  next-heading : (counts : List ℕ) (m lines : ℕ) → m < length counts → Leads (in-section counts m lines) (sectionLine (suc m)) (in-section counts (suc m) 0)
+  end-line : (counts : List ℕ) (m lines : ℕ) → length counts ≤ m → Leads (in-section counts m lines) endLine at-end
+
+-- the count announced for the length m
+abbrev pub countOf : List ℕ → ℕ → ℕ
+countOf counts m = getD counts (m - 1) 0
 
 -- a text's number by the lines of rows: "`<unk>`, `<s>` and `</s>` become 1, 2, 3; the others count up from 4 as the one-word section brings them"
 unfoldable pub numberBy : List (List ℕ) → List ℕ → ℕ
@@ -125,16 +129,18 @@ module _ (room size : ℕ) where
     -- "17 for a line not in this form"
     not-in-form : (q : Position) (line : List ℕ) → ((q′ : Position) → Leads q line q′ → ⊥) → LineMeets earlier q line lineForm
     -- "18 for a word without a one-word line"
-    no-word-line : (cs : List ℕ) (m k : ℕ) (line : List ℕ) (l : Listed) → readRow m line ≡ some l → (m ≡ 1 → ⊥)
-        → (u : List ℕ) → List·Memᴰ u (l .texts) → (HasLine earlier u → ⊥) → LineMeets earlier (in-section cs m k) line unlistedText
+    no-word-line : (counts : List ℕ) (m lines : ℕ) (line : List ℕ) (l : Listed) → readRow m line ≡ some l → (m ≡ 1 → ⊥)
+        → (u : List ℕ) → List·Memᴰ u (l .texts) → (HasLine earlier u → ⊥) → LineMeets earlier (in-section counts m lines) line unlistedText
     -- "19 for a section whose line count is not the one announced, .. the next heading or the end line"
-    heading-count : (cs : List ℕ) (m k : ℕ) → m < length cs → (k ≡ getD cs (m - 1) 0 → ⊥) → LineMeets earlier (in-section cs m k) (sectionLine (suc m)) sectionCount
-    end-count : (cs : List ℕ) (m k : ℕ) → length cs ≤ m → (k ≡ getD cs (m - 1) 0 → ⊥) → LineMeets earlier (in-section cs m k) endLine sectionCount
+    heading-count : (counts : List ℕ) (m lines : ℕ) → m < length counts → (lines ≡ countOf counts m → ⊥) → LineMeets earlier (in-section counts m lines) (sectionLine (suc m)) sectionCount
+    end-count : (counts : List ℕ) (m lines : ℕ) → length counts ≤ m → (lines ≡ countOf counts m → ⊥) → LineMeets earlier (in-section counts m lines) endLine sectionCount
     -- "15 with the line whose row or text no longer fits comes after that line's 17 and 18"
-    row-past : (cs : List ℕ) (m k : ℕ) (line : List ℕ) (l : Listed) → readRow m line ≡ some l → ((m ≡ 1 → ⊥) → (u : List ℕ) → List·Memᴰ u (l .texts) → HasLine earlier u)
-        → room < 8 * suc (length (rowLines earlier)) → LineMeets earlier (in-section cs m k) line shortSlice
-    text-past : (cs : List ℕ) (k : ℕ) (line : List ℕ) (l : Listed) → readRow 1 line ≡ some l
-        → (u : List ℕ) → List·Memᴰ u (l .texts) → size < 64 * suc (numberBy (rowLines (earlier ++ (line ∷ []))) u) → LineMeets earlier (in-section cs 1 k) line shortSlice
+    row-no-longer-fits : (counts : List ℕ) (m lines : ℕ) (line : List ℕ) (l : Listed) → readRow m line ≡ some l
+        → ((m ≡ 1 → ⊥) → (u : List ℕ) → List·Memᴰ u (l .texts) → HasLine earlier u)
+        → room < 8 * suc (length (rowLines earlier)) → LineMeets earlier (in-section counts m lines) line shortSlice
+    text-no-longer-fits : (counts : List ℕ) (lines : ℕ) (line : List ℕ) (l : Listed) → readRow 1 line ≡ some l
+        → (u : List ℕ) → List·Memᴰ u (l .texts)
+        → size < 64 * suc (numberBy (rowLines (earlier ++ (line ∷ []))) u) → LineMeets earlier (in-section counts 1 lines) line shortSlice
 
   -- lines that have come to a position, and nothing meets one of them
   pub data ReadTo : List (List ℕ) → Position → Type 0 where

@@ -21,7 +21,7 @@ use backoff::TABLE_LENGTH;
 use backoff::Verdict;
 
 // Words from this number on are too large for a list.
-const RADIX: usize = 65536;
+const RADIX: usize = backoff::RADIX as usize;
 
 // The answer: the number of rows, or a refusal's number with its line or row.
 pub enum Rows {
@@ -63,10 +63,10 @@ fn stopped(fault: u32, place: u64) -> Ending
 }
 
 // The last piece of the text, line `place`: it must be empty, behind the end line.
-fn last_piece(empty: bool, place: u64, p: Progress) -> Ending
-    ensures { λ r. ⌜ ((a : Reading) (room size : ℕ) (t : List ℤ) (s : List ℕ) (piece : List ℕ) → Held room size t s p a → empty ≡ eqb (length piece) 0 → LinesHeld room size t s (lastPiece (a .stage) a place piece) r) ⌝ }
+fn last_piece(empty: bool, place: u64, progress: Progress) -> Ending
+    ensures { λ r. ⌜ ((a : Reading) (room size : ℕ) (t : List ℤ) (s : List ℕ) (piece : List ℕ) → Held room size t s progress a → empty ≡ eqb (length piece) 0 → LinesHeld room size t s (lastPiece (a .stage) a place piece) r) ⌝ }
 {
-    let stage = p.stage;
+    let stage = progress.stage;
     let Stage::Ended = stage else {
         return stopped(LINE_FORM, place);
     };
@@ -76,9 +76,9 @@ fn last_piece(empty: bool, place: u64, p: Progress) -> Ending
     Ending {
         fault: 0,
         place: 0,
-        rows: p.rows,
-        ones: p.counts[0] as usize,
-        words: p.words,
+        rows: progress.rows,
+        ones: progress.counts[0] as usize,
+        words: progress.words,
     }
 }
 
@@ -87,7 +87,7 @@ fn read_lines(text: &[u8], table: &mut [i32], store: &mut [u8]) -> Ending
     requires { ⌜ (now table ≡ replicate (length (now table)) (pos 0)) × (now store ≡ replicate (length (now store)) 0) ⌝ }
     ensures { λ r. ⌜ LinesHeld (length (now (table .entry))) (length (now (store .entry))) (now (table .exit)) (now (store .exit)) (readLines (length (now (table .entry))) (length (now (store .entry))) unread 1 (parts 10 (now (text .entry)))) r ⌝ }
 {
-    let mut p = Progress {
+    let mut progress = Progress {
         stage: Stage::Start,
         counts: [0; 5],
         order: 0,
@@ -99,15 +99,15 @@ fn read_lines(text: &[u8], table: &mut [i32], store: &mut [u8]) -> Ending
     let mut place: u64 = 1;
     let mut at = 0;
     loop {
-        let end = at + arpa_text::find_byte(&text[at..], 10);
+        let end = arpa_text::part_end(text, at, b'\n');
         if end == text.len() {
-            return last_piece(at == end, place, p);
+            return last_piece(at == end, place, progress);
         }
-        let step = arpa_lines::line_step(&text[at..end], table, store, p);
+        let step = arpa_lines::line_step(&text[at..end], table, store, progress);
         if step.fault != 0 {
             return stopped(step.fault, place);
         }
-        p = step.progress;
+        progress = step.progress;
         at = end + 1;
         place += 1;
     }
@@ -143,19 +143,19 @@ fn judge(table: &mut [i32], rows: usize, ones: usize, words: usize, filling: boo
 }
 
 // The answer once the lines have ended.
-fn conclude(table: &mut [i32], e: Ending, filling: bool) -> Rows
-    requires { ⌜ ((l : Lines) × ((size : ℕ) × ((s : List ℕ) × LinesHeld (length (now table)) size (now table) s l e))) ⌝ }
-    ensures { λ r. ⌜ ((l : Lines) (size : ℕ) (s : List ℕ) → LinesHeld (length (now (table .entry))) size (now (table .entry)) s l e → Concluded filling (length (now (table .entry))) size (now (table .exit)) s l r) ⌝ }
+fn conclude(table: &mut [i32], ending: Ending, filling: bool) -> Rows
+    requires { ⌜ ((l : Lines) × ((size : ℕ) × ((s : List ℕ) × LinesHeld (length (now table)) size (now table) s l ending))) ⌝ }
+    ensures { λ r. ⌜ ((l : Lines) (size : ℕ) (s : List ℕ) → LinesHeld (length (now (table .entry))) size (now (table .entry)) s l ending → Concluded filling (length (now (table .entry))) size (now (table .exit)) s l r) ⌝ }
 {
-    if e.fault != 0 {
+    if ending.fault != 0 {
         return Rows::Refused {
-            number: e.fault,
-            place: e.place,
+            number: ending.fault,
+            place: ending.place,
         };
     }
-    match judge(table, e.rows, e.ones, e.words, filling) {
+    match judge(table, ending.rows, ending.ones, ending.words, filling) {
         Verdict::Accepted => Rows::Read {
-            rows: e.rows as u32,
+            rows: ending.rows as u32,
         },
         Verdict::Refused { number, place } => Rows::Refused {
             number,

@@ -34,7 +34,7 @@ parts-some c (x ∷ text) e = go (eqb x c) (parts c text) e
     go false (p ∷ ps) e = let z : _≡_ {A = ℕ} 0 1 = cc in omega arith
 
 -- a text of one part is that part
-pub one-part : (c : ℕ) (text part : List ℕ) → parts c text ≡ part ∷ [] → text ≡ part
+one-part : (c : ℕ) (text part : List ℕ) → parts c text ≡ part ∷ [] → text ≡ part
 unfolding parts
 one-part c [] part e = cc
 one-part c (x ∷ text) part e = go (eqb x c) (parts c text) refl (λ q f. one-part c text q f) e
@@ -74,9 +74,9 @@ one-text (text ∷ more ∷ texts) e = let z = and-right (isText text) false e i
 
 -- ---- the row that the code reads
 module _ (m : ℕ) (line : List ℕ) (r : RowLine) (read : listedAt line r ≡ readRow m line) where
-  pub row-refused : (room size : ℕ) (a : Reading) → r ≡ NoRow → rowStep room size m a (readRow m line) ≡ refusedBy lineForm
+  pub row-not-in-form : (room size : ℕ) (a : Reading) → r ≡ NoRow → rowStep room size m a (readRow m line) ≡ refusedBy lineForm
   unfolding rowStep
-  row-refused room size a e = ap (rowStep room size m a) (sym read ∙ ap (listedAt line) e)
+  row-not-in-form room size a e = ap (rowStep room size m a) (sym read ∙ ap (listedAt line) e)
 
   module _ (p b : ℤ) (from to : ℕ) (is : r ≡ Row p b from to) where
     abbrev wordsPart : List ℕ

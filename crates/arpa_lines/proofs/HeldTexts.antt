@@ -97,7 +97,7 @@ module _ (room size : ℕ) (t : List ℤ) (s : List ℕ) (p : Progress) (a : Rea
       record {
         start = omega arith;
         room = λ q. let r = h .word-room q in omega arith;
-        met = record { short = byte-short };
+        short = byte-short;
         texts = subst TextsSound (sym held-texts) (h .texts);
         records = record-there;
         index = index;

@@ -63,20 +63,20 @@ module _ (t : List ℤ) (n m : ℕ) (words : List ℕ) (p b : ℤ) (five : lengt
   eight-long : length eight ≡ 8
   eight-long = let e = length-append (map wordField words) (p ∷ b ∷ []) in let f = length-map words wordField in omega arith
 
-  pub long-row-length : length (longRow t n m words p b) ≡ length t
+  long-row-length : length (longRow t n m words p b) ≡ length t
   unfolding longRow
   long-row-length = length-sets t (8 * n) eight
 
-  pub long-row-other : (i j : ℕ) → j < 8 → (i ≡ n → ⊥) → field (longRow t n m words p b) i j ≡ field t i j
+  long-row-other : (i j : ℕ) → j < 8 → (i ≡ n → ⊥) → field (longRow t n m words p b) i j ≡ field t i j
   unfolding longRow field
   long-row-other i j l o = let e = eight-long in sets-other t (8 * n) (8 * i + j) eight (⊎-elim (λ (x : i < n). inl (omega arith)) (λ (x : n ≤ i). inr (omega arith)) (lt-or-ge i n))
 
-  pub long-row-here : (j : ℕ) → j < 8 → 8 * n + 8 ≤ length t → field (longRow t n m words p b) n j ≡ getD (pos m ∷ (map wordField words ++ (p ∷ b ∷ []))) j (pos 0)
+  long-row-here : (j : ℕ) → j < 8 → 8 * n + 8 ≤ length t → field (longRow t n m words p b) n j ≡ getD (pos m ∷ (map wordField words ++ (p ∷ b ∷ []))) j (pos 0)
   unfolding longRow field
   long-row-here j l r = let e = eight-long in sets-at t (8 * n) j eight (omega arith) (omega arith)
 
   -- the index lies in other rows
-  pub long-row-indexed : (s : List ℕ) (c next : ℕ) → c ≤ n → next - 4 ≤ n → Indexed t s c next → Indexed (longRow t n m words p b) s c next
+  long-row-indexed : (s : List ℕ) (c next : ℕ) → c ≤ n → next - 4 ≤ n → Indexed t s c next → Indexed (longRow t n m words p b) s c next
   long-row-indexed s c next u v x =
       indexed-kept t (longRow t n m words p b) s c next long-row-length
       (λ h l. long-row-other h 2 (omega arith) (λ z. absurd (omega arith)))

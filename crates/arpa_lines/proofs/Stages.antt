@@ -11,6 +11,7 @@ use lib.ListN.{length, getD, take, set, replicate}
 use lib.Seq.{length-take-le, getD-take}
 use borrow.Author.Tests.{eq-eqb, ne-eqb, lt-ltb, le-ltb, le-leb, lt-leb}
 use Rattle.integer.proofs.Arithmetic.{and-no}
+use Rattle.integer.proofs.Parts.{no-items}
 use Rattle.integer.proofs.Ranges.{lt-or-ge}
 use Rattle.backoff.specs.Limits.{orderLimit}
 use Rattle.backoff.specs.Refusal.{lineForm, sectionCount}
@@ -34,7 +35,7 @@ getD-zeros zero (suc i) = refl
 getD-zeros (suc n) zero = refl
 getD-zeros (suc n) (suc i) = getD-zeros n i
 
-pub field-zeros : (t : List ℤ) (i j : ℕ) → t ≡ replicate (length t) (pos 0) → field t i j ≡ pos 0
+field-zeros : (t : List ℤ) (i j : ℕ) → t ≡ replicate (length t) (pos 0) → field t i j ≡ pos 0
 unfolding field
 field-zeros t i j e = ap (λ (l : List ℤ). getD l (8 * i + j) (pos 0)) e ∙ getD-zeros (length t) (8 * i + j)
 
@@ -52,7 +53,7 @@ zeros-indexed : (t : List ℤ) (s : List ℕ) (b n : ℕ) → t ≡ replicate (l
 zeros-indexed t s b n e some l r m = subst (λ (u : List ℤ). Indexed u s b 4) (ap (λ (u : List ℤ). cleared u n) e ∙ cleared-zeros (length t) n ∙ sym e) (indexed-none t s b n some l r m)
 
 -- no row is held by a table of zeros
-pub none-held : (t : List ℤ) (rows : List (List ℤ)) (taken : ℕ) → rows ≡ [] → t ≡ replicate (length t) (pos 0) → TableHeld t rows taken
+none-held : (t : List ℤ) (rows : List (List ℤ)) (taken : ℕ) → rows ≡ [] → t ≡ replicate (length t) (pos 0) → TableHeld t rows taken
 unfolding joined field
 none-held t rows taken e z = record { same = λ i j l m. field-zeros t i j z ∙ ap (λ (r : List (List ℤ)). field (joined r) i j) (sym e) }
 
@@ -75,10 +76,10 @@ module _ (room size : ℕ) (t : List ℤ) (s : List ℕ) (p : Progress) (a : Rea
   held-at stage e = subst (λ (x : Stage). StageHeld x t s p a) (sym (h .stage) ∙ e) (h .at-stage)
 
   -- with these counts and at this stage, of whose section no line is read yet
-  abbrev pub resumes : Stage → List ℕ → ℕ → ℕ → Progress
+  abbrev resumes : Stage → List ℕ → ℕ → ℕ → Progress
   resumes stage counts order b = record { stage = stage; counts = counts; order = order; lines = 0; rows = p .rows; words = p .words; buckets = b }
 
-  abbrev pub readSo : Stage → List ℕ → Reading
+  abbrev readSo : Stage → List ℕ → Reading
   readSo stage announced = record { stage = stage; announced = announced; lines = 0; rows = a .rows; texts = a .texts }
 
   pub held-resumes : (now stage : Stage) → now ≡ stage → (counts : List ℕ) (order b : ℕ) (announced : List ℕ) → order ≤ orderLimit → length counts ≡ orderLimit → take order counts ≡ announced
@@ -107,7 +108,7 @@ module _ (room size : ℕ) (t : List ℤ) (s : List ℕ) (p : Progress) (a : Rea
   abbrev pub begins : Stage → ℕ → Progress
   begins stage b = resumes stage (p .counts) (p .order) b
 
-  pub held-begins : (stage : Stage) (b : ℕ) → StageHeld stage t s (begins stage b) (enter stage a) → Held room size t s (begins stage b) (enter stage a)
+  held-begins : (stage : Stage) (b : ℕ) → StageHeld stage t s (begins stage b) (enter stage a) → Held room size t s (begins stage b) (enter stage a)
   unfolding enter
   held-begins stage b = held-resumes stage stage refl (p .counts) (p .order) b (a .announced) (h .order) (h .counts-long) (h .announced)
 
@@ -180,14 +181,10 @@ module _ (room size : ℕ) (t : List ℤ) (s : List ℕ) (p : Progress) (a : Rea
             table = λ x.
                 ⊎-elim
                 (λ k. let e : max (p .rows) (p .buckets) ≡ onesOf a = omega arith in subst (λ (n : ℕ). TableHeld t (a .rows) n) e (f .table x))
-                (λ k. let z : p .rows ≡ 0 = omega arith in none-held t (a .rows) (onesOf a) (no-rows (a .rows) (sym (h .rows) ∙ z)) (f .untouched z))
+                (λ k. let z : p .rows ≡ 0 = omega arith in none-held t (a .rows) (onesOf a) (no-items (a .rows) (sym (h .rows) ∙ z)) (f .untouched z))
                 (lt-or-ge 0 (p .rows));
             free = λ i x. f .free i;
           }
-        where
-          no-rows : (l : List (List ℤ)) → length l ≡ 0 → l ≡ []
-          no-rows [] e = refl
-          no-rows (x ∷ l) e = absurd (omega arith)
 
       later : LaterHeld t s p a
       later =

@@ -1,18 +1,14 @@
 -- Laws of the rows that are written into the table. Assumes nothing.
 use mathlib.Core.Path.{_≡_, refl, sym, ap, ap₂, _∙_}
-use mathlib.Core.List.{List, [], _∷_, _++_, map}
+use mathlib.Core.List.{List, [], _∷_, map}
 use Prim.Native.Nat.{ℕ, suc, _+_, _*_, _<_, _≤_}
 use native.Mathlib.Omega.{arith}
 use lib.IntN.{ℤ, pos}
 use lib.ListN.{length, getD, drop, set, length-map, drop-of-length-le}
 use lib.Seq.{drop-cons, sets}
+use Rattle.totals_text.proofs.Stores.{sets-append}
 use Rattle.arpa_lines.specs.Held.{wordField, longRow}
 
-pub sets-append : (l : List ℤ) (i : ℕ) (xs ys : List ℤ) → sets l i (xs ++ ys) ≡ sets (sets l i xs) (i + length xs) ys
-sets-append l i [] ys = ap (λ (a : ℕ). sets l a ys) (omega arith)
-sets-append l i (x ∷ xs) ys = sets-append (set l i x) (suc i) xs ys ∙ ap (λ (a : ℕ). sets (sets (set l i x) (suc i) xs) a ys) (omega arith)
-
--- ---- the words of a row, one by one
 module _ (t₀ : List ℤ) (i : ℕ) (words : List ℕ) where
   -- what is still to be written of them, from word j on
   pub record Writing (t : List ℤ) (j : ℕ) : Type 0 where

@@ -174,7 +174,7 @@ module _ (room size : ℕ) (t : List ℤ) (s : List ℕ) (p : Progress) (a : Rea
                 (sym st ∙ h .stage) (omega arith, in-first .0, λ z. first-after, λ z. absurd (omega arith));
           }
 
-      pub row-added-held : k < size / 64 → (r : Stepped) → r ≡ added p next → StepHeld room size after s′ (wordStep room size a l text k) r
+      row-added-held : k < size / 64 → (r : Stepped) → r ≡ added p next → StepHeld room size after s′ (wordStep room size a l text k) r
       unfolding wordStep rowFits recordFits
       row-added-held q r f =
           let e = h .rows in

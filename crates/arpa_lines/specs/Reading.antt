@@ -75,7 +75,7 @@ rowOf words p b = pos (length words) ∷ (padded orderLimit (map pos words) ++ (
 unfoldable pub addRow : Reading → List ℤ → List (List ℕ) → Reading
 addRow r row texts = record { stage = r .stage; announced = r .announced; lines = suc (r .lines); rows = r .rows ++ (row ∷ []); texts = texts }
 
--- 15: one more row, and record k
+-- 15 is for a line "whose row or text no longer fits": whether one more row fits, and record k
 unfoldable pub rowFits : ℕ → Reading → Bool
 rowFits room r = leb (8 * suc (length (r .rows))) room
 

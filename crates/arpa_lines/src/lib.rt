@@ -92,37 +92,37 @@ fn write_long_row(table: &mut [i32], i: usize, m: usize, words: [usize; 5], p: i
 }
 
 // The line is refused.
-fn refused(fault: u32, p: Progress) -> Stepped
+fn refused(fault: u32, progress: Progress) -> Stepped
     ensures { λ r. ⌜ r .fault ≡ fault ⌝ }
 {
-    Stepped { fault, progress: p }
+    Stepped { fault, progress }
 }
 
 // Another stage begins.
-fn enter(p: Progress, stage: Stage) -> Stepped
-    ensures { λ r. ⌜ r ≡ entered p stage ⌝ }
+fn enter(progress: Progress, stage: Stage) -> Stepped
+    ensures { λ r. ⌜ r ≡ entered progress stage ⌝ }
 {
-    let counts = p.counts;
+    let counts = progress.counts;
     Stepped {
         fault: 0,
         progress: Progress {
             stage,
             counts,
-            order: p.order,
+            order: progress.order,
             lines: 0,
-            rows: p.rows,
-            words: p.words,
-            buckets: p.buckets,
+            rows: progress.rows,
+            words: progress.words,
+            buckets: progress.buckets,
         },
     }
 }
 
 // A count is announced.
-fn announce(p: Progress, count: u32) -> Stepped
-    requires { ⌜ p .order < orderLimit ⌝ }
-    ensures { λ r. ⌜ r ≡ announcing p count ⌝ }
+fn announce(progress: Progress, count: u32) -> Stepped
+    requires { ⌜ progress .order < orderLimit ⌝ }
+    ensures { λ r. ⌜ r ≡ announcing progress count ⌝ }
 {
-    let mut next = p;
+    let mut next = progress;
     let at = next.order;
     next.counts[at] = count;
     next.order = at + 1;
@@ -133,12 +133,12 @@ fn announce(p: Progress, count: u32) -> Stepped
     }
 }
 
-// One row more; `words` is the next word's number now.
-fn row_added(p: Progress, words: usize) -> Stepped
-    requires { ⌜ (p .rows < 18446744073709551615) × (p .lines < 18446744073709551615) ⌝ }
-    ensures { λ r. ⌜ r ≡ added p words ⌝ }
+// One row more; `words` is then the next word's number.
+fn row_added(progress: Progress, words: usize) -> Stepped
+    requires { ⌜ (progress .rows < 18446744073709551615) × (progress .lines < 18446744073709551615) ⌝ }
+    ensures { λ r. ⌜ r ≡ added progress words ⌝ }
 {
-    let mut next = p;
+    let mut next = progress;
     next.lines += 1;
     next.rows += 1;
     next.words = words;
@@ -160,32 +160,32 @@ fn buckets_for(announced: u32, rows: usize) -> usize
 }
 
 // The heading of the one-word section, behind one count at least.
-fn first_section(line: &[u8], room: usize, p: Progress) -> Stepped
-    ensures { λ r. ⌜ ((a : Reading) (size : ℕ) (t : List ℤ) (s : List ℕ) → p .stage ≡ Counts → Held room size t s p a → StepHeld room size t s (firstSection a (now (line .entry))) r) ⌝ }
+fn first_section(line: &[u8], room: usize, progress: Progress) -> Stepped
+    ensures { λ r. ⌜ ((a : Reading) (size : ℕ) (t : List ℤ) (s : List ℕ) → progress .stage ≡ Counts → Held room size t s progress a → StepHeld room size t s (firstSection a (now (line .entry))) r) ⌝ }
 {
-    if p.order == 0 {
-        return refused(LINE_FORM, p);
+    if progress.order == 0 {
+        return refused(LINE_FORM, progress);
     }
     if !arpa_text::is_section_line(line, 1) {
-        return refused(LINE_FORM, p);
+        return refused(LINE_FORM, progress);
     }
-    let mut next = p;
-    next.buckets = buckets_for(p.counts[0], room / 8);
+    let mut next = progress;
+    next.buckets = buckets_for(progress.counts[0], room / 8);
     enter(next, Stage::Section(1))
 }
 
 // A line of the data section.
-fn data_step(line: &[u8], room: usize, p: Progress) -> Stepped
-    requires { ⌜ p .order ≤ orderLimit ⌝ }
-    ensures { λ r. ⌜ ((a : Reading) (size : ℕ) (t : List ℤ) (s : List ℕ) → p .stage ≡ Counts → Held room size t s p a → StepHeld room size t s (dataStep a (now (line .entry))) r) ⌝ }
+fn data_step(line: &[u8], room: usize, progress: Progress) -> Stepped
+    requires { ⌜ progress .order ≤ orderLimit ⌝ }
+    ensures { λ r. ⌜ ((a : Reading) (size : ℕ) (t : List ℤ) (s : List ℕ) → progress .stage ≡ Counts → Held room size t s progress a → StepHeld room size t s (dataStep a (now (line .entry))) r) ⌝ }
 {
-    let order = p.order;
+    let order = progress.order;
     if order < 5 {
         if let Count::Announced(count) = arpa_text::read_count(line, order + 1) {
-            return announce(p, count);
+            return announce(progress, count);
         }
     }
-    first_section(line, room, p)
+    first_section(line, room, progress)
 }
 
 // Whether the line closes the section of length m: the next heading, or the end line behind the last.
@@ -200,18 +200,18 @@ fn closes_section(line: &[u8], m: usize, order: usize) -> bool
 }
 
 // The section of length m ends.
-fn close_section(m: usize, p: Progress) -> Stepped
+fn close_section(m: usize, progress: Progress) -> Stepped
     requires { ⌜ (1 ≤ m) × (m ≤ orderLimit) ⌝ }
-    ensures { λ r. ⌜ ((a : Reading) (room size : ℕ) (t : List ℤ) (s : List ℕ) → p .stage ≡ Section m → Held room size t s p a → StepHeld room size t s (closeSection m a) r) ⌝ }
+    ensures { λ r. ⌜ ((a : Reading) (room size : ℕ) (t : List ℤ) (s : List ℕ) → progress .stage ≡ Section m → Held room size t s progress a → StepHeld room size t s (closeSection m a) r) ⌝ }
 {
-    let announced = p.counts[m - 1] as usize;
-    if p.lines != announced {
-        return refused(SECTION_COUNT, p);
+    let announced = progress.counts[m - 1] as usize;
+    if progress.lines != announced {
+        return refused(SECTION_COUNT, progress);
     }
-    if m < p.order {
-        return enter(p, Stage::Section(m + 1));
+    if m < progress.order {
+        return enter(progress, Stage::Section(m + 1));
     }
-    enter(p, Stage::Ended)
+    enter(progress, Stage::Ended)
 }
 
 // A line of the one-word section that has the text, p and b.
@@ -221,28 +221,28 @@ fn word_step(
     b: i32,
     table: &mut [i32],
     store: &mut [u8],
-    state: Progress,
+    progress: Progress,
 ) -> Stepped
-    requires { ⌜ ((a : Reading) × Held (length (now table)) (length (now store)) (now table) (now store) state a) × (state .stage ≡ Section 1) × (isText (now text) ≡ true) ⌝ }
-    ensures { λ r. ⌜ ((a : Reading) → Held (length (now (table .entry))) (length (now (store .entry))) (now (table .entry)) (now (store .entry)) state a → StepHeld (length (now (table .entry))) (length (now (store .entry))) (now (table .exit)) (now (store .exit)) (wordStep (length (now (table .entry))) (length (now (store .entry))) a (record { p = p; b = b; texts = now (text .entry) ∷ [] }) (now (text .entry)) (numberGiven (a .texts) (now (text .entry)))) r) ⌝ }
+    requires { ⌜ ((a : Reading) × Held (length (now table)) (length (now store)) (now table) (now store) progress a) × (progress .stage ≡ Section 1) × (isText (now text) ≡ true) ⌝ }
+    ensures { λ r. ⌜ ((a : Reading) → Held (length (now (table .entry))) (length (now (store .entry))) (now (table .entry)) (now (store .entry)) progress a → StepHeld (length (now (table .entry))) (length (now (store .entry))) (now (table .exit)) (now (store .exit)) (wordStep (length (now (table .entry))) (length (now (store .entry))) a (record { p = p; b = b; texts = now (text .entry) ∷ [] }) (now (text .entry)) (numberGiven (a .texts) (now (text .entry)))) r) ⌝ }
 {
-    let words = state.words;
-    let met = arpa_words::number_met(text, table, store, state.buckets, words);
+    let words = progress.words;
+    let met = arpa_words::number_met(text, table, store, progress.buckets, words);
     let word = arpa_words::number_given(text, met, words);
-    if table.len() / 8 <= state.rows {
-        return refused(SHORT_SLICE, state);
+    if table.len() / 8 <= progress.rows {
+        return refused(SHORT_SLICE, progress);
     }
     if store.len() / 64 <= word {
-        return refused(SHORT_SLICE, state);
+        return refused(SHORT_SLICE, progress);
     }
     if met == 0 {
-        arpa_words::add_text(text, word, table, store, state.buckets, words);
+        arpa_words::add_text(text, word, table, store, progress.buckets, words);
     }
-    write_word_row(table, state.rows, word, p, b);
+    write_word_row(table, progress.rows, word, p, b);
     if word < words {
-        return row_added(state, words);
+        return row_added(progress, words);
     }
-    row_added(state, words + 1)
+    row_added(progress, words + 1)
 }
 
 // A line of the section of length m, from 2 on, that has these words, p and b.
@@ -253,70 +253,79 @@ fn longer_step(
     b: i32,
     table: &mut [i32],
     store: &[u8],
-    state: Progress,
+    progress: Progress,
 ) -> Stepped
-    requires { ⌜ ((a : Reading) × Held (length (now table)) (length (now store)) (now table) (now store) state a) × (state .stage ≡ Section m) × (2 ≤ m) × (m ≤ orderLimit) × (areTexts m (parts 32 (now text)) ≡ true) ⌝ }
-    ensures { λ r. ⌜ ((a : Reading) → Held (length (now (table .entry))) (length (now (store .entry))) (now (table .entry)) (now (store .entry)) state a → StepHeld (length (now (table .entry))) (length (now (store .entry))) (now (table .exit)) (now (store .entry)) (longerStep (length (now (table .entry))) a (record { p = p; b = b; texts = parts 32 (now (text .entry)) }) (map (numberMet (a .texts)) (parts 32 (now (text .entry))))) r) ⌝ }
+    requires { ⌜ ((a : Reading) × Held (length (now table)) (length (now store)) (now table) (now store) progress a) × (progress .stage ≡ Section m) × (2 ≤ m) × (m ≤ orderLimit) × (areTexts m (parts 32 (now text)) ≡ true) ⌝ }
+    ensures { λ r. ⌜ ((a : Reading) → Held (length (now (table .entry))) (length (now (store .entry))) (now (table .entry)) (now (store .entry)) progress a → StepHeld (length (now (table .entry))) (length (now (store .entry))) (now (table .exit)) (now (store .entry)) (longerStep (length (now (table .entry))) a (record { p = p; b = b; texts = parts 32 (now (text .entry)) }) (map (numberMet (a .texts)) (parts 32 (now (text .entry))))) r) ⌝ }
 {
-    let words = state.words;
-    let numbers = arpa_words::numbers_met(text, m, table, store, state.buckets, words);
+    let words = progress.words;
+    let numbers = arpa_words::numbers_met(text, m, table, store, progress.buckets, words);
     if numbers.missing {
-        return refused(UNLISTED_TEXT, state);
+        return refused(UNLISTED_TEXT, progress);
     }
-    if table.len() / 8 <= state.rows {
-        return refused(SHORT_SLICE, state);
+    if table.len() / 8 <= progress.rows {
+        return refused(SHORT_SLICE, progress);
     }
     let row = numbers.words;
-    write_long_row(table, state.rows, m, row, p, b);
-    row_added(state, words)
+    write_long_row(table, progress.rows, m, row, p, b);
+    row_added(progress, words)
 }
 
 // A line of the section of length m that does not close it.
-fn row_step(line: &[u8], m: usize, table: &mut [i32], store: &mut [u8], state: Progress) -> Stepped
-    requires { ⌜ ((a : Reading) × Held (length (now table)) (length (now store)) (now table) (now store) state a) × (state .stage ≡ Section m) × (1 ≤ m) × (m ≤ orderLimit) ⌝ }
-    ensures { λ r. ⌜ ((a : Reading) → Held (length (now (table .entry))) (length (now (store .entry))) (now (table .entry)) (now (store .entry)) state a → StepHeld (length (now (table .entry))) (length (now (store .entry))) (now (table .exit)) (now (store .exit)) (rowStep (length (now (table .entry))) (length (now (store .entry))) m a (readRow m (now (line .entry)))) r) ⌝ }
+fn row_step(
+    line: &[u8],
+    m: usize,
+    table: &mut [i32],
+    store: &mut [u8],
+    progress: Progress,
+) -> Stepped
+    requires { ⌜ ((a : Reading) × Held (length (now table)) (length (now store)) (now table) (now store) progress a) × (progress .stage ≡ Section m) × (1 ≤ m) × (m ≤ orderLimit) ⌝ }
+    ensures { λ r. ⌜ ((a : Reading) → Held (length (now (table .entry))) (length (now (store .entry))) (now (table .entry)) (now (store .entry)) progress a → StepHeld (length (now (table .entry))) (length (now (store .entry))) (now (table .exit)) (now (store .exit)) (rowStep (length (now (table .entry))) (length (now (store .entry))) m a (readRow m (now (line .entry)))) r) ⌝ }
 {
     let RowLine::Row { p, b, from, to } = arpa_text::read_row(line, m) else {
-        return refused(LINE_FORM, state);
+        return refused(LINE_FORM, progress);
     };
     if m == 1 {
-        return word_step(&line[from..to], p, b, table, store, state);
+        return word_step(&line[from..to], p, b, table, store, progress);
     }
-    longer_step(&line[from..to], m, p, b, table, store, state)
+    longer_step(&line[from..to], m, p, b, table, store, progress)
 }
 
 // A line in the section of length m.
-fn section_step(line: &[u8], m: usize, table: &mut [i32], store: &mut [u8], p: Progress) -> Stepped
-    requires { ⌜ ((a : Reading) × Held (length (now table)) (length (now store)) (now table) (now store) p a) × (p .stage ≡ Section m) ⌝ }
-    ensures { λ r. ⌜ ((a : Reading) → Held (length (now (table .entry))) (length (now (store .entry))) (now (table .entry)) (now (store .entry)) p a → StepHeld (length (now (table .entry))) (length (now (store .entry))) (now (table .exit)) (now (store .exit)) (sectionStep (length (now (table .entry))) (length (now (store .entry))) m a (now (line .entry))) r) ⌝ }
+fn section_step(
+    line: &[u8],
+    m: usize,
+    table: &mut [i32],
+    store: &mut [u8],
+    progress: Progress,
+) -> Stepped
+    requires { ⌜ ((a : Reading) × Held (length (now table)) (length (now store)) (now table) (now store) progress a) × (progress .stage ≡ Section m) ⌝ }
+    ensures { λ r. ⌜ ((a : Reading) → Held (length (now (table .entry))) (length (now (store .entry))) (now (table .entry)) (now (store .entry)) progress a → StepHeld (length (now (table .entry))) (length (now (store .entry))) (now (table .exit)) (now (store .exit)) (sectionStep (length (now (table .entry))) (length (now (store .entry))) m a (now (line .entry))) r) ⌝ }
 {
-    if closes_section(line, m, p.order) {
-        return close_section(m, p);
+    if closes_section(line, m, progress.order) {
+        return close_section(m, progress);
     }
-    row_step(line, m, table, store, p)
+    row_step(line, m, table, store, progress)
 }
 
 // One line.
-pub fn line_step(line: &[u8], table: &mut [i32], store: &mut [u8], p: Progress) -> Stepped
-    requires { ⌜ ((a : Reading) × Held (length (now table)) (length (now store)) (now table) (now store) p a) ⌝ }
-    ensures { λ r. ⌜ ((a : Reading) → Held (length (now (table .entry))) (length (now (store .entry))) (now (table .entry)) (now (store .entry)) p a → StepHeld (length (now (table .entry))) (length (now (store .entry))) (now (table .exit)) (now (store .exit)) (lineStep (length (now (table .entry))) (length (now (store .entry))) a (now (line .entry))) r) ⌝ }
+pub fn line_step(line: &[u8], table: &mut [i32], store: &mut [u8], progress: Progress) -> Stepped
+    requires { ⌜ ((a : Reading) × Held (length (now table)) (length (now store)) (now table) (now store) progress a) ⌝ }
+    ensures { λ r. ⌜ ((a : Reading) → Held (length (now (table .entry))) (length (now (store .entry))) (now (table .entry)) (now (store .entry)) progress a → StepHeld (length (now (table .entry))) (length (now (store .entry))) (now (table .exit)) (now (store .exit)) (lineStep (length (now (table .entry))) (length (now (store .entry))) a (now (line .entry))) r) ⌝ }
 {
     if line.len() == 0 {
-        return Stepped {
-            fault: 0,
-            progress: p,
-        };
+        return Stepped { fault: 0, progress };
     }
-    let stage = p.stage;
+    let stage = progress.stage;
     match stage {
         Stage::Start => {
             if arpa_text::is_data_line(line) {
-                return enter(p, Stage::Counts);
+                return enter(progress, Stage::Counts);
             }
-            refused(LINE_FORM, p)
+            refused(LINE_FORM, progress)
         }
-        Stage::Counts => data_step(line, table.len(), p),
-        Stage::Section(m) => section_step(line, m, table, store, p),
-        Stage::Ended => refused(LINE_FORM, p),
+        Stage::Counts => data_step(line, table.len(), progress),
+        Stage::Section(m) => section_step(line, m, table, store, progress),
+        Stage::Ended => refused(LINE_FORM, progress),
     }
 }

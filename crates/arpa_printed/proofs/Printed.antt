@@ -7,19 +7,19 @@ use mathlib.Core.Option.{some}
 use Prim.Native.Nat.{ℕ, zero, suc, _+_, _*_, _-_, _<_, _≤_}
 use native.Mathlib.Omega.{arith}
 use lib.Dec.{ltb, eqb}
-use lib.IntN.{ℤ, pos, negℤ, natAbs}
+use lib.IntN.{ℤ}
 use lib.ListN.{length, getD, take, length-append, length-map, List·getD-eq-default}
 use lib.Seq.{take-all}
 use borrow.Author.Tests.{eq-eqb, ne-eqb, le-leb, lt-ltb, le-ltb}
-use Rattle.integer.proofs.Arithmetic.{zarith, abs}
-use Rattle.integer.proofs.Ranges.{lt-or-ge, between-low, between-high}
-use Rattle.backoff.specs.Limits.{orderLimit, rowLimit, leastProbability, largestBackoff}
+use Rattle.integer.proofs.Arithmetic.{abs}
+use Rattle.integer.proofs.Ranges.{lt-or-ge}
+use Rattle.backoff.specs.Limits.{orderLimit, rowLimit}
 use Rattle.backoff.specs.Words.{sameWords}
-use Rattle.backoff.specs.Model.{inProbability, inBackoff}
 use Rattle.backoff.specs.NineNumbers.{padded}
+use Rattle.backoff.proofs.Sizes.{probability-size, backoff-size}
 use Rattle.backoff.proofs.Words.{same-refl}
 use Rattle.rows.specs.Table.{rowsOf, lengthOf, orderOf, words, probabilityAt, backoffAt}
-use Rattle.rows.proofs.Table.{row-in, length-limit, words-length}
+use Rattle.rows.proofs.Table.{row-in, order-limit, words-length}
 use Rattle.rows.proofs.Good.{lengths-ascend}
 use Rattle.list.specs.Check.{verdict}
 use Rattle.list.proofs.Check.{accepted-row, accepted-good, accepted-size, backoff-in}
@@ -32,13 +32,15 @@ use Rattle.arpa_text.specs.Lines.{dataLine, sectionLine, endLine, Listed, readC
 use Rattle.arpa_words.specs.Words.{unknownText, startText, endText, noTexts, reservedNumber, numberGiven, withText, storeWith}
 use Rattle.arpa_lines.specs.Reading.{Reading, unread, goes, announce, enter, firstSection, countStep, dataStep, closes, closeSection, rowOf, addRow, rowFits, recordFits, wordStep, longerStep, rowStep, sectionStep, stageStep, lineStep, done, onward, lastPiece, readLines}
 use Rattle.arpa.specs.Outcome.{ordered, linesOutcome, judged, readArpa}
+use Rattle.arpa.proofs.RowsHeld.{rows-count}
+use Rattle.arpa.proofs.Meaning.{first-three}
 use Rattle.arpa_printed.specs.Printed.{printCount, rowsWith, wordText, rowLine, countLines, sectionLines, printed, Printable, ReadsBack}
 use Rattle.arpa_lines.specs.declared.Stage.{Stage}
 use Rattle.arpa_lines.specs.declared.Stage.the-variants.{Counts, Section, Ended}
 use Rattle.arpa.specs.declared.Rows.the-variants.{Read}
 use Rattle.arpa_printed.proofs.PrintedLines.{Lacks, AllLack, parts-of-lines, count-read, count-some, count-lacks, row-lead, row-lacks, row-read, row-closes-none}
 use Rattle.arpa_printed.proofs.PrintedRows.{countUp, count-rows, count-length, sectionRows, section-rows, one-word-rows, AllOf, all-of-length, row-of-words, AllKnown, words-known}
-use Rattle.arpa_printed.proofs.PrintedWords.{numbers-of-words, number-of-next, none-missing, words-texts, text-behind}
+use Rattle.arpa_printed.proofs.PrintedWords.{numbers-of-words, number-of-next, known-none-missing, words-texts, with-next-text}
 
 -- ---- line by line
 
@@ -159,37 +161,9 @@ end-lacks = refl
 
 -- ---- a printable list
 
-rows-length : (t : List ℤ) (i k : ℕ) → length (rowsAt t i k) ≡ k
-rows-length t i k = ap length (sym (count-rows t i k)) ∙ length-map (countUp i k) (rowAt t) ∙ count-length i k
-
-order-limit : (t : List ℤ) → orderOf t ≤ orderLimit
-unfolding orderOf
-order-limit t = length-limit t (rowsOf t - 1)
-
 three-texts : (texts : List (List ℕ)) → getD texts 2 [] ≡ endText → 3 ≤ length texts
 three-texts texts e =
     ⊎-elim (λ l. l) (λ l. let f = ap length (sym (List·getD-eq-default texts [] l) ∙ e) in absurd (omega arith)) (lt-or-ge 2 (length texts))
-
-probability-size : (z : ℤ) → inProbability z ≡ true → natAbs z ≤ largestBackoff
-unfolding inProbability
-probability-size z e =
-    let low = between-low leastProbability (pos 0) z e in
-    let high = between-high leastProbability (pos 0) z e in
-    omega (zarith, abs z)
-
-backoff-size : (z : ℤ) → inBackoff z ≡ true → natAbs z ≤ largestBackoff
-unfolding inBackoff
-backoff-size z e =
-    let low = between-low (negℤ (pos largestBackoff)) (pos largestBackoff) z e in
-    let high = between-high (negℤ (pos largestBackoff)) (pos largestBackoff) z e in
-    omega (zarith, abs z)
-
-first-three : (texts : List (List ℕ)) → 3 ≤ length texts → getD texts 0 [] ≡ unknownText → getD texts 1 [] ≡ startText → getD texts 2 [] ≡ endText
-    → take 3 texts ≡ unknownText ∷ startText ∷ endText ∷ []
-first-three [] l u s e = absurd (omega arith)
-first-three (a ∷ []) l u s e = absurd (omega arith)
-first-three (a ∷ b ∷ []) l u s e = absurd (omega arith)
-first-three (a ∷ b ∷ c ∷ texts) l u s e = rw (u, s, e) refl
 
 module _ (texts : List (List ℕ)) (t : List ℤ) (room size : ℕ) (is : Printable texts t room size) where
   abbrev listed : ℕ → Listed
@@ -212,8 +186,9 @@ module _ (texts : List (List ℕ)) (t : List ℤ) (room size : ℕ) (is : Printa
       let row = accepted-row t (is .accepted) i l .fields in
       let e = texts-length i l in
       let some-word = row .good .some in
+      let b = backoff-size (backoffAt t i) (backoff-in t (orderOf t) i (row .backoff)) in
       subst (λ (m : ℕ). readRow m (rowLine texts t i) ≡ some (listed i)) e
-      (row-read (probabilityAt t i) (backoffAt t i) (map (wordText texts) (words t i)) (row-texts i l) (probability-size (probabilityAt t i) (row .probability)) (backoff-size (backoffAt t i) (backoff-in t (orderOf t) i (row .backoff))) (omega arith))
+      (row-read (probabilityAt t i) (backoffAt t i) (map (wordText texts) (words t i)) (row-texts i l) (probability-size (probabilityAt t i) (row .probability)) (omega (arith, abs (backoffAt t i))) (omega arith))
 
   -- a row's line is read as a row
   row-line : (m : ℕ) (r : Reading) (i : ℕ) → r .stage ≡ Section m → i < rowsOf t → lengthOf t i ≡ m → lineStep room size r (rowLine texts t i) ≡ rowStep room size m r (some (listed i))
@@ -257,7 +232,7 @@ module _ (texts : List (List ℕ)) (t : List ℤ) (room size : ℕ) (is : Printa
     later-words (suc k) i rows low e n =
         let l : i < length texts = omega arith in (
           standing (Section 1) counts (suc i) (rows ++ (rowAt t i ∷ [])) (take (suc i) texts),
-          word-line i i rows (take i texts) (take (suc i) texts) l n (number-of-next texts (is .distinct) i low l (is .unknown) (is .start) (is .end)) (text-behind texts i l),
+          word-line i i rows (take i texts) (take (suc i) texts) l n (number-of-next texts (is .distinct) i low l (is .unknown) (is .start) (is .end)) (with-next-text texts i l),
           subst (λ (r : List (List ℤ)). Reads room size (standing (Section 1) counts (suc i) (rows ++ (rowAt t i ∷ [])) (take (suc i) texts)) (map (rowLine texts t) (countUp (suc i) k)) (standing (Section 1) counts (length texts) r texts))
               (append-assoc rows (rowAt t i ∷ []) (map (rowAt t) (countUp (suc i) k)))
               (later-words k (suc i) (rows ++ (rowAt t i ∷ [])) (omega arith) (omega arith) (simp length-append (omega arith))),
@@ -274,7 +249,7 @@ module _ (texts : List (List ℕ)) (t : List ℤ) (room size : ℕ) (is : Printa
         word-line 1 1 (rowAt t 0 ∷ []) (unknownText ∷ [] ∷ [] ∷ []) (unknownText ∷ startText ∷ [] ∷ []) (omega arith) refl (rw (is .start) refl) (rw (is .start) refl),
         (
           standing (Section 1) counts 3 (rowAt t 0 ∷ rowAt t 1 ∷ rowAt t 2 ∷ []) (take 3 texts),
-          word-line 2 2 (rowAt t 0 ∷ rowAt t 1 ∷ []) (unknownText ∷ startText ∷ [] ∷ []) (take 3 texts) (omega arith) refl (rw (is .end) refl) (rw (is .end) (sym (first-three texts (omega arith) (is .unknown) (is .start) (is .end)))),
+          word-line 2 2 (rowAt t 0 ∷ rowAt t 1 ∷ []) (unknownText ∷ startText ∷ [] ∷ []) (take 3 texts) (omega arith) refl (rw (is .end) refl) (rw (is .end) (sym (ap (take 3) (first-three texts (omega arith)) ∙ rw (is .unknown, is .start, is .end) refl))),
           later-words k 3 (rowAt t 0 ∷ rowAt t 1 ∷ rowAt t 2 ∷ []) (omega arith) (omega arith) refl,
         ),
       ),
@@ -289,7 +264,7 @@ module _ (texts : List (List ℕ)) (t : List ℤ) (room size : ℕ) (is : Printa
         let held = is .table-room in
         let long = whole in
         row-line m (standing (Section m) counts lines rows texts) i refl l e
-        ∙ rw (ne-eqb m 1 (λ z. omega arith), numbers-of-words texts (is .distinct) (words t i) (known i l), none-missing (length texts) (words t i) (known i l), le-leb (8 * suc (length rows)) room (omega arith), row-is i l) refl
+        ∙ rw (ne-eqb m 1 (λ z. omega arith), numbers-of-words texts (is .distinct) (words t i) (known i l), known-none-missing (length texts) (words t i) (known i l), le-leb (8 * suc (length rows)) room (omega arith), row-is i l) refl
 
     long-lines : (m : ℕ) (indexes : List ℕ) (lines total : ℕ) (rows : List (List ℤ)) → 2 ≤ m → AllOf t m indexes → lines + length indexes ≡ total → length rows + length indexes ≤ rowsOf t
         → Reads room size (standing (Section m) counts lines rows texts) (map (rowLine texts t) indexes) (standing (Section m) counts total (rows ++ map (rowAt t) indexes) texts)
@@ -441,5 +416,5 @@ module _ (texts : List (List ℕ)) (t : List ℤ) (room size : ℕ) (is : Printa
             ap (λ (pieces : List (List ℕ)). linesOutcome false room size (readLines room size unread 1 pieces)) (parts-of-lines (textLines (orderOf t)) text-lacks)
             ∙ ap (linesOutcome false room size) (lines-read room size (textLines (orderOf t)) unread (final (orderOf t)) 1 reads refl)
             ∙ ap (judged room size (final (orderOf t))) (ap verdict rows-ordered ∙ is .accepted)
-            ∙ ap₂ (λ (n : ℕ) (l : List ℤ). record { answer = Read n; table = padded room l; store = storeWith size texts }) (rows-length t 0 (rowsOf t)) rows-ordered;
+            ∙ ap₂ (λ (n : ℕ) (l : List ℤ). record { answer = Read n; table = padded room l; store = storeWith size texts }) (rows-count t 0 (rowsOf t)) rows-ordered;
       }

@@ -45,7 +45,7 @@ lacks-rest c x text h = go (eqb x c) h
     go true e = absurd (omega arith)
     go false e = (refl, omega arith)
 
-pub lacks-append : (c : ℕ) (a b : List ℕ) → Lacks c a → Lacks c b → Lacks c (a ++ b)
+lacks-append : (c : ℕ) (a b : List ℕ) → Lacks c a → Lacks c b → Lacks c (a ++ b)
 unfolding before
 lacks-append c [] b h k = k
 lacks-append c (x ∷ a) b h k = let r = lacks-rest c x a h in rw (r .0, lacks-append c a b (r .1) k) refl
@@ -157,7 +157,7 @@ size-lead n =
     (d .first, d .rest ++ (46 ∷ lastDigits pointDecimals n), ap (λ (l : List ℕ). l ++ (46 ∷ lastDigits pointDecimals n)) (d .is), r .0, r .1)
 
 -- a log begins with a digit or a minus
-pub log-lead : (z : ℤ) → (c : ℕ) × (rest : List ℕ) × (printLog z ≡ c ∷ rest) × (c ≤ 57)
+log-lead : (z : ℤ) → (c : ℕ) × (rest : List ℕ) × (printLog z ≡ c ∷ rest) × (c ≤ 57)
 unfolding printLog
 log-lead (pos n) = let d = size-lead n in (d .0, d .1, d .2, d .4)
 log-lead (negsuc n) = (45, printSize (suc n), refl, omega arith)
@@ -176,7 +176,7 @@ round-positive : (n : ℕ) → roundLog (pos (n * unitsOfPoint)) ≡ pos n
 unfolding roundLog
 round-positive n = ap pos (nearest-whole n)
 
-pub log-read : (z : ℤ) → natAbs z ≤ largestBackoff → readPoints (printLog z) ≡ Of z
+log-read : (z : ℤ) → natAbs z ≤ largestBackoff → readPoints (printLog z) ≡ Of z
 unfolding printLog
 log-read (pos n) h =
     let d = size-lead n in
@@ -184,7 +184,7 @@ log-read (pos n) h =
     unsigned-log (printSize n) (d .0) (d .1) (n * unitsOfPoint) (d .2) (λ e. omega arith) (size-read n h) ∙ ap Of (round-positive n)
 log-read (negsuc n) h = minus-log (printSize (suc n)) (suc n * unitsOfPoint) (size-read (suc n) h) ∙ ap Of (round-negative (suc n * unitsOfPoint) ∙ ap (λ (k : ℕ). negℤ (pos k)) (nearest-whole (suc n)))
 
-pub log-lacks : (c : ℕ) (z : ℤ) → c < 45 → Lacks c (printLog z)
+log-lacks : (c : ℕ) (z : ℤ) → c < 45 → Lacks c (printLog z)
 unfolding printLog printSize
 log-lacks c z l = signed z
   where

@@ -27,6 +27,7 @@ use Rattle.list.proofs.Check.{first-listed, last-listed}
 use Rattle.row_order.specs.RowOrder.{rowAt, rowsAt}
 use Rattle.row_order.proofs.Rows.{row-field, row-length}
 use Rattle.arpa_lines.specs.Reading.{rowOf}
+use Rattle.arpa.proofs.RowsHeld.{getD-padded}
 use Rattle.arpa_printed.specs.Printed.{rowsWith}
 
 -- ---- section by section
@@ -116,14 +117,6 @@ all-of-length t m i (suc k) l = go (eqb (lengthOf t i) m) refl (all-of-length t 
 
 -- ---- a row by its words
 
-getD-padded : (k : ℕ) (xs : List ℤ) (j : ℕ) → j < k → getD (padded k xs) j (pos 0) ≡ getD xs j (pos 0)
-unfolding padded
-getD-padded zero xs j l = absurd (omega arith)
-getD-padded (suc k) [] zero l = refl
-getD-padded (suc k) [] (suc j) l = getD-padded k [] j (omega arith)
-getD-padded (suc k) (x ∷ xs) zero l = refl
-getD-padded (suc k) (x ∷ xs) (suc j) l = getD-padded k xs j (omega arith)
-
 module _ (t : List ℤ) (i : ℕ) (g : GoodRow t i) (h : 8 * i + 8 ≤ length t) where
   length-field : pos (length (words t i)) ≡ field t i 0
   unfolding lengthOf
@@ -163,7 +156,7 @@ module _ (t : List ℤ) (i : ℕ) (g : GoodRow t i) (h : 8 * i + 8 ≤ length t)
       place j l =
           let n = length-padded orderLimit (map pos (words t i)) in
           ⊎-elim
-          (λ (k : j < 5). List·getD-append ws (field t i 6 ∷ field t i 7 ∷ []) (pos 0) j (omega arith) ∙ getD-padded orderLimit (map pos (words t i)) j k ∙ word-field j k)
+          (λ (k : j < 5). List·getD-append ws (field t i 6 ∷ field t i 7 ∷ []) (pos 0) j (omega arith) ∙ getD-padded orderLimit j (map pos (words t i)) k ∙ word-field j k)
           (λ (k : 5 ≤ j).
           let e : j ≡ length ws + (j - 5) = omega arith in
           ap (λ (x : ℕ). getD (ws ++ (field t i 6 ∷ field t i 7 ∷ [])) x (pos 0)) e ∙ getD-append-add ws (field t i 6 ∷ field t i 7 ∷ []) (j - 5) (pos 0) ∙ last (j - 5) j (omega arith) (omega arith))

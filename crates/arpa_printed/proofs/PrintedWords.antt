@@ -56,10 +56,10 @@ module _ (texts : List (List ℕ)) (distinct : (i j : ℕ) → i < j → j < len
         n,
       ) refl
 
-pub none-missing : (v : ℕ) (ws : List ℕ) → AllKnown v ws → someMissing ws ≡ false
+pub known-none-missing : (v : ℕ) (ws : List ℕ) → AllKnown v ws → someMissing ws ≡ false
 unfolding someMissing
-none-missing v [] k = refl
-none-missing v (w ∷ ws) k = let a = k .0 in rw (ne-eqb w 0 (λ e. omega arith)) (none-missing v ws (k .2))
+known-none-missing v [] k = refl
+known-none-missing v (w ∷ ws) k = let a = k .0 in rw (ne-eqb w 0 (λ e. omega arith)) (known-none-missing v ws (k .2))
 
 pub words-texts : (texts : List (List ℕ)) → ((i : ℕ) → i < length texts → isText (getD texts i []) ≡ true) → (ws : List ℕ) → AllKnown (length texts) ws
     → areTexts (length (map (wordText texts) ws)) (map (wordText texts) ws) ≡ true
@@ -70,8 +70,8 @@ words-texts texts f (w ∷ ws) k =
     let b = k .1 in
     and-both (isText (wordText texts w)) (areTexts (length (map (wordText texts) ws)) (map (wordText texts) ws)) (f (w - 1) (omega arith)) (words-texts texts f ws (k .2))
 
-pub text-behind : (texts : List (List ℕ)) (k : ℕ) → k < length texts → withText (take k texts) (suc k) (getD texts k []) ≡ take (suc k) texts
+pub with-next-text : (texts : List (List ℕ)) (k : ℕ) → k < length texts → withText (take k texts) (suc k) (getD texts k []) ≡ take (suc k) texts
 unfolding withText
-text-behind texts k l =
+with-next-text texts k l =
     let n = length-take-le k texts (omega arith) in
     rw (lt-leb (suc k) (length (take k texts)) (omega arith)) (sym (take-suc texts k [] l))

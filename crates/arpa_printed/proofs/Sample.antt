@@ -14,7 +14,7 @@ use Rattle.rows.specs.Table.{rowsOf, field, lengthOf, orderOf, wordsOf, words, 
 use Rattle.rows.specs.Order.{lastLess, precedes}
 use Rattle.row_search.specs.Search.{findBelow, findIn}
 use Rattle.list.specs.Sample.{sample}
-use Rattle.list.specs.Check.{tableFits, backoffFits, fieldFault, isAfter, withoutFirsts, shorterListed, orderFault, rowFault, reservedListed, scan, verdictFor, verdict}
+use Rattle.list.specs.Check.{tableFits, backoffFits, fieldFault, isAfter, withoutFirsts, shorterListed, orderFault, rowFault, reservedListed, scan, verdictFor}
 use Rattle.row_order.specs.RowOrder.{insertBy, sortBy, rowAt, rowsAt, joined, numbersOf, rowBefore, listOrder}
 use Rattle.word_index.specs.Texts.{searchFrom}
 use Rattle.totals_text.specs.Columns.{allDigits, valueFrom}

@@ -73,7 +73,7 @@ pub before-other : (c x : ℕ) (text : List ℕ) → (x ≡ c → ⊥) → befor
 unfolding before
 before-other c x text n e = rw (ne-eqb x c n, e) refl
 
--- the same, with the place at which a search stopped
+-- the parts of a text by the place at which a search for the byte stopped
 module _ (c : ℕ) (text : List ℕ) (place : ℕ) (e : place ≡ before c text) where
   pub parts-end : place ≡ length text → parts c text ≡ take place text ∷ []
   parts-end h = parts-one c text (sym e ∙ h) ∙ ap (λ (l : List ℕ). l ∷ []) (sym (take-all place text (omega arith)))

@@ -40,6 +40,7 @@ countHead m = 110 ∷ 103 ∷ 114 ∷ 97 ∷ 109 ∷ 32 ∷ (48 + m) ∷ []
 unfoldable pub isCountHead : ℕ → List ℕ → Bool
 isCountHead m text = sameWords text (countHead m) || sameWords text (countHead m ++ (32 ∷ []))
 
+-- the text behind one space, which may be absent
 unfoldable pub withoutSpace : List ℕ → List ℕ
 withoutSpace [] = []
 withoutSpace (c ∷ text) = cond (eqb c 32) text (c ∷ text)
@@ -48,6 +49,7 @@ withoutSpace (c ∷ text) = cond (eqb c 32) text (c ∷ text)
 unfoldable pub countIn : List ℕ → Count
 countIn text = cond (digitsUpTo 9 text) (Announced (valueFrom 0 text)) NoCount
 
+-- what stands before and behind the one `=` of a line
 abbrev pub countBetween : ℕ → List (List ℕ) → Count
 countBetween m [] = NoCount
 countBetween m (head ∷ []) = NoCount
@@ -60,6 +62,7 @@ readCount m line = countBetween m (parts 61 line)
 
 -- ---- a line of a section
 
+-- every byte is above the space
 unfoldable pub allAbove : List ℕ → Bool
 allAbove [] = true
 allAbove (c ∷ text) = leb 33 c && allAbove text
@@ -81,6 +84,7 @@ pub record Listed : Type 0 where
   pub b : ℤ
   pub texts : List (List ℕ)
 
+-- two logs and the texts between them, where all are in form
 abbrev pub listedWith : ℕ → Points → List (List ℕ) → Points → Option Listed
 listedWith m (Of p) texts (Of b) = cond (areTexts m texts) (some (record { p = p; b = b; texts = texts })) none
 listedWith m (Of p) texts NotInForm = none

@@ -51,6 +51,7 @@ pointDecimals = 6
 abbrev pub unitsOfPoint : ℕ
 unitsOfPoint = 10 ^ (decimals - pointDecimals)
 
+-- so many units as points, a half upwards
 unfoldable pub nearest : ℕ → ℕ
 nearest n = (n + unitsOfPoint / 2) / unitsOfPoint
 

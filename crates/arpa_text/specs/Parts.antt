@@ -9,12 +9,10 @@ abbrev pub inFront : ℕ → List (List ℕ) → List (List ℕ)
 inFront x [] = (x ∷ []) ∷ []
 inFront x (p ∷ ps) = (x ∷ p) ∷ ps
 
--- "A tab parts the fields, one space the words": the parts before, between and behind the bytes c, always one more than there are such bytes
+-- the parts before, between and behind the bytes c: always one more than there are such bytes
 unfoldable pub parts : ℕ → List ℕ → List (List ℕ)
 parts c [] = [] ∷ []
 parts c (x ∷ text) = cond (eqb x c) ([] ∷ parts c text) (inFront x (parts c text))
-
--- ---- contracts of inner functions alone cite what follows
 
 -- how many bytes stand before the first c; all of them where there is none
 unfoldable pub before : ℕ → List ℕ → ℕ

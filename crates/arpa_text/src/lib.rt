@@ -58,7 +58,7 @@ enum Size {
 }
 
 // Where the first such byte stands; behind the text where there is none.
-pub fn find_byte(text: &[u8], byte: u8) -> usize
+fn find_byte(text: &[u8], byte: u8) -> usize
     ensures place { λ r. ⌜ r ≡ before byte (now (text .entry)) ⌝ }
     ensures within { λ r. ⌜ r ≤ length (now (text .entry)) ⌝ }
 {
@@ -216,7 +216,6 @@ fn is_text(text: &[u8]) -> bool
 
 // Whether these are m texts parted by one space each.
 fn are_texts(words: &[u8], m: usize) -> bool
-    requires { ⌜ 1 ≤ m ⌝ }
     ensures { λ r. ⌜ r ≡ areTexts m (parts 32 (now (words .entry))) ⌝ }
 {
     let mut at = 0;
@@ -249,7 +248,6 @@ fn read_backoff(line: &[u8], to: usize) -> Points
 
 // A line of the section of length m.
 pub fn read_row(line: &[u8], m: usize) -> RowLine
-    requires { ⌜ 1 ≤ m ⌝ }
     ensures row { λ r. ⌜ listedAt (now (line .entry)) r ≡ readRow m (now (line .entry)) ⌝ }
     ensures inside { λ r. ⌜ Inside (now (line .entry)) r ⌝ }
 {
@@ -261,7 +259,7 @@ pub fn read_row(line: &[u8], m: usize) -> RowLine
         return RowLine::NotInForm;
     };
     let from = tab + 1;
-    let to = from + find_byte(&line[from..], TAB);
+    let to = part_end(line, from, TAB);
     let Points::Of(b) = read_backoff(line, to) else {
         return RowLine::NotInForm;
     };

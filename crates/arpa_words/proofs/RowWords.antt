@@ -25,7 +25,7 @@ texts-count zero (u ∷ us) e = absurd (false≢true e)
 texts-count (suc m) [] e = absurd (false≢true e)
 texts-count (suc m) (u ∷ us) e = ap suc (texts-count m us (and-right (isText u) (areTexts m us) e))
 
-pub texts-each : (m : ℕ) (us : List (List ℕ)) → areTexts m us ≡ true → (j : ℕ) → j < m → isText (getD us j []) ≡ true
+texts-each : (m : ℕ) (us : List (List ℕ)) → areTexts m us ≡ true → (j : ℕ) → j < m → isText (getD us j []) ≡ true
 unfolding areTexts
 texts-each zero us e j l = absurd (omega arith)
 texts-each (suc m) [] e j l = absurd (false≢true e)
@@ -71,54 +71,53 @@ module _ (f : List ℕ → ℕ) (text : List ℕ) (m : ℕ) (are : areTexts m (p
     left-cons : drop j (parts 32 text) ≡ getD (parts 32 text) j [] ∷ drop (suc j) (parts 32 text)
     left-cons = let e = count in drop-cons (parts 32 text) j [] (omega arith)
 
-    found-from : (b : ℕ) → b ≡ before 32 (take (length text - at) (drop at text)) → b ≡ before 32 (drop at text)
-    found-from b e = e ∙ ap (before 32) (take-all (length text - at) (drop at text) (let g = length-drop at text in omega arith))
-
-    -- the word that is looked up is word j
-    pub numbered-text : (b : ℕ) → b ≡ before 32 (take (length text - at) (drop at text)) → take (at + b - at) (drop at text) ≡ getD (parts 32 text) j []
-    numbered-text b e =
-        let g : at + b - at ≡ b = omega arith in
-        ap (λ (n : ℕ). take n (drop at text)) (g ∙ found-from b e)
-        ∙ sym (first-part 32 (drop at text))
-        ∙ ap (λ (ps : List (List ℕ)). getD ps 0 []) (sym (x .left l) ∙ left-cons)
-
-    pub numbered-text-in-form : (b : ℕ) → b ≡ before 32 (take (length text - at) (drop at text)) → isText (take (at + b - at) (drop at text)) ≡ true
-    numbered-text-in-form b e = rw (numbered-text b e) (texts-each m (parts 32 text) are j l)
-
     missing-here : someMissing (map f (parts 32 text)) ≡ someMissing (f (getD (parts 32 text) j []) ∷ map f (drop (suc j) (parts 32 text)))
     missing-here = x .none ∙ ap (λ (us : List (List ℕ)). someMissing (map f us)) left-cons
 
-    pub numbered-missing : (b w : ℕ) → b ≡ before 32 (take (length text - at) (drop at text)) → w ≡ f (take (at + b - at) (drop at text)) → w ≡ 0 → someMissing (map f (parts 32 text)) ≡ true
-    unfolding someMissing
-    numbered-missing b w e g z = missing-here ∙ rw (eq-eqb (f (getD (parts 32 text) j [])) 0 (ap f (sym (numbered-text b e)) ∙ sym g ∙ z)) refl
+    module _ (end : ℕ) (e : end ≡ at + before 32 (drop at text)) where
+      -- the word that is looked up is word j
+      numbered-text : take (end - at) (drop at text) ≡ getD (parts 32 text) j []
+      numbered-text =
+          let g : end - at ≡ before 32 (drop at text) = omega arith in
+          ap (λ (n : ℕ). take n (drop at text)) g
+          ∙ sym (first-part 32 (drop at text))
+          ∙ ap (λ (ps : List (List ℕ)). getD ps 0 []) (sym (x .left l) ∙ left-cons)
 
-    pub numbered-next : m ≤ orderLimit → (b w : ℕ) → b ≡ before 32 (take (length text - at) (drop at text)) → w ≡ f (take (at + b - at) (drop at text)) → (w ≡ 0 → ⊥)
-        → Numbered f text m (set numbers j w) (at + b + 1) (j + 1)
-    unfolding someMissing
-    numbered-next few b w e g n =
-        let long = count in
-        let word : f (getD (parts 32 text) j []) ≡ w = ap f (sym (numbered-text b e)) ∙ sym g in
-        let k : length (map f (take j (parts 32 text))) ≡ j = length-map (take j (parts 32 text)) f ∙ length-take-le j (parts 32 text) (omega arith) in
-        let more : j + 1 < m → 1 < length (parts 32 (drop at text)) = λ p. let q = ap length (sym (x .left l)) in let r = length-drop j (parts 32 text) in omega arith in
-        record {
-          reached = omega arith;
-          written =
-              ap₂ (λ (ns : List ℕ) (i : ℕ). set ns i w) (x .written) (sym k)
-              ∙ zeroed-set orderLimit (map f (take j (parts 32 text))) w (omega arith)
-              ∙ ap (zeroed orderLimit)
-              (ap (λ (v : ℕ). map f (take j (parts 32 text)) ++ (v ∷ [])) (sym word)
-              ∙ sym (map-snoc f (take j (parts 32 text)) (getD (parts 32 text) j []))
-              ∙ ap (map f) (sym (take-suc (parts 32 text) j [] (omega arith)) ∙ ap (λ (i : ℕ). take i (parts 32 text)) (sym (add-one j))));
-          none = missing-here ∙ rw (add-one j, ne-eqb (f (getD (parts 32 text) j [])) 0 (λ z. n (sym word ∙ z))) refl;
-          place = λ p. let q = other-parts 32 (drop at text) (more p) .0 in let r = found-from b e in let d = length-drop at text in omega arith;
-          left = λ p.
-              let q = other-parts 32 (drop at text) (more p) .1 in
-              let h : at + (b + 1) ≡ at + b + 1 = omega arith in
-              ap (λ (i : ℕ). drop i (parts 32 text)) (add-one j)
-              ∙ ap (drop 1) (sym left-cons ∙ x .left l)
-              ∙ q
-              ∙ ap (parts 32) (ap (λ (i : ℕ). drop (i + 1) (drop at text)) (sym (found-from b e)) ∙ drop-drop (b + 1) at text ∙ ap (λ (i : ℕ). drop i text) h);
-        }
+      pub numbered-text-in-form : isText (take (end - at) (drop at text)) ≡ true
+      numbered-text-in-form = rw numbered-text (texts-each m (parts 32 text) are j l)
+
+      module _ (w : ℕ) (g : w ≡ f (take (end - at) (drop at text))) where
+        word : f (getD (parts 32 text) j []) ≡ w
+        word = ap f (sym numbered-text) ∙ sym g
+
+        pub numbered-missing : w ≡ 0 → someMissing (map f (parts 32 text)) ≡ true
+        unfolding someMissing
+        numbered-missing z = missing-here ∙ rw (eq-eqb (f (getD (parts 32 text) j [])) 0 (word ∙ z)) refl
+
+        pub numbered-next : m ≤ orderLimit → (w ≡ 0 → ⊥) → Numbered f text m (set numbers j w) (end + 1) (j + 1)
+        unfolding someMissing
+        numbered-next few n =
+            let long = count in
+            let k : length (map f (take j (parts 32 text))) ≡ j = length-map (take j (parts 32 text)) f ∙ length-take-le j (parts 32 text) (omega arith) in
+            let more : j + 1 < m → 1 < length (parts 32 (drop at text)) = λ p. let q = ap length (sym (x .left l)) in let r = length-drop j (parts 32 text) in omega arith in
+            record {
+              reached = omega arith;
+              written =
+                  ap₂ (λ (ns : List ℕ) (i : ℕ). set ns i w) (x .written) (sym k)
+                  ∙ zeroed-set orderLimit (map f (take j (parts 32 text))) w (omega arith)
+                  ∙ ap (zeroed orderLimit)
+                  (ap (λ (v : ℕ). map f (take j (parts 32 text)) ++ (v ∷ [])) (sym word)
+                  ∙ sym (map-snoc f (take j (parts 32 text)) (getD (parts 32 text) j []))
+                  ∙ ap (map f) (sym (take-suc (parts 32 text) j [] (omega arith)) ∙ ap (λ (i : ℕ). take i (parts 32 text)) (sym (add-one j))));
+              none = missing-here ∙ rw (add-one j, ne-eqb (f (getD (parts 32 text) j [])) 0 (λ z. n (sym word ∙ z))) refl;
+              place = λ p. let q = other-parts 32 (drop at text) (more p) .0 in let d = length-drop at text in omega arith;
+              left = λ p.
+                  let h : at + (before 32 (drop at text) + 1) ≡ end + 1 = omega arith in
+                  ap (λ (i : ℕ). drop i (parts 32 text)) (add-one j)
+                  ∙ ap (drop 1) (sym left-cons ∙ x .left l)
+                  ∙ other-parts 32 (drop at text) (more p) .1
+                  ∙ ap (parts 32) (drop-drop (before 32 (drop at text) + 1) at text ∙ ap (λ (i : ℕ). drop i text) h);
+            }
 
   pub numbered-all : (numbers : List ℕ) (at j : ℕ) → Numbered f text m numbers at j → m ≤ j → (false ≡ someMissing (map f (parts 32 text))) × (numbers ≡ zeroed orderLimit (map f (parts 32 text)))
   unfolding someMissing

@@ -3,7 +3,7 @@ use mathlib.Core.Path.{_≡_, refl, sym, ap, ap₂, _∙_}
 use mathlib.Core.List.{List, [], _∷_, _++_, append-assoc}
 use Prim.Native.Nat.{ℕ, zero, suc, _+_, _*_, _-_, _<_, _≤_}
 use native.Mathlib.Omega.{arith}
-use lib.ListN.{length, getD, take, drop, set, replicate}
+use lib.ListN.{length, getD, take, drop, set}
 use lib.Seq.{take-append-add, drop-append-add, drop-append-le, getD-append-add}
 use Rattle.backoff.specs.Limits.{textLimit}
 use Rattle.word_index.specs.Texts.{textOf, recorded}
@@ -16,12 +16,7 @@ zeroed-length zero xs = refl
 zeroed-length (suc n) [] = ap suc (zeroed-length n [])
 zeroed-length (suc n) (x ∷ xs) = ap suc (zeroed-length n xs)
 
-pub zeroed-none : (n : ℕ) → zeroed n [] ≡ replicate n 0
-unfolding zeroed
-zeroed-none zero = refl
-zeroed-none (suc n) = ap (λ (l : List ℕ). 0 ∷ l) (zeroed-none n)
-
-pub zeroed-at : (n : ℕ) (xs : List ℕ) (i : ℕ) → i < n → getD (zeroed n xs) i 0 ≡ getD xs i 0
+zeroed-at : (n : ℕ) (xs : List ℕ) (i : ℕ) → i < n → getD (zeroed n xs) i 0 ≡ getD xs i 0
 unfolding zeroed
 zeroed-at zero xs i l = absurd (omega arith)
 zeroed-at (suc n) [] zero l = refl
@@ -29,7 +24,7 @@ zeroed-at (suc n) [] (suc i) l = zeroed-at n [] i (omega arith)
 zeroed-at (suc n) (x ∷ xs) zero l = refl
 zeroed-at (suc n) (x ∷ xs) (suc i) l = zeroed-at n xs i (omega arith)
 
-pub zeroed-append : (xs ys : List ℕ) (n : ℕ) → zeroed (length xs + n) (xs ++ ys) ≡ xs ++ zeroed n ys
+zeroed-append : (xs ys : List ℕ) (n : ℕ) → zeroed (length xs + n) (xs ++ ys) ≡ xs ++ zeroed n ys
 unfolding zeroed
 zeroed-append [] ys n = let e : 0 + n ≡ n = omega arith in rw e refl
 zeroed-append (x ∷ xs) ys n =
@@ -37,13 +32,13 @@ zeroed-append (x ∷ xs) ys n =
     rw e (ap (λ (l : List ℕ). x ∷ l) (zeroed-append xs ys n))
 
 -- bytes written over 0
-pub zeroed-over : (xs : List ℕ) (n : ℕ) → length xs ≤ n → xs ++ drop (length xs) (zeroed n []) ≡ zeroed n xs
+zeroed-over : (xs : List ℕ) (n : ℕ) → length xs ≤ n → xs ++ drop (length xs) (zeroed n []) ≡ zeroed n xs
 unfolding zeroed
 zeroed-over [] n l = refl
 zeroed-over (x ∷ xs) zero l = absurd (omega arith)
 zeroed-over (x ∷ xs) (suc n) l = ap (λ (r : List ℕ). x ∷ r) (zeroed-over xs n (omega arith))
 
-pub zeroed-split : (m n : ℕ) (xs : List ℕ) → length xs ≤ m → zeroed (m + n) xs ≡ zeroed m xs ++ zeroed n []
+zeroed-split : (m n : ℕ) (xs : List ℕ) → length xs ≤ m → zeroed (m + n) xs ≡ zeroed m xs ++ zeroed n []
 unfolding zeroed
 zeroed-split zero n [] l = let e : 0 + n ≡ n = omega arith in rw e refl
 zeroed-split zero n (x ∷ xs) l = absurd (omega arith)
@@ -81,7 +76,7 @@ module _ (front s : List ℕ) (k : ℕ) (long : length front ≡ 64) where
   next-at : 64 * suc k ≡ length front + 64 * k
   next-at = omega arith
 
-  pub recorded-next : (text : List ℕ) → recorded (front ++ s) (suc k) text ≡ front ++ recorded s k text
+  recorded-next : (text : List ℕ) → recorded (front ++ s) (suc k) text ≡ front ++ recorded s k text
   unfolding recorded
   recorded-next text =
       let e : 64 * suc k + length (length text ∷ text) ≡ length front + (64 * k + length (length text ∷ text)) = omega arith in
@@ -90,7 +85,7 @@ module _ (front s : List ℕ) (k : ℕ) (long : length front ≡ 64) where
       (ap (λ (i : ℕ). drop i (front ++ s)) e ∙ drop-append-add front s (64 * k + length (length text ∷ text)))
       ∙ simp append-assoc
 
-  pub textOf-next : textOf (front ++ s) (suc k) ≡ textOf s k
+  textOf-next : textOf (front ++ s) (suc k) ≡ textOf s k
   unfolding textOf
   textOf-next =
       let e : 64 * suc k + 1 ≡ length front + (64 * k + 1) = omega arith in

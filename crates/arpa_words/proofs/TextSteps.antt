@@ -1,6 +1,6 @@
 -- Laws of one line's text in the one-word section: it is met again, is a reserved text, or becomes the next word. Assumes nothing.
 use mathlib.Core.Path.{_≡_, refl, sym, ap, _∙_, subst}
-use mathlib.Core.Logic.{_⊎_, inl, inr, ⊎-elim}
+use mathlib.Core.Logic.{_⊎_, inr, ⊎-elim}
 use mathlib.Core.Bool.{Bool, true, false, cond}
 use mathlib.Core.List.{List, [], _∷_, _++_}
 use Prim.Native.Nat.{ℕ, suc, _+_, _*_, _-_, _<_, _≤_, max}
@@ -10,7 +10,7 @@ use lib.IntN.{ℤ, pos}
 use lib.ListN.{length, getD, set, length-set, length-append, List·getD-append}
 use lib.Seq.{set-getD, getD-set-same, getD-set-other, getD-at}
 use borrow.Author.Tests.{le-leb, lt-leb}
-use Rattle.integer.proofs.Ranges.{lt-or-ge}
+use Rattle.integer.proofs.Ranges.{lt-or-ge, equal-or-not}
 use Rattle.rows.specs.Table.{field}
 use Rattle.word_index.specs.Texts.{recorded}
 use Rattle.word_index.specs.Index.{linkLimit, bucketOf, Indexed, linked}
@@ -22,12 +22,6 @@ use Rattle.arpa_words.specs.Held.{TextsSound, TextAdded}
 use Rattle.arpa_words.proofs.Searches.{Absent, Placed}
 use Rattle.arpa_words.proofs.Words.{text-short, reserved-small, reserved-same}
 use Rattle.arpa_words.proofs.Stores.{record-set, record-snoc}
-
-pub same-or-not : (i k : ℕ) → (i ≡ k) ⊎ (i ≡ k → ⊥)
-same-or-not i k =
-    ⊎-elim (λ (l : i < k). inr (λ e. absurd (omega arith)))
-    (λ (l : k ≤ i). ⊎-elim (λ (m : k < i). inr (λ e. absurd (omega arith))) (λ (m : i ≤ k). inl (omega arith)) (lt-or-ge k i))
-    (lt-or-ge i k)
 
 -- ---- the texts with one more
 module _ (texts : List (List ℕ)) (text : List ℕ) where
@@ -62,7 +56,7 @@ module _ (texts : List (List ℕ)) (text : List ℕ) where
               inr (ap reservedNumber f ∙ r ∙ ap suc (sym w)))
               (λ (w : k ≡ j → ⊥).
               subst (λ (u : List ℕ). (u ≡ []) ⊎ (reservedNumber u ≡ suc k)) (sym (getD-set-other texts j k text [] w)) (sound .reserved k q))
-              (same-or-not k j);
+              (equal-or-not k j);
           in-form = λ k q m. ap isText (other k q) ∙ sound .in-form k q (omega arith);
           other = λ k q m. ap reservedNumber (other k q) ∙ sound .other k q (omega arith);
           distinct = λ i k q m n f. sound .distinct i k q m (omega arith) (sym (other i q) ∙ f ∙ other k (omega arith));

@@ -65,7 +65,7 @@ module _ (t : List ℤ) (s : List ℕ) (b words : ℕ) (x : Searchable t s b wor
       met-other (textsFrom s 1 (words - 1)) (x .texts) text in-form e
       ∙ ap (λ (us : List (List ℕ)). givenBy (searchFrom text 4 us) 0) (texts-behind s (words - 1) (omega arith) ∙ ap (textsFrom s 4) f)
 
-  pub none-by-search : reservedNumber text ≡ 0 → numberMet (textsFrom s 1 (words - 1)) text ≡ 0 → recordWith s words text ≡ Nothing
+  none-by-search : reservedNumber text ≡ 0 → numberMet (textsFrom s 1 (words - 1)) text ≡ 0 → recordWith s words text ≡ Nothing
   unfolding recordWith
   none-by-search e z =
       ⊎-elim (λ w. w .0)
@@ -88,7 +88,7 @@ module _ (s : List ℕ) (k : ℕ) (text : List ℕ) (room : 64 * k + 64 ≤ leng
       ∙ drop-drop (63 - length text) (64 * k + length (length text ∷ text)) s
       ∙ ap (λ (i : ℕ). drop i s) g
 
-  pub byte-behind : (i : ℕ) → 64 * k + 64 ≤ i → getD (recorded s k text) i 0 ≡ getD s i 0
+  byte-behind : (i : ℕ) → 64 * k + 64 ≤ i → getD (recorded s k text) i 0 ≡ getD s i 0
   byte-behind i l =
       let e : i ≡ 64 * k + 64 + (i - (64 * k + 64)) = omega arith in
       rw e
@@ -96,7 +96,7 @@ module _ (s : List ℕ) (k : ℕ) (text : List ℕ) (room : 64 * k + 64 ≤ leng
       ∙ ap (λ (r : List ℕ). getD r (i - (64 * k + 64)) 0) recorded-behind
       ∙ getD-drop (64 * k + 64) s (i - (64 * k + 64)) 0)
 
-  pub text-behind : (j : ℕ) → k < j → textOf (recorded s k text) j ≡ textOf s j
+  text-behind : (j : ℕ) → k < j → textOf (recorded s k text) j ≡ textOf s j
   unfolding textOf
   text-behind j l =
       let e : 64 * j + 1 ≡ 64 * k + 64 + (64 * j + 1 - (64 * k + 64)) = omega arith in
@@ -107,7 +107,7 @@ module _ (s : List ℕ) (k : ℕ) (text : List ℕ) (room : 64 * k + 64 ≤ leng
       ∙ drop-drop (64 * j + 1 - (64 * k + 64)) (64 * k + 64) s
       ∙ ap (λ (i : ℕ). drop i s) (sym e))
 
-  pub indexed-reserved : (t : List ℤ) (b words : ℕ) → k < 4 → Indexed t s b words → Indexed t (recorded s k text) b words
+  indexed-reserved : (t : List ℤ) (b words : ℕ) → k < 4 → Indexed t s b words → Indexed t (recorded s k text) b words
   indexed-reserved t b words l x =
       let e = record-length s k text room short in
       record {
@@ -155,7 +155,7 @@ module _ (t : List ℤ) (s : List ℕ) (b words k : ℕ) (text : List ℕ) (x : 
         go zero m e = refl
         go (suc r) m e = absurd (omega arith)
 
-    pub adding-next : k ≡ words
+    adding-next : k ≡ words
     adding-next = x .number ∙ ap (λ (r : ℕ). orElse r words) not-reserved
 
     pub adding-indexed : words ≤ linkLimit → Indexed t s b words × Room t s words × (length text ≤ textLimit) × (recordWith s words text ≡ Nothing)

@@ -22,15 +22,15 @@ pub record TextsSound (texts : List (List ℕ)) : Type 0 where
   pub other : (k : ℕ) → 3 ≤ k → k < length texts → reservedNumber (getD texts k []) ≡ 0
   pub distinct : (j k : ℕ) → 3 ≤ j → j < k → k < length texts → getD texts j [] ≡ getD texts k [] → ⊥
 
--- the length bytes of the words from 4 on
-pub record Met (s : List ℕ) (words : ℕ) : Type 0 where
-  pub short : (k : ℕ) → 4 ≤ k → k < words → getD s (64 * k) 0 ≤ textLimit
+-- the length bytes of the words from 4 on are those of texts
+abbrev pub ShortTexts : List ℕ → ℕ → Type 0
+ShortTexts s words = (k : ℕ) → 4 ≤ k → k < words → getD s (64 * k) 0 ≤ textLimit
 
 -- the words below `words` can be searched by their texts: from 4 on by the index, as far as its links reach
 pub record Searchable (t : List ℤ) (s : List ℕ) (buckets words : ℕ) : Type 0 where
   pub start : 4 ≤ words
   pub room : 4 < words → 64 * words ≤ length s
-  pub met : Met s words
+  pub short : ShortTexts s words
   pub texts : TextsSound (textsFrom s 1 (words - 1))
   pub records : (k : ℕ) → 1 ≤ k → k < words → 0 < getD s (64 * k) 0 → 64 * k + 64 ≤ length s
   pub index : 4 < words → words ≤ linkLimit → Indexed t s buckets words

@@ -11,7 +11,7 @@ ghost use Rattle.word_index.specs.Texts.{textsFrom, recordWith};
 ghost use Rattle.arpa_text.specs.Parts.{parts};
 ghost use Rattle.arpa_text.specs.Lines.{isText, areTexts};
 ghost use Rattle.arpa_words.specs.Words.{reservedNumber, numberMet, zeroed, someMissing};
-ghost use Rattle.arpa_words.specs.Held.{Met, Searchable, Adding, TextAdded};
+ghost use Rattle.arpa_words.specs.Held.{ShortTexts, Searchable, Adding, TextAdded};
 use row_search::Found;
 
 // The largest word number that the index in the table holds.
@@ -42,7 +42,7 @@ fn reserved_number(text: &[u8]) -> usize
 
 // The word from 4 on whose record holds the text, without the index.
 fn scan_words(text: &[u8], store: &[u8], words: usize) -> Found
-    requires { ⌜ (64 * words ≤ length (now store)) × Met (now store) words ⌝ }
+    requires { ⌜ (64 * words ≤ length (now store)) × ShortTexts (now store) words ⌝ }
     ensures { λ r. ⌜ r ≡ recordWith (now (store .entry)) words (now (text .entry)) ⌝ }
 {
     let mut k = 4;
@@ -71,7 +71,7 @@ fn find_text(text: &[u8], table: &[i32], store: &[u8], buckets: usize, words: us
 
 // The number of a reserved word whose record is there, 0 where it is not.
 fn reserved_met(k: usize, store: &[u8]) -> usize
-    requires { ⌜ (1 ≤ k) × (k ≤ 3) ⌝ }
+    requires { ⌜ k ≤ 3 ⌝ }
     ensures { λ r. ⌜ r ≡ cond (eqb (getD (now (store .entry)) (64 * k) 0) 0) 0 k ⌝ }
 {
     let at = 64 * k;
@@ -98,7 +98,6 @@ pub fn number_met(text: &[u8], table: &[i32], store: &[u8], buckets: usize, word
 
 // The number that a text of the one-word section gets, where `met` is the number that it has, 0 for none.
 pub fn number_given(text: &[u8], met: usize, words: usize) -> usize
-    requires { ⌜ 4 ≤ words ⌝ }
     ensures { λ r. ⌜ r ≡ orElse met (orElse (reservedNumber (now (text .entry))) words) ⌝ }
 {
     if 0 < met {
@@ -148,7 +147,7 @@ pub fn numbers_met(
     let mut at = 0;
     let mut j = 0;
     while j < m {
-        let end = at + arpa_text::find_byte(&text[at..], 32);
+        let end = arpa_text::part_end(text, at, b' ');
         let word = number_met(&text[at..end], table, store, buckets, words);
         if word == 0 {
             return Numbers {

@@ -29,7 +29,7 @@ use Rattle.array_nodes.proofs.EachTwo.{first-of-two, rest-of-two, each-
 -- ---- the order
 
 -- the order of the list, on reached nodes
-abbrev pub Before : Reached → Reached → Type 0
+abbrev Before : Reached → Reached → Type 0
 Before r c = precedes (r .words) (c .words) ≡ true
 
 shorter-first : (us vs : List ℕ) → length us < length vs → precedes us vs ≡ true
@@ -211,7 +211,7 @@ module _ (base check : List ℤ) where
       (lt-or-ge (length (c .words)) (suc n))
 
   -- once, as they ascend strictly in the order of the list
-  pub reached-ascend : (n : ℕ) → EachTwo Before (reached base check n)
+  reached-ascend : (n : ℕ) → EachTwo Before (reached base check n)
   unfolding reached
   reached-ascend zero = none
   reached-ascend (suc n) =
@@ -229,10 +229,6 @@ module _ (base check : List ℤ) where
       go Nothing q ih = absurd (let z : _≡_ {A = ℕ} 0 1 = cc in omega arith)
       go (At t) q ih = and-both (isWord w) (areWords us) (child-told base check t w s (sym (walk-child us w t q) ∙ e) .word) (ih t q)
 
-  -- no child lies in slot 0
-  child-slot : (s w t : ℕ) → childAt base check s w ≡ At t → 0 < t
-  child-slot s w t e = child-told base check s w t e .positive
-
   pub walk-slot : (w : ℕ) (us : List ℕ) (s : ℕ) → walkTo base check (w ∷ us) ≡ At s → (t : ℕ) × (walkTo base check us ≡ At t) × (childAt base check t w ≡ At s)
   unfolding walkTo
   walk-slot w us s e = go (walkTo base check us) refl
@@ -241,12 +237,20 @@ module _ (base check : List ℤ) where
       go Nothing q = absurd (let z : _≡_ {A = ℕ} 0 1 = cc in omega arith)
       go (At t) q = (t, q, sym (walk-child us w t q) ∙ e)
 
+  -- the slot is not the root's
+  pub walk-inside : (us : List ℕ) (s : ℕ) → 1 ≤ length us → walkTo base check us ≡ At s → (1 ≤ s) × (s < length check)
+  walk-inside [] s l e = absurd (omega arith)
+  walk-inside (u ∷ us) s l e =
+      let d = walk-slot u us s e in
+      let c = child-told base check (d .0) u s (d .2) in
+      (c .positive, c .inside)
+
   -- each slot is reached by the words of one node
-  pub walk-unique : (us vs : List ℕ) (s : ℕ) → walkTo base check us ≡ At s → walkTo base check vs ≡ At s → us ≡ vs
+  walk-unique : (us vs : List ℕ) (s : ℕ) → walkTo base check us ≡ At s → walkTo base check vs ≡ At s → us ≡ vs
   unfolding walkTo
   walk-unique [] [] s e f = refl
-  walk-unique [] (v ∷ vs) s e f = let d = walk-slot v vs s f in let z : 0 ≡ s = cc in absurd (omega (arith, child-slot (d .0) v s (d .2)))
-  walk-unique (u ∷ us) [] s e f = let d = walk-slot u us s e in let z : 0 ≡ s = cc in absurd (omega (arith, child-slot (d .0) u s (d .2)))
+  walk-unique [] (v ∷ vs) s e f = let z : 0 ≡ s = cc in absurd (omega (arith, walk-inside (v ∷ vs) s (omega arith) f))
+  walk-unique (u ∷ us) [] s e f = let z : 0 ≡ s = cc in absurd (omega (arith, walk-inside (u ∷ us) s (omega arith) e))
   walk-unique (u ∷ us) (v ∷ vs) s e f =
       let a = walk-slot u us s e in
       let b = walk-slot v vs s f in
@@ -298,8 +302,4 @@ module _ (base check : List ℤ) (n : ℕ) where
           absurd (omega (arith, r .some, ap length (walk-unique base check [] (c .words) (c .slot) (unfold walkTo in ap At e) (r .leads))))
 
       inside : (c : Reached) → List·Memᴰ c (reached base check n) → c .slot < length check
-      inside c m = let r = reached-told base check n c m in go (c .words) (r .some) (r .leads)
-        where
-          go : (us : List ℕ) → 1 ≤ length us → walkTo base check us ≡ At (c .slot) → c .slot < length check
-          go [] l e = absurd (omega arith)
-          go (u ∷ us) l e = let d = walk-slot base check u us (c .slot) e in child-told base check (d .0) u (c .slot) (d .2) .inside
+      inside c m = let r = reached-told base check n c m in walk-inside base check (c .words) (c .slot) (r .some) (r .leads) .1

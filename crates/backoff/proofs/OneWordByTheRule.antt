@@ -2,14 +2,14 @@
 -- as its row has words, and once both histories have backed off to the words that they share, nothing shows. Assumes nothing.
 use mathlib.Core.Path.{_≡_, refl, sym, ap, ap₂, _∙_}
 use mathlib.Core.Logic.{_⊎_, inl, inr}
-use mathlib.Core.Bool.{Bool, true, false, cond}
+use mathlib.Core.Bool.{Bool, true, false}
 use mathlib.Core.List.{List, [], _∷_, _++_, map}
 use Prim.Native.Nat.{ℕ, zero, suc, _+_, _*_, _-_, _≤_, _<_, min, max}
 use native.Mathlib.Decide.{decLe}
 use native.Mathlib.Omega.{arith}
 use lib.ListN.{length, take, drop, getD, length-map}
-use lib.Seq.{take-suc, take-all}
-use lib.IntN.{ℤ, pos, _+ℤ_, _-ℤ_}
+use lib.Seq.{take-suc}
+use lib.IntN.{ℤ, _+ℤ_, _-ℤ_}
 use lib.Dec.{eqb}
 use Rattle.integer.specs.Integer.{sum}
 use Rattle.integer.proofs.Arithmetic.{up, down, abs, add, sub}
@@ -19,7 +19,7 @@ use Rattle.backoff.specs.Rule.{Score, addPoints, replaced, scoreAfter, h
 use Rattle.backoff.specs.State.{largest}
 use Rattle.backoff.specs.OneWord.{DifferAt, distance, closerMove}
 use Rattle.backoff.proofs.Climb.{largest-passes}
-use Rattle.backoff.proofs.Model.{dead-backoff, unlisted-dead, dead-not-continued}
+use Rattle.backoff.proofs.Model.{dead-backoff, unlisted-dead, dead-end}
 use Rattle.backoff.proofs.Rule.{addPoints-zero, take-map, scoreAfter-here, scoreAfter-down, matchedHistory, matchedHistory-le, matchedHistory-longest, matchedHistory-here, matchedHistory-down, rule-local}
 use Rattle.backoff.proofs.Locality.{take-fewer, grow-alike}
 use Rattle.backoff.proofs.Sizes.{backoff-size}
@@ -75,12 +75,6 @@ module _ (M : Model) (A : AcceptedModel M) where
       go (yes q) ih = ih q (A .without-first v (take k g) (getD g k 0) (rw (take-suc g k 0 (omega arith)) at e))
       go (no q) ih = let z : i ≡ suc k = omega arith in rw z e
 
-  -- no row continues one that is not live
-  dead-end : (g : List ℕ) (v l : ℕ) → 1 ≤ l → l ≤ length g → live M (take l g) ≡ false → listed M (v ∷ take l g) ≡ false
-  dead-end [] v l o h d = absurd (omega arith)
-  dead-end (x ∷ g) v zero o h d = absurd (omega arith)
-  dead-end (x ∷ g) v (suc l) o h d = dead-not-continued M A v x (take l g) d
-
   probabilities-close : (l r : List ℕ) → distance (probability M l) (probability M r) ≤ largestBackoff
   probabilities-close l r =
       omega (arith, sub (probability M l) (probability M r), abs (probability M l -ℤ probability M r), probability-window _ (A .in-probability l), probability-window _ (A .in-probability r))
@@ -113,7 +107,7 @@ module _ (M : Model) (A : AcceptedModel M) where
       go (no q) ih = ap (λ (m : ℕ). scoreAfter M m g v .points) (let z : suc k ≡ c = omega arith in z)
       go (yes q) ih =
           let d = f (suc k) (omega arith) r h in
-          ap (λ (s : Score). s .points) (scoreAfter-down M k g v (dead-end g v (suc k) (omega arith) h d) ∙ ap (λ (z : ℤ). addPoints z (scoreAfter M k g v)) (dead-backoff M (take (suc k) g) d) ∙ addPoints-zero (scoreAfter M k g v))
+          ap (λ (s : Score). s .points) (scoreAfter-down M k g v (dead-end M A g v (suc k) (omega arith) h d) ∙ ap (λ (z : ℤ). addPoints z (scoreAfter M k g v)) (dead-backoff M (take (suc k) g) d) ∙ addPoints-zero (scoreAfter M k g v))
           ∙ ih q
 
   -- the row of v that is used, or the one of the newest i words where that is longer
@@ -127,7 +121,7 @@ module _ (M : Model) (A : AcceptedModel M) where
     where
       go : Dec (l ≤ c) → listed M (v ∷ take l g) ≡ false
       go (yes q) = matchedHistory-longest M c g v l (omega arith) q
-      go (no q) = dead-end g v l (omega arith) (omega arith) (f l (omega arith) (omega arith) (omega arith))
+      go (no q) = dead-end M A g v l (omega arith) (omega arith) (f l (omega arith) (omega arith) (omega arith))
 
   matched-row : (c : ℕ) (g : List ℕ) (v : ℕ) → 1 ≤ matchedHistory M c g v → listed M (v ∷ take (matchedHistory M c g v) g) ≡ true
   unfolding matchedHistory
@@ -169,7 +163,7 @@ module _ (M : Model) (A : AcceptedModel M) where
   pub record Reaches (i x : ℕ) (h : List ℕ) : Type 0 where
     pub within : i + x ≤ reach M
     pub inside : i + x ≤ length h
-    pub live-to : LiveTo M (i + x) (map (replaced M) h)
+    live-to : LiveTo M (i + x) (map (replaced M) h)
 
   -- how many of these x a word leaves
   abbrev leaves : ℕ → ℕ → List ℕ → ℕ → ℕ

@@ -22,7 +22,7 @@ distance a b = natAbs (a -ℤ b)
 abbrev pub wordMove : ℕ → ℕ
 wordMove n = (2 * n - 1) * largestBackoff
 
--- how far a total can be moved: "n × (2 × n − 1) × 99,000,000", whose last factor is the largest back-off in the points of today
+-- how far a total can be moved: "n × (2 × n − 1) × 99,000,000", whose last factor is the largest back-off
 abbrev pub totalMove : ℕ → ℕ
 totalMove n = n * (2 * n - 1) * largestBackoff
 

@@ -14,16 +14,16 @@ use mir.Facts.{toZ-ofZ}
 use borrow.Author.Tests.{eq-eqb, ne-eqb, eqb-true, eqb-false}
 use Rattle.integer.proofs.Arithmetic.{zarith, abs, add, and-no}
 use Rattle.backoff.specs.Limits.{runLimit}
-use Rattle.backoff.specs.NineNumbers.{nineZeros}
 use Rattle.backoff.specs.Run.{Run, Answer}
 use Rattle.backoff.specs.Runs.{flat}
-use Rattle.backoff.specs.Store.{Store, Started, startOutcome, runOutcome}
+use Rattle.backoff.specs.Store.{Store, Started, runOutcome}
 use Rattle.backoff.proofs.Slices.{Keeps, runOutcome-keeps}
 use Rattle.double_array.specs.DoubleArray.{opened}
+use Rattle.score.specs.Answers.{startedOver}
 use Rattle.score.proofs.Sizes.{runTotal, run-total-small}
 use Rattle.batch.specs.declared.Sentence.{Sentence}
 use Rattle.batch.specs.declared.Sentence.the-variants.{Whole, Refused}
-use Rattle.batch.specs.Sheet.{sentence, sentences, wordPoints, wordBytes, closingBytes, stretch, lastEnd, badEnd, closingRun, begun, wordsRun, closed, isScored, sentenceTotal}
+use Rattle.batch.specs.Sheet.{sentence, sentences, wordPoints, wordBytes, closingBytes, stretch, lastEnd, badEnd, closingRun, wordsRun, closed, isScored, sentenceTotal}
 use Rattle.batch.specs.Inner.{closingOf, sentenceOf, SentenceIs, counted, OneRefused}
 use Rattle.batch.proofs.Ends.{lastEnd-next, good-end, good-last}
 use Rattle.batch.proofs.Stretches.{length-stretch, length-all}
@@ -73,26 +73,26 @@ module _ (o : Option Store) (r : Run) where
   closed-long = runOutcome-keeps (wordsRun o r .end) closingRun o .lengths
 
   -- it has one length byte
-  pub closed-one : closed o r .lengths ≡ getD (closed o r .lengths) 0 0 ∷ []
+  closed-one : closed o r .lengths ≡ getD (closed o r .lengths) 0 0 ∷ []
   closed-one = list-of-one (closed o r .lengths) closed-long
 
   -- ---- the three calls
 
-  pub start-refuses : (begun o .number ≡ 0 → ⊥) → isScored o r ≡ false
+  pub start-refuses : (startedOver o .number ≡ 0 → ⊥) → isScored o r ≡ false
   unfolding isScored
-  start-refuses n = rw (ne-eqb (begun o .number) 0 n)
+  start-refuses n = rw (ne-eqb (startedOver o .number) 0 n)
 
   pub words-refuse : (wordsRun o r .number ≡ 0 → ⊥) → isScored o r ≡ false
   unfolding isScored
-  words-refuse n = and-no (eqb (begun o .number) 0) _ (rw (ne-eqb (wordsRun o r .number) 0 n))
+  words-refuse n = and-no (eqb (startedOver o .number) 0) _ (rw (ne-eqb (wordsRun o r .number) 0 n))
 
   pub closing-refuses : (closed o r .number ≡ 0 → ⊥) → isScored o r ≡ false
   unfolding isScored
-  closing-refuses n = and-no (eqb (begun o .number) 0) _ (and-no (eqb (wordsRun o r .number) 0) _ (ne-eqb (closed o r .number) 0 n))
+  closing-refuses n = and-no (eqb (startedOver o .number) 0) _ (and-no (eqb (wordsRun o r .number) 0) _ (ne-eqb (closed o r .number) 0 n))
 
-  pub none-refuses : begun o .number ≡ 0 → wordsRun o r .number ≡ 0 → closed o r .number ≡ 0 → isScored o r ≡ true
+  pub none-refuses : startedOver o .number ≡ 0 → wordsRun o r .number ≡ 0 → closed o r .number ≡ 0 → isScored o r ≡ true
   unfolding isScored
-  none-refuses p q s = rw (eq-eqb (begun o .number) 0 p, eq-eqb (wordsRun o r .number) 0 q, eq-eqb (closed o r .number) 0 s)
+  none-refuses p q s = rw (eq-eqb (startedOver o .number) 0 p, eq-eqb (wordsRun o r .number) 0 q, eq-eqb (closed o r .number) 0 s)
 
   refused-sentence : isScored o r ≡ false → (points : List ℤ) (lengths : List ℕ) → SentenceIs o r Refused points lengths
   refused-sentence e points lengths = record { answer-is = rw e; points-are = λ t. absurd (true≢false (sym t ∙ e)); lengths-are = λ t. absurd (true≢false (sym t ∙ e)) }
@@ -100,20 +100,20 @@ module _ (o : Option Store) (r : Run) where
   whole-sentence : isScored o r ≡ true → (total : ℤ) → total ≡ sentenceTotal o r → (closing : ℕ) → closing ≡ getD (closed o r .lengths) 0 0 → (points : List ℤ) → points ≡ wordsRun o r .points → (lengths : List ℕ) → lengths ≡ wordsRun o r .lengths → SentenceIs o r (Whole total closing) points lengths
   whole-sentence s total t closing c points p lengths l = record { answer-is = rw (s, t, c); points-are = λ e. p; lengths-are = λ e. l }
 
-  pub sentence-whole : (y : ℤ) (c : ℕ) → Whole y c ≡ sentenceOf o r → (isScored o r ≡ true) × ((y ≡ sentenceTotal o r) × (c ≡ getD (closed o r .lengths) 0 0))
+  sentence-whole : (y : ℤ) (c : ℕ) → Whole y c ≡ sentenceOf o r → (isScored o r ≡ true) × ((y ≡ sentenceTotal o r) × (c ≡ getD (closed o r .lengths) 0 0))
   sentence-whole = told-whole (isScored o r) (sentenceTotal o r) (getD (closed o r .lengths) 0 0)
 
-  pub sentence-refused : Refused ≡ sentenceOf o r → isScored o r ≡ false
+  sentence-refused : Refused ≡ sentenceOf o r → isScored o r ≡ false
   sentence-refused = told-refused (isScored o r) (sentenceTotal o r) (getD (closed o r .lengths) 0 0)
 
 -- a run that was answered from start's state, and a 3 from the state that it left
-module _ (o : Option Store) (s : Started) (s-is : s ≡ startOutcome o nineZeros) where
-  begun-is : s .number ≡ begun o .number
-  begun-is = ap (λ (x : Started). x .number) s-is
+module _ (o : Option Store) (s : Started) (s-is : s ≡ startedOver o) where
+  number-is : s .number ≡ startedOver o .number
+  number-is = ap (λ (x : Started). x .number) s-is
 
   -- start is refused
   pub no-start : (s .number ≡ 0 → ⊥) → (r : Run) (points : List ℤ) (lengths : List ℕ) → SentenceIs o r Refused points lengths
-  no-start n r = refused-sentence o r (start-refuses o r (λ e. n (begun-is ∙ e)))
+  no-start n r = refused-sentence o r (start-refuses o r (λ e. n (number-is ∙ e)))
 
   module _ (r : Run) (a : Answer (List ℤ)) (a-is : a ≡ runOutcome o (s .state) r) where
     wordsRun-is : a ≡ wordsRun o r
@@ -137,7 +137,7 @@ module _ (o : Option Store) (s : Started) (s-is : s ≡ startOutcome o nineZeros
     all-three p q y c e total t =
         let w = closing-whole (closed o r) y c (e ∙ ap closingOf closed-is) in
         whole-sentence o r
-        (none-refuses o r (sym begun-is ∙ p) (sym (ap (λ (x : Answer (List ℤ)). x .number) wordsRun-is) ∙ q) (w .0))
+        (none-refuses o r (sym number-is ∙ p) (sym (ap (λ (x : Answer (List ℤ)). x .number) wordsRun-is) ∙ q) (w .0))
         total (t ∙ ap₂ (λ (u v : ℤ). u +ℤ v) (ap (λ (x : Answer (List ℤ)). x .total) wordsRun-is) (w .1 .0) ∙ (unfold sentenceTotal in refl))
         c (w .1 .1)
         (a .points) (ap (λ (x : Answer (List ℤ)). x .points) wordsRun-is)
@@ -153,7 +153,7 @@ closing-long o (r ∷ rs) = rw (closed-one o r) (ap suc (closing-long o rs))
 module _ (o : Option Store) where
   pub words-keep : (q : Run) → Keeps q (wordsRun o q)
   unfolding wordsRun
-  words-keep q = runOutcome-keeps (begun o .state) q o
+  words-keep q = runOutcome-keeps (startedOver o .state) q o
 
   module _ (r : Run) where
     -- what the words of one sentence leave is as long as their stretch
@@ -181,13 +181,13 @@ module _ (base check : List ℤ) where
   pub closing-small : (l : List ℤ) (r : Run) (y : ℤ) (c : ℕ) → Whole y c ≡ closingOf (runOutcome (opened base check) l r) → natAbs y ≤ runTotal
   closing-small l r y c e = rw (closing-whole (runOutcome (opened base check) l r) y c e .1 .0) (run-total-small base check l r)
 
-  pub sentence-total-small : (r : Run) → natAbs (sentenceTotal (opened base check) r) ≤ totalLimit
+  sentence-total-small : (r : Run) → natAbs (sentenceTotal (opened base check) r) ≤ totalLimit
   unfolding sentenceTotal wordsRun closed
   sentence-total-small r =
       let o = opened base check in
       let x = wordsRun o r .total in
       let y = closed o r .total in
-      omega (arith, run-total-small base check (begun o .state) r, run-total-small base check (wordsRun o r .end) closingRun, add x y, abs x, abs y, abs (x +ℤ y))
+      omega (arith, run-total-small base check (startedOver o .state) r, run-total-small base check (wordsRun o r .end) closingRun, add x y, abs x, abs y, abs (x +ℤ y))
 
 pub total-back : (x : ℤ) → natAbs x ≤ runTotal → toZ w64 (ofZ w64 x) ≡ x
 total-back x h = let f : SFits w64 x = omega (zarith, abs x) in toZ-ofZ f

@@ -16,7 +16,7 @@ use Rattle.batch.specs.Sheet.{lastEnd, badEnd, sheetSize}
 
 -- ---- the last end
 
-pub lastEnd-append : (a : ℕ) (es fs : List ℕ) → lastEnd a (es ++ fs) ≡ lastEnd (lastEnd a es) fs
+lastEnd-append : (a : ℕ) (es fs : List ℕ) → lastEnd a (es ++ fs) ≡ lastEnd (lastEnd a es) fs
 unfolding lastEnd
 lastEnd-append a [] fs = refl
 lastEnd-append a (e ∷ es) fs = lastEnd-append e es fs

@@ -11,14 +11,15 @@ use borrow.Author.Tests.{eqb-true}
 use Rattle.integer.proofs.Ranges.{and-left, and-right}
 use Rattle.backoff.specs.Run.{Run}
 use Rattle.backoff.specs.Store.{Store}
-use Rattle.batch.specs.Sheet.{sentence, sentences, lastEnd, begun, wordsRun, closed, isScored, firstRefused}
+use Rattle.score.specs.Answers.{startedOver}
+use Rattle.batch.specs.Sheet.{sentence, sentences, lastEnd, wordsRun, closed, isScored, firstRefused}
 use Rattle.batch.proofs.Refusals.{refused}
 
 module _ (o : Option Store) where
-  pub scored-parts : (q : Run) → isScored o q ≡ true → (begun o .number ≡ 0) × ((wordsRun o q .number ≡ 0) × (closed o q .number ≡ 0))
+  pub scored-parts : (q : Run) → isScored o q ≡ true → (startedOver o .number ≡ 0) × ((wordsRun o q .number ≡ 0) × (closed o q .number ≡ 0))
   unfolding isScored
   scored-parts q e =
-      let s = eqb (begun o .number) 0 in
+      let s = eqb (startedOver o .number) 0 in
       let w = eqb (wordsRun o q .number) 0 in
       let c = eqb (closed o q .number) 0 in
       let rest = and-right s (w && c) e in

@@ -1,6 +1,6 @@
 -- The laws of the batch sheet.
 pub mod Ends
-pub mod Counts
+pub mod Counters
 pub mod Stretches
 pub mod Sentences
 pub mod Calls

@@ -3,22 +3,24 @@ use mathlib.Core.Path.{_≡_, refl, sym, _∙_}
 use mathlib.Core.Bool.{Bool, true, false, cond}
 use mathlib.Core.List.{List, [], _∷_}
 use mathlib.Core.Option.{Option}
-use Prim.Native.Nat.{ℕ, suc, _+_, _%_, _≤_, _<_}
+use Prim.Native.Nat.{ℕ, suc, _%_, _≤_, _<_}
 use native.Mathlib.Omega.{arith}
 use lib.ListN.{length, length-append}
 use lib.Seq.{take-all}
 use lib.IntN.{ℤ}
 use lib.Dec.{eqb}
 use borrow.Author.Tests.{eqb-true}
-use Rattle.backoff.specs.Limits.{orderLimit, unknownWord}
+use Rattle.backoff.specs.Limits.{orderLimit}
 use Rattle.backoff.specs.Refusal.{arrayHead, badState}
 use Rattle.backoff.specs.Model.{Model, inBackoff, backoff, reach}
-use Rattle.backoff.specs.Rule.{lengthByte, replaced}
+use Rattle.backoff.specs.Rule.{replaced}
+use Rattle.backoff.specs.Counts.{count}
 use Rattle.backoff.specs.State.{State, matchedFrom, extendedFrom, stepByte, stepNext}
 use Rattle.backoff.specs.Run.{Run, accepted, refusedRun, runBytes}
 use Rattle.backoff.specs.Runs.{flat}
 use Rattle.backoff.specs.NineNumbers.{stateIn, stateOk}
 use Rattle.backoff.specs.Store.{Store, modelIn, runIn, runOutcome}
+use Rattle.backoff.proofs.Counts.{byte-matched}
 use Rattle.backoff.proofs.State.{walk-le}
 use Rattle.backoff.proofs.NineNumbers.{Bounded, stateOk-bounded, stepNext-bounded}
 use Rattle.backoff.proofs.Slices.{runOutcome-keeps}
@@ -26,24 +28,14 @@ use Rattle.double_array.specs.DoubleArray.{isArray, storeIn, opened}
 use Rattle.double_array.proofs.DoubleArray.{opened-some, opened-none, opened-order}
 use Rattle.word_step.specs.Rows.{arrayModel}
 use Rattle.word_step.proofs.Rows.{rows-in-backoff}
+use Rattle.score.specs.Answers.{startedOver}
 use Rattle.score.proofs.Outcomes.{run-means}
-use Rattle.batch.specs.Counts.{count}
-use Rattle.batch.specs.Sheet.{sentence, sentences, lastEnd, badEnd, closingRun, begun, wordsRun, closed, wordBytes, closingBytes, firstRefused}
+use Rattle.batch.specs.Sheet.{sentence, sentences, lastEnd, badEnd, closingRun, wordsRun, closed, wordBytes, closingBytes, firstRefused}
 use Rattle.batch.proofs.Ends.{good-end, good-tail}
-use Rattle.batch.proofs.Counts.{fiveCounts, five-append, five-one}
+use Rattle.batch.proofs.Counters.{fiveCounts, five-append, five-one}
 use Rattle.batch.proofs.Stretches.{length-stretch}
 use Rattle.batch.proofs.Calls.{bytes-each}
 use Rattle.batch.proofs.FirstRefused.{scored-parts, refused-none}
-
-byte-matched : (m v : ℕ) (e : Bool) → m < 8 → lengthByte m v e % 8 ≡ m
-unfolding lengthByte
-byte-matched m v e h = go (eqb v unknownWord) e
-  where
-    go : (b c : Bool) → (m + cond b 8 0 + cond c 16 0) % 8 ≡ m
-    go true true = omega arith
-    go true false = omega arith
-    go false true = omega arith
-    go false false = omega arith
 
 module _ (M : Model) (in-backoff : (l : List ℕ) → inBackoff (backoff M l) ≡ true) (order : reach M < orderLimit) where
   step-matched : (s : State) (w : ℕ) → Bounded (reach M) s → (1 ≤ stepByte M s w % 8) × (stepByte M s w % 8 ≤ 5)
@@ -93,7 +85,7 @@ module _ (base check : List ℤ) (r : Run) where
 
   words-five : (q : Run) → length (q .lengths) ≡ length (q .words) → wordsRun o q .number ≡ 0 → fiveCounts (wordsRun o q .lengths) ≡ length (q .words)
   unfolding wordsRun
-  words-five q = run-five base check (begun o .state) q
+  words-five q = run-five base check (startedOver o .state) q
 
   pub five-words : (k a : ℕ) (es : List ℕ) → badEnd (length (r .words)) (suc k) a es ≡ 0 → lastEnd a es ≤ length (r .lengths) → firstRefused o (suc k) (sentences a es r) ≡ 0 → fiveCounts (wordBytes o (sentences a es r)) ≡ length (wordBytes o (sentences a es r))
   unfolding wordBytes sentences flat lastEnd

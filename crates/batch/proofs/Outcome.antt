@@ -58,7 +58,7 @@ module _ (o : Option Store) (ends : List ℕ) (r : Run) where
   rs = sentences 0 ends r
 
   module _ (f : Refusal) (f-is : f ≡ earlyRefusal o (length (r .words)) ends (length (r .points)) (length (r .lengths))) where
-    pub met-is : f ≡ met o ends r
+    met-is : f ≡ met o ends r
     unfolding met
     met-is = f-is
 

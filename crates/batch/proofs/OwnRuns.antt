@@ -15,8 +15,9 @@ use Rattle.backoff.specs.Store.{Store, runOutcome}
 use Rattle.backoff.proofs.Runs.{AnsweredAlike}
 use Rattle.backoff.proofs.Store.{runOutcome-blind}
 use Rattle.double_array.specs.DoubleArray.{storeIn, opened}
+use Rattle.score.specs.Answers.{startedOver}
 use Rattle.score.specs.Meaning.{StuckSentence}
-use Rattle.batch.specs.Sheet.{stretch, sentence, sentences, lastEnd, closingRun, begun, wordsRun, closed, isScored, sentenceTotal, wordPoints, wordBytes, firstRefused, met, acceptedSheet}
+use Rattle.batch.specs.Sheet.{stretch, sentence, sentences, lastEnd, closingRun, wordsRun, closed, isScored, sentenceTotal, wordPoints, wordBytes, firstRefused, met, acceptedSheet}
 use Rattle.batch.specs.Meaning.{from, to, OwnRun, IsRun}
 use Rattle.batch.proofs.Ends.{lastEnd-next, good-end, good-last}
 use Rattle.batch.proofs.Stretches.{length-stretch, stretch-whole}
@@ -70,7 +71,7 @@ module _ (base check : List ℤ) (ends : List ℕ) (r : Run) where
 
       answered : AnsweredAlike (own i) q (wordsRun array (own i)) (wordsRun array q)
       unfolding wordsRun
-      answered = runOutcome-blind array .alike (begun array .state) alike
+      answered = runOutcome-blind array .alike (startedOver array .state) alike
 
       closed-same : closed array (own i) ≡ closed array q
       unfolding closed

@@ -17,10 +17,11 @@ use Rattle.backoff.specs.NineNumbers.{nine}
 use Rattle.backoff.specs.Store.{Store}
 use Rattle.double_array.specs.DoubleArray.{isArray, storeIn, opened}
 use Rattle.word_step.specs.Rows.{arrayModel}
+use Rattle.score.specs.Answers.{startedOver}
 use Rattle.score.specs.Meaning.{Unwalkable, StuckWords, StuckSentence}
 use Rattle.score.proofs.Refusals.{stuck-split, stuck-both}
 use Rattle.score.proofs.Sentence.{Twelve, not-met, met, start-twelve, start-state, run-twelve, run-state}
-use Rattle.batch.specs.Sheet.{closingRun, begun, wordsRun, closed, isScored}
+use Rattle.batch.specs.Sheet.{closingRun, wordsRun, closed, isScored}
 use Rattle.batch.specs.Meaning.{FullRun, ByTwelve}
 use Rattle.batch.proofs.Calls.{start-refuses, words-refuse, closing-refuses, none-refuses}
 
@@ -44,15 +45,15 @@ module _ (base check : List ℤ) (array : isArray base check ≡ true) (q : Run)
     scored : isScored o q ≡ true → (StuckSentence S (q .words) → ⊥) → Judged
     refused : isScored o q ≡ false → ByTwelve o q → StuckSentence S (q .words) → Judged
 
-  words-twelve : begun o .number ≡ 0 → Twelve (StuckWords S (start M) (q .words)) (wordsRun o q .number)
+  words-twelve : startedOver o .number ≡ 0 → Twelve (StuckWords S (start M) (q .words)) (wordsRun o q .number)
   unfolding wordsRun runEnd
   words-twelve x = rw (start-state base check array x) (run-twelve base check array [] q f)
 
-  closed-twelve : begun o .number ≡ 0 → wordsRun o q .number ≡ 0 → Twelve (StuckWords S (runEnd M (start M) (q .words)) (endWord ∷ [])) (closed o q .number)
+  closed-twelve : startedOver o .number ≡ 0 → wordsRun o q .number ≡ 0 → Twelve (StuckWords S (runEnd M (start M) (q .words)) (endWord ∷ [])) (closed o q .number)
   unfolding closed
   closed-twelve x y = rw end (run-twelve base check array (q .words) closingRun (unfold refusal in refl))
     where
-      state : begun o .state ≡ nine (start M)
+      state : startedOver o .state ≡ nine (start M)
       state = unfold runEnd in start-state base check array x
 
       end : wordsRun o q .end ≡ nine (runEnd M (start M) (q .words))
@@ -69,15 +70,15 @@ module _ (base check : List ℤ) (array : isArray base check ≡ true) (q : Run)
           go (inl u) = n u
           go (inr u) = k u
 
-      third : begun o .number ≡ 0 → (Unwalkable S empty startWord → ⊥) → wordsRun o q .number ≡ 0 → (StuckWords S (start M) (q .words) → ⊥) → Twelve (StuckWords S (runEnd M (start M) (q .words)) (endWord ∷ [])) (closed o q .number) → Judged
+      third : startedOver o .number ≡ 0 → (Unwalkable S empty startWord → ⊥) → wordsRun o q .number ≡ 0 → (StuckWords S (start M) (q .words) → ⊥) → Twelve (StuckWords S (runEnd M (start M) (q .words)) (endWord ∷ [])) (closed o q .number) → Judged
       third x m y n (not-met z k) = scored (none-refuses o q x y z) (none m n k)
       third x m y n (met z t) = refused (closing-refuses o q (λ e. let g = sym e ∙ z in omega arith)) (inr (inr z)) (inr (stuck-both S (endWord ∷ []) (q .words) (start M) (inr t)))
 
-      second : begun o .number ≡ 0 → (Unwalkable S empty startWord → ⊥) → Twelve (StuckWords S (start M) (q .words)) (wordsRun o q .number) → Judged
+      second : startedOver o .number ≡ 0 → (Unwalkable S empty startWord → ⊥) → Twelve (StuckWords S (start M) (q .words)) (wordsRun o q .number) → Judged
       second x m (not-met y n) = third x m y n (closed-twelve x y)
       second x m (met y t) = refused (words-refuse o q (λ e. let g = sym e ∙ y in omega arith)) (inr (inl y)) (inr (stuck-both S (endWord ∷ []) (q .words) (start M) (inl t)))
 
-      first : Twelve (Unwalkable S empty startWord) (begun o .number) → Judged
+      first : Twelve (Unwalkable S empty startWord) (startedOver o .number) → Judged
       first (not-met x m) = second x m (words-twelve x)
       first (met x u) = refused (start-refuses o q (λ e. let g = sym e ∙ x in omega arith)) (inl x) (inl u)
 

@@ -12,26 +12,26 @@ use lib.Seq.{take-at, drop-at, drop-drop, drop-cons, take-suc, take-all, length-
 use lib.IntN.{ℤ, pos, natAbs, _+ℤ_, +ℤ-idr}
 use Rattle.integer.specs.Integer.{sum}
 use Rattle.integer.proofs.Arithmetic.{abs, add}
+use Rattle.integer.proofs.Parts.{drop-more}
 use Rattle.integer.proofs.Sums.{sum-append}
 use Rattle.backoff.specs.Limits.{orderLimit, largestBackoff, runLimit}
 use Rattle.backoff.specs.Run.{Run}
 use Rattle.backoff.specs.Runs.{flat}
 use Rattle.backoff.specs.Store.{Store}
 use Rattle.backoff.proofs.Runs.{flat-one}
-use Rattle.word_step.proofs.Written.{drop-more}
-use Rattle.batch.specs.Sheet.{stretch, sentence, sentences, lastEnd, wordsRun, closed, isScored, sentenceTotal, wordPoints, wordBytes, closingBytes, totalOf, firstRefused, badEnd}
+use Rattle.batch.specs.Sheet.{sentence, sentences, lastEnd, wordsRun, closed, isScored, sentenceTotal, wordPoints, wordBytes, closingBytes, totalOf, firstRefused, badEnd}
 use Rattle.batch.specs.Inner.{counted, Tallied, AllScored, OneRefused}
 use Rattle.batch.proofs.Ends.{lastEnd-next, good-end, good-last}
-use Rattle.batch.proofs.Counts.{tallied-small, tallied-closing, counted-small}
+use Rattle.batch.proofs.Counters.{tallied-small, tallied-closing, counted-small}
 
 -- ---- sentences in two parts
 
-pub sentences-append : (a : ℕ) (es fs : List ℕ) (r : Run) → sentences a (es ++ fs) r ≡ sentences a es r ++ sentences (lastEnd a es) fs r
+sentences-append : (a : ℕ) (es fs : List ℕ) (r : Run) → sentences a (es ++ fs) r ≡ sentences a es r ++ sentences (lastEnd a es) fs r
 unfolding sentences lastEnd
 sentences-append a [] fs r = refl
 sentences-append a (e ∷ es) fs r = ap (λ (rs : List Run). sentence a e r ∷ rs) (sentences-append e es fs r)
 
-pub sentences-next : (a : ℕ) (es : List ℕ) (i : ℕ) (r : Run) → i < length es → sentences a (take (i + 1) es) r ≡ sentences a (take i es) r ++ (sentence (lastEnd a (take i es)) (getD es i 0) r ∷ [])
+sentences-next : (a : ℕ) (es : List ℕ) (i : ℕ) (r : Run) → i < length es → sentences a (take (i + 1) es) r ≡ sentences a (take i es) r ++ (sentence (lastEnd a (take i es)) (getD es i 0) r ∷ [])
 sentences-next a es i r h = rw (add-one i, take-suc es i 0 h) (sentences-append a (take i es) (getD es i 0 ∷ []) r ∙ (unfold sentences in refl))
 
 module _ (o : Option Store) (rs : List Run) (q : Run) where
@@ -72,10 +72,10 @@ module _ {A : Type 0} (a e : ℕ) (new l : List A) (below : a ≤ e) (within : e
   front-first : putBack a e new l ≡ (take a l ++ new) ++ drop (e - a) (drop a l)
   front-first = sym (append-assoc (take a l) new (drop (e - a) (drop a l)))
 
-  pub take-back : take e (putBack a e new l) ≡ take a l ++ new
+  take-back : take e (putBack a e new l) ≡ take a l ++ new
   take-back = ap (take e) front-first ∙ take-at (take a l ++ new) (drop (e - a) (drop a l)) e front-long
 
-  pub drop-back : drop e (putBack a e new l) ≡ drop e l
+  drop-back : drop e (putBack a e new l) ≡ drop e l
   drop-back =
       let q : a + (e - a) ≡ e = omega arith in
       ap (drop e) front-first ∙ drop-at (take a l ++ new) (drop (e - a) (drop a l)) e front-long ∙ drop-drop (e - a) a l ∙ ap (λ (k : ℕ). drop k l) q
@@ -90,18 +90,14 @@ pub record Done {A : Type 0} (a : ℕ) (done l₀ l : List A) : Type 0 where
   pub long : length l ≡ length l₀
 
 module _ {A : Type 0} (a e : ℕ) (done l₀ l new : List A) (below : a ≤ e) (within : e ≤ length l₀) (long : length new ≡ e - a) (d : Done a done l₀ l) where
-  pub done-more : Done e (done ++ new) l₀ (putBack a e new l)
+  done-more : Done e (done ++ new) l₀ (putBack a e new l)
   done-more = record {
     front = take-back a e new l below (omega (arith, d .long)) long ∙ ap (λ (t : List A). t ++ new) (d .front);
     past = drop-back a e new l below (omega (arith, d .long)) long ∙ drop-more a e l l₀ below (d .past);
     long = length-back a e new l below (omega (arith, d .long)) long ∙ d .long;
   }
 
-  -- the stretch that is lent is what it was at first
-  pub done-lent : stretch a e l ≡ stretch a e l₀
-  done-lent = ap (take (e - a)) (d .past)
-
-pub done-all : {A : Type 0} (a : ℕ) (done l₀ l : List A) → Done a done l₀ l → l ≡ done ++ drop a l₀
+done-all : {A : Type 0} (a : ℕ) (done l₀ l : List A) → Done a done l₀ l → l ≡ done ++ drop a l₀
 done-all a done l₀ l d = sym (take-append-drop a l) ∙ ap₂ (λ x y. x ++ y) (d .front) (d .past)
 
 -- ---- the loop

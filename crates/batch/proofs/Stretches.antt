@@ -38,7 +38,7 @@ module _ {A : Type 0} (r : Run) (f : Run → List A) (room : ℕ) (each : (a e :
       omega (arith, length-append (f (sentence a e r)) (flat (map f (sentences e es r))), each a e (t .0) (omega (arith, t .1 .0)), length-all (suc k) e es (t .1 .1) h, t .0)
 
   -- the i-th sentence's items lie at its stretch
-  pub stretch-all : (k a : ℕ) (es : List ℕ) (i : ℕ) (past : List A) → badEnd (length (r .words)) (suc k) a es ≡ 0 → lastEnd a es ≤ room → i < length es
+  stretch-all : (k a : ℕ) (es : List ℕ) (i : ℕ) (past : List A) → badEnd (length (r .words)) (suc k) a es ≡ 0 → lastEnd a es ≤ room → i < length es
       → stretch (lastEnd a (take i es) - a) (getD es i 0 - a) (flat (map f (sentences a es r)) ++ past) ≡ f (sentence (lastEnd a (take i es)) (getD es i 0) r)
   unfolding sentences flat lastEnd
   stretch-all k a [] i past g h l = absurd (omega arith)

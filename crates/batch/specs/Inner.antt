@@ -7,6 +7,7 @@ use Prim.Native.Nat.{ℕ, suc, _+_, _/_, _%_, _<_}
 use lib.Dec.{eqb}
 use lib.ListN.{length, drop, getD, set}
 use lib.IntN.{ℤ}
+use Rattle.backoff.specs.Counts.{hasMatched, saysUnknown, count}
 use Rattle.backoff.specs.Run.{Run, Answer}
 use Rattle.backoff.specs.Store.{Store}
 use Rattle.batch.specs.declared.Sentence.{Sentence}
@@ -14,7 +15,6 @@ use Rattle.batch.specs.declared.Sentence.the-variants as sentence
 use Rattle.batch.specs.declared.Scored.{Scored}
 use Rattle.batch.specs.declared.Scored.the-variants as scored
 use Rattle.batch.specs.declared.Sheet.{Sheet}
-use Rattle.batch.specs.Counts.{hasMatched, saysUnknown, count}
 use Rattle.batch.specs.Sheet.{wordsRun, closed, isScored, sentenceTotal, wordPoints, wordBytes, closingBytes, totalOf, firstRefused, sentences, lastEnd}
 
 -- what the closing 3's run answers: its total, and its length byte

@@ -1,5 +1,4 @@
 -- The batch sheet, what it means, and what the inner functions are held to.
-pub mod Counts
 pub mod Sheet
 pub mod Meaning
 pub mod Inner

@@ -11,13 +11,14 @@ use Rattle.integer.specs.Integer.{sum}
 use Rattle.backoff.specs.Limits.{runLimit}
 use Rattle.backoff.specs.Refusal.{arrayHead, brokenNode, wordCount, shortSlice, sentenceEnd}
 use Rattle.backoff.specs.FirstMet.{Line, _when_, _at_, FirstMet}
+use Rattle.backoff.specs.Counts.{hasMatched, saysUnknown, count}
 use Rattle.backoff.specs.Run.{Run}
 use Rattle.backoff.specs.Store.{Store}
 use Rattle.double_array.specs.DoubleArray.{isArray, storeIn, opened}
+use Rattle.score.specs.Answers.{startedOver}
 use Rattle.score.specs.Meaning.{StuckSentence}
 use Rattle.batch.specs.declared.Sheet.{Sheet}
-use Rattle.batch.specs.Counts.{hasMatched, saysUnknown, count}
-use Rattle.batch.specs.Sheet.{stretch, sentence, sentences, lastEnd, begun, wordsRun, closed, isScored, sentenceTotal, closingBytes, Outcome, refusedSheet, met, sheetOutcome}
+use Rattle.batch.specs.Sheet.{stretch, sentence, sentences, lastEnd, wordsRun, closed, isScored, sentenceTotal, closingBytes, Outcome, refusedSheet, met, sheetOutcome}
 
 -- how many words all five matched lengths have
 abbrev pub allMatched : Sheet → ℕ
@@ -58,7 +59,7 @@ sheetRefusals base check ends r =
 
 -- a sentence that 12 refuses: start, its words or its 3
 abbrev pub ByTwelve : Option Store → Run → Type 0
-ByTwelve o q = (begun o .number ≡ brokenNode) ⊎ ((wordsRun o q .number ≡ brokenNode) ⊎ (closed o q .number ≡ brokenNode))
+ByTwelve o q = (startedOver o .number ≡ brokenNode) ⊎ ((wordsRun o q .number ≡ brokenNode) ⊎ (closed o q .number ≡ brokenNode))
 
 -- What was returned, a, with both slices as they are after the call.
 module _ (o : Option Store) (ends : List ℕ) (r : Run) (a : Outcome) where

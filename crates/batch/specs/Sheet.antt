@@ -9,13 +9,13 @@ use lib.Dec.{eqb, ltb}
 use Rattle.integer.specs.Integer.{sum}
 use Rattle.backoff.specs.Limits.{runLimit, endWord}
 use Rattle.backoff.specs.Refusal.{arrayHead, brokenNode, wordCount, shortSlice, sentenceEnd}
+use Rattle.backoff.specs.Counts.{hasMatched, saysUnknown, count}
 use Rattle.backoff.specs.Run.{Run, Answer, written}
 use Rattle.backoff.specs.Runs.{flat}
-use Rattle.backoff.specs.NineNumbers.{nineZeros}
-use Rattle.backoff.specs.Store.{Store, Started, startOutcome, runOutcome}
+use Rattle.backoff.specs.Store.{Store, runOutcome}
+use Rattle.score.specs.Answers.{startedOver}
 use Rattle.batch.specs.declared.Refusal.{Refusal}
 use Rattle.batch.specs.declared.Sheet.{Sheet}
-use Rattle.batch.specs.Counts.{hasMatched, saysUnknown, count}
 
 -- ---- the sentences
 
@@ -44,11 +44,8 @@ closingRun = record { words = endWord ∷ []; points = pos 0 ∷ []; lengths = 0
 
 module _ (o : Option Store) where
   -- "Each is scored from `<s>`": a run over its words from start's state
-  abbrev pub begun : Started
-  begun = startOutcome o nineZeros
-
   unfoldable pub wordsRun : Run → Answer (List ℤ)
-  wordsRun r = runOutcome o (begun .state) r
+  wordsRun r = runOutcome o (startedOver o .state) r
 
   -- "and closed with a 3", from the state that its words left
   unfoldable pub closed : Run → Answer (List ℤ)
@@ -56,7 +53,7 @@ module _ (o : Option Store) where
 
   -- start, its words and its 3 are accepted
   unfoldable pub isScored : Run → Bool
-  isScored r = eqb (begun .number) 0 && (eqb (wordsRun r .number) 0 && eqb (closed r .number) 0)
+  isScored r = eqb (startedOver o .number) 0 && (eqb (wordsRun r .number) 0 && eqb (closed r .number) 0)
 
   -- the 3's "points count in the totals"
   unfoldable pub sentenceTotal : Run → ℤ

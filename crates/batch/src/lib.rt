@@ -10,11 +10,11 @@ ghost use lib.IntN.{pos};
 ghost use Rattle.backoff.specs.Limits.{runLimit};
 ghost use Rattle.backoff.specs.Refusal.{brokenNode};
 ghost use Rattle.backoff.specs.Run.{written};
-ghost use Rattle.backoff.specs.NineNumbers.{nineZeros, stateOk};
-ghost use Rattle.backoff.specs.Store.{startOutcome, runOutcome};
+ghost use Rattle.backoff.specs.NineNumbers.{stateOk};
+ghost use Rattle.backoff.specs.Store.{runOutcome};
 ghost use Rattle.double_array.specs.DoubleArray.{isArray, orderIn, opened};
 ghost use Rattle.carried_state.specs.Numbers.{numbersOf};
-ghost use Rattle.score.specs.Answers.{startedOf};
+ghost use Rattle.score.specs.Answers.{startedOf, startedOver};
 ghost use Rattle.batch.specs.Sheet.{closingRun, lastEnd, badEnd, sheetSize, earlyRefusal, refusedSheet, scoredSheet, met, sheetOutcome};
 ghost use Rattle.batch.specs.Meaning.{SheetMeans};
 ghost use Rattle.batch.specs.Inner.{closingOf, SentenceIs, counted, Tallied, countedSheet, bytesSheet, ScoredAs};
@@ -205,7 +205,7 @@ fn score_sentence(
     lengths: &mut [u8],
 ) -> Sentence
     requires { ⌜ isArray (now base) (now check) ≡ true ⌝ }
-    requires { ⌜ startedOf started ≡ startOutcome (opened (now base) (now check)) nineZeros ⌝ }
+    requires { ⌜ startedOf started ≡ startedOver (opened (now base) (now check)) ⌝ }
     requires { ⌜ (length (now words) ≤ runLimit) × ((length (now words) ≤ length (now points)) × (length (now words) ≤ length (now lengths))) ⌝ }
     ensures { λ r. ⌜ SentenceIs (opened (now (base .entry)) (now (check .entry))) (record { words = now (words .entry); points = now (points .entry); lengths = now (lengths .entry) }) r (now (points .exit)) (now (lengths .exit)) ⌝ }
 {
@@ -239,7 +239,7 @@ fn score_sentences(
     counts: &mut [u32; 9],
 ) -> Scored
     requires { ⌜ isArray (now base) (now check) ≡ true ⌝ }
-    requires { ⌜ startedOf started ≡ startOutcome (opened (now base) (now check)) nineZeros ⌝ }
+    requires { ⌜ startedOf started ≡ startedOver (opened (now base) (now check)) ⌝ }
     requires { ⌜ badEnd (length (now words)) 1 0 (now ends) ≡ 0 ⌝ }
     requires { ⌜ length (now words) ≤ runLimit ⌝ }
     requires { ⌜ (length (now ends) ≤ runLimit) × ((lastEnd 0 (now ends) ≤ length (now points)) × (lastEnd 0 (now ends) ≤ length (now lengths))) ⌝ }

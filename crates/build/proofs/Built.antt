@@ -1,4 +1,4 @@
--- The array that the placing rule fixes for an accepted list, cut to enough slots: it opens, and as a model it is the list. And what an accepted
+-- The array that the placing rule fixes for an accepted list, cut to enough slots: 11 lets it pass, and as a model it is the list. And what an accepted
 -- outcome of build says. Assumes nothing.
 use mathlib.Core.Path.{_≡_, refl, sym, ap, _∙_}
 use mathlib.Core.Logic.{_≢_}
@@ -112,7 +112,7 @@ module _ (t : List ℤ) (a : verdict t ≡ Accepted) where
         getD-slots N (placedList t .base) 1 (pos 0) (omega arith) ∙ placing-head (orderOf t) (nodesOf t) (nodes-ready t a) .base-1
         ∙ ap (λ n. n .load) (nodeAt-root t)
 
-    pub built-head : Head B C
+    built-head : Head B C
     unfolding placedList rootOf modelOf orderOk
     built-head =
         let h = placing-head (orderOf t) (nodesOf t) (nodes-ready t a) in
@@ -131,14 +131,11 @@ module _ (t : List ℤ) (a : verdict t ≡ Accepted) where
     pub built-array : isArray B C ≡ true
     built-array = and-both (sizesOk B C) (headOk B C) (sizes-shown B C built-sizes) (head-shown B C built-head)
 
-    pub built-opens : opened B C ≡ some (storeIn B C)
-    built-opens = opened-some B C built-array
-
     pub built-order : orderIn C ≡ orderOf t
     unfolding orderIn
     built-order = rw order-read (omega arith)
 
-    pub built-look : (l : List ℕ) → lookRow B C l ≡ lookEntry (modelOf t .find l)
+    built-look : (l : List ℕ) → lookRow B C l ≡ lookEntry (modelOf t .find l)
     unfolding placedList modelOf
     built-look [] = rw empty-unlisted
     built-look (w ∷ l) =
@@ -158,7 +155,7 @@ module _ (t : List ℤ) (a : verdict t ≡ Accepted) where
       unknown-here = rw built-model (accepted-model t a .unknown-listed);
     }
 
-    pub built-holds : HoldsList t B C
+    built-holds : HoldsList t B C
     built-holds = record { array = built-array; order = built-order; look = built-look; whole = built-whole; model = built-model }
 
 -- ---- the outcome of build

@@ -80,7 +80,7 @@ module _ (t B C : List ℤ) (W : List ℕ) (accepted : buildOutcome t B C W .ans
   abbrev k : AcceptedBuild t B C W
   k = build-accepted t B C W accepted
 
-  pub fewest-is-top : fewest built ≡ placedList t .top
+  fewest-is-top : fewest built ≡ placedList t .top
   fewest-is-top = ap usedSlots (k .check-slots) ∙ used-is-top t (k .accepted) (length B) (k .room)
 
   pub length-base : length (built .base) ≡ length B

@@ -1,4 +1,4 @@
--- A list of a known length is the list of its items; nine items. Assumes nothing.
+-- A list of a known length is the list of its items; nine items that are equal one by one; and a number read back. Assumes nothing.
 use mathlib.Core.Path.{_≡_, sym, ap, _∙_}
 use mathlib.Core.List.{List, [], _∷_}
 use Prim.Native.Nat.{ℕ, zero, suc, _+_, _<_, _^_}

@@ -33,6 +33,10 @@ pub record Four (s : State) : Type 0 where
   pub words : length (s .words) ≡ 4
   pub backoffs : length (s .backoffs) ≡ 4
 
+five-tests : (a b c d e : Bool) → all (a ∷ b ∷ c ∷ d ∷ e ∷ []) ≡ (a && ((b && c) && (d && e)))
+unfolding all
+five-tests a b c d e = simp (and-assoc, and-true)
+
 module _ (s : State) (four : Four s) where
   pub length-numbers : length (numbersOf s) ≡ 9
   unfolding numbersOf
@@ -50,10 +54,6 @@ module _ (s : State) (four : Four s) where
   pub stateFrom-numbers : stateFrom (numbersOf s) ≡ s
   unfolding stateFrom numbersOf
   stateFrom-numbers = λ i. record { count = s .count; words = words-among i; backoffs = backoffs-among i }
-
-  five-tests : (a b c d e : Bool) → all (a ∷ b ∷ c ∷ d ∷ e ∷ []) ≡ (a && ((b && c) && (d && e)))
-  unfolding all
-  five-tests a b c d e = simp (and-assoc, and-true)
 
   -- check 16: the count, the words, the back-offs
   pub stateOk-parts : (n : ℕ) → stateOk n (numbersOf s) ≡ (between (pos 0) (pos (n - 1)) (s .count) && (partOk (between (pos 1) (pos wordLimit)) (natAbs (s .count)) (s .words) && partOk inBackoff (natAbs (s .count)) (s .backoffs)))
@@ -87,7 +87,7 @@ module _ (n : ℕ) (s : State) (four : Four s) (o : n ≤ orderLimit) (ok : stat
   unfolding numbersOf countOf
   counted = count-is n (numbersOf s) (length-numbers s four) o ok
 
-  pub count-low : pos 0 ≤ℤ s .count
+  count-low : pos 0 ≤ℤ s .count
   count-low = omega (zarith, counted)
 
   held-words : stateIn (numbersOf s) .words ≡ map natAbs (take count (s .words))
@@ -98,11 +98,15 @@ module _ (n : ℕ) (s : State) (four : Four s) (o : n ≤ orderLimit) (ok : stat
   unfolding stateIn numbersOf countOf
   held-backoffs = ap (take count) (drop-at (s .words) (s .backoffs) 4 (four .words))
 
-  pub all-in-backoff : all (map inBackoff (s .backoffs)) ≡ true
+  all-in-backoff : all (map inBackoff (s .backoffs)) ≡ true
   all-in-backoff = ap (λ (l : List ℤ). all (map inBackoff l)) (sym (backoffs-among s four)) ∙ four-in-backoff n (numbersOf s) (length-numbers s four) o ok
 
-  pub all-in-words : all (map (between (pos 0) (pos wordLimit)) (s .words)) ≡ true
+  all-in-words : all (map (between (pos 0) (pos wordLimit)) (s .words)) ≡ true
   all-in-words = ap (λ (l : List ℤ). all (map (between (pos 0) (pos wordLimit)) l)) (sym (words-among s four)) ∙ four-in-words n (numbersOf s) (length-numbers s four) o ok
+
+  -- so it can be packed
+  pub packable : (pos 0 ≤ℤ s .count) × ((all (map (between (pos 0) (pos wordLimit)) (s .words)) ≡ true) × (all (map inBackoff (s .backoffs)) ≡ true))
+  packable = (count-low, (all-in-words, all-in-backoff))
 
   abbrev lent : List ℤ
   lent = s .backoffs ++ (pos 0 ∷ [])

@@ -20,19 +20,19 @@ length-digits zero n = refl
 length-digits (suc k) n = ap suc (length-digits k (n / radix))
 
 -- n without its i lowest digits
-abbrev pub shifted : ℕ → ℕ → ℕ
-shifted zero n = n
-shifted (suc i) n = shifted i n / radix
+abbrev pub dropDigits : ℕ → ℕ → ℕ
+dropDigits zero n = n
+dropDigits (suc i) n = dropDigits i n / radix
 
-shifted-first : (i n : ℕ) → shifted i (n / radix) ≡ shifted i n / radix
-shifted-first zero n = refl
-shifted-first (suc i) n = ap (λ (m : ℕ). m / radix) (shifted-first i n)
+drop-first-digit : (i n : ℕ) → dropDigits i (n / radix) ≡ dropDigits i n / radix
+drop-first-digit zero n = refl
+drop-first-digit (suc i) n = ap (λ (m : ℕ). m / radix) (drop-first-digit i n)
 
-pub digit-at : (k i n : ℕ) → i < k → shifted i n % radix ≡ getD (digits k n) i 0
+pub digit-at : (k i n : ℕ) → i < k → dropDigits i n % radix ≡ getD (digits k n) i 0
 unfolding digits
 digit-at zero i n h = absurd (omega arith)
 digit-at (suc k) zero n h = refl
-digit-at (suc k) (suc i) n h = ap (λ (m : ℕ). m % radix) (sym (shifted-first i n)) ∙ digit-at k i (n / radix) (omega arith)
+digit-at (suc k) (suc i) n h = ap (λ (m : ℕ). m % radix) (sym (drop-first-digit i n)) ∙ digit-at k i (n / radix) (omega arith)
 
 low-digit : (w n : ℕ) → w < radix → (w + radix * n) % radix ≡ w
 low-digit w n h = omega arith

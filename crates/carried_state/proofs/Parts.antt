@@ -1,7 +1,7 @@
 -- One part of a state, its four words or its four back-offs, as the loops over it have it: the part's check, and a part cut after its first items.
 -- Assumes nothing.
 use mathlib.Core.Path.{_≡_, refl, ap}
-use mathlib.Core.Bool.{Bool, true, false, _&&_, and-assoc}
+use mathlib.Core.Bool.{Bool, true, _&&_, and-assoc}
 use mathlib.Core.List.{List, [], _∷_, map}
 use Prim.Native.Nat.{ℕ, zero, suc, _+_, _-_, _≤_, _<_}
 use native.Mathlib.Decide.{decLe}
@@ -11,16 +11,8 @@ use lib.ListN.{length, take, drop, getD, set, drop-of-length-le}
 use lib.Seq.{drop-cons}
 use lib.IntN.{ℤ, pos}
 use Rattle.integer.specs.Integer.{eqZ}
-use Rattle.integer.proofs.Arithmetic.{zarith}
 use Rattle.backoff.specs.NineNumbers.{all, padded}
 use Rattle.carried_state.specs.Packed.{partOk}
-
-pub eqZ-sym : (a b : ℤ) → eqZ a b ≡ eqZ b a
-eqZ-sym a b = go (eqZ b a) refl
-  where
-    go : (t : Bool) → eqZ b a ≡ t → eqZ a b ≡ t
-    go true e = omega zarith
-    go false e = omega zarith
 
 -- ---- the check of a part: what is left of it from the i-th item on
 

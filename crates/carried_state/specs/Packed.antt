@@ -39,7 +39,7 @@ heldIn c backoffs = record { words = take (c .count) (digits 4 (c .words)); back
 abbrev pub Owes : ℕ → ℤ → List ℤ → Type 0
 Owes count owed backoffs = owed ≡ sum (take count backoffs)
 
--- what holds of it where the order is n
+-- what holds of a state that is carried so, where the order is n
 pub record Carries (n : ℕ) (c : Packed) (backoffs : List ℤ) : Type 0 where
   pub five : length backoffs ≡ 5
   pub few : c .count ≤ n - 1

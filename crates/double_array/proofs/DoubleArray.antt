@@ -5,7 +5,7 @@ use mathlib.Core.Logic.{_≢_}
 use mathlib.Core.Bool.{Bool, true, false, cond, _&&_, false≢true}
 use mathlib.Core.List.{List, [], _∷_}
 use mathlib.Core.Option.{none, some}
-use Prim.Native.Nat.{ℕ, zero, suc, _+_, _≤_, _<_}
+use Prim.Native.Nat.{ℕ, suc, _+_, _≤_, _<_}
 use native.Mathlib.Omega.{arith}
 use native.Mathlib.Decide.{ℕ-discrete}
 use lib.Dec.{eqb, leb, ltb}
@@ -20,18 +20,12 @@ use Rattle.integer.proofs.Halving.{half-twice, odd-twice, half-odd, bit-bounds}
 use Rattle.backoff.specs.Limits.{leastProbability, largestBackoff, wordLimit, orderLimit, rowLimit, slotLimit}
 use Rattle.backoff.specs.Words.{isWord, radix}
 use Rattle.backoff.specs.Model.{inProbability, inBackoff}
-use Rattle.backoff.specs.Store.{absent, broken, here, Store}
+use Rattle.backoff.specs.Store.{absent, broken, here}
 use Rattle.double_array.specs.DoubleArray.{freeCheck, headCheck, markerCheck, markerBase, markerOf, childSlot, wordAt, baseAt, checkAt, keptMarker, ownMarker, markerAt, ownedBy, orElse, onEitherSide, childAt, rootChild, downTo, lookFrom, sizesOk, orderOk, headOk, isArray, orderIn, lookRow, storeIn, opened}
 use Rattle.double_array.specs.declared.Marker.{Marker}
 use Rattle.double_array.specs.declared.Marker.the-variants.{Sound, Broken}
 use Rattle.double_array.specs.declared.Child.{Child}
 use Rattle.double_array.specs.declared.Child.the-variants.{At, Nothing}
-
--- within a list the item does not depend on the default
-pub getD-inside : {A : Type 0} (l : List A) (i : ℕ) (d e : A) → i < length l → getD l i d ≡ getD l i e
-getD-inside [] i d e h = absurd (omega arith)
-getD-inside (x ∷ l) zero d e h = refl
-getD-inside (x ∷ l) (suc i) d e h = getD-inside l i d e (omega arith)
 
 -- four tests that all hold
 all-four : (a b c d : Bool) → (a && (b && (c && d))) ≡ true → (a ≡ true) × (b ≡ true) × (c ≡ true) × (d ≡ true)
@@ -78,15 +72,6 @@ marker-round-trip p b e f hp hb =
     marker-sound (markerCheck p) (markerBase b e f) (and-both _ _ (ap inProbability q ∙ hp) (ap inBackoff (ap half upper ∙ half-twice b e) ∙ hb))
     ∙ rw (q, upper, half-twice b e, odd-twice b e, odd-twice (twice b e) f)
 
--- K8, by computing; and a p that is stored as it is, 0 for one, is no marker
-k8 : markerOf (negsuc 4000) (negsuc 1998) ≡ Sound (negsuc 3999) (negsuc 499) false true
-unfolding markerOf inProbability inBackoff between
-k8 = refl
-
-p-itself : markerOf (pos 0) (pos 0) ≡ Broken
-unfolding markerOf inProbability inBackoff between
-p-itself = refl
-
 -- "A marker is sound if 1 ≤ d < N and the p and b read from it are in range."
 pub record IsMarker (base check : List ℤ) (s : ℕ) (p b : ℤ) (e f : Bool) : Type 0 where
   pub some-base : pos 1 ≤ℤ baseAt base check s
@@ -97,14 +82,6 @@ pub record IsMarker (base check : List ℤ) (s : ℕ) (p b : ℤ) (e f : Bool) :
   pub b-in-range : inBackoff b ≡ true
 
 module _ (base check : List ℤ) (s : ℕ) (p b : ℤ) (e f : Bool) where
-  pub kept-shown : IsMarker base check s p b e f → keptMarker base check s ≡ Sound p b e f
-  unfolding keptMarker
-  kept-shown m =
-      let d = baseAt base check s in
-      let l : leZ (pos 1) d ≡ true = omega zarith in
-      let u : ltZ d (pos (length check)) ≡ true = omega (zarith, abs d) in
-      rw (l, u, m .p-packed, m .b-packed) (marker-round-trip p b e f (m .p-in-range) (m .b-in-range))
-
   pub kept-told : keptMarker base check s ≡ Sound p b e f → IsMarker base check s p b e f
   unfolding keptMarker
   kept-told h =
@@ -164,6 +141,11 @@ slots-apart true true d v w h k l m e = (refl, omega arith)
 slots-apart true false d v w h k l m e = absurd (omega arith)
 slots-apart false true d v w h k l m e = absurd (omega arith)
 slots-apart false false d v w h k l m e = (refl, omega arith)
+
+-- and none is d, the marker's
+pub marker-apart : (behind : Bool) (d w : ℕ) → 1 ≤ d → 1 ≤ w → d ≢ childSlot behind d w
+marker-apart true d w h k e = absurd (omega arith)
+marker-apart false d w h k e = absurd (omega arith)
 
 -- a child behind a test
 chosen : (test : Bool) (c : Child) (t : ℕ) → cond test c Nothing ≡ At t → (test ≡ true) × (c ≡ At t)
@@ -422,15 +404,6 @@ module _ (base check : List ℤ) (h : isArray base check ≡ true) where
   pub opened-some : opened base check ≡ some (storeIn base check)
   unfolding opened
   opened-some = rw h
-
--- the converse: what opens has passed, and it is the store of the two slices
-pub opened-is : (base check : List ℤ) (S : Store) → opened base check ≡ some S → (isArray base check ≡ true) × (storeIn base check ≡ S)
-unfolding opened
-opened-is base check S h = go (isArray base check) refl h
-  where
-    go : (t : Bool) → isArray base check ≡ t → cond t (some (storeIn base check)) none ≡ some S → (isArray base check ≡ true) × (storeIn base check ≡ S)
-    go true e g = (e, cc)
-    go false e g = absurd (false≢true (cc))
 
 pub opened-none : (base check : List ℤ) → isArray base check ≡ false → opened base check ≡ none
 unfolding opened

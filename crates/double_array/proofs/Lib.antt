@@ -1,3 +1,4 @@
 -- The laws of the double array and of lookup.
+pub mod Items
 pub mod DoubleArray
 pub mod LookupMeaning

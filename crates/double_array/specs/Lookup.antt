@@ -1,8 +1,8 @@
 -- The outcome of lookup over any lent arrays: 11, then 14, then 12, else found with p, b and left, or not found; and what each answer means. Assumes nothing.
 use mathlib.Core.Path.{_≡_}
 use mathlib.Core.Logic.{_⊎_}
-use mathlib.Core.Bool.{Bool, true, false, cond, _&&_}
-use mathlib.Core.List.{List, reverse}
+use mathlib.Core.Bool.{Bool, false, cond, _&&_}
+use mathlib.Core.List.{List, [], _∷_, reverse}
 use mathlib.Core.Option.{Option, none, some}
 use Prim.Native.Nat.{ℕ, _≤_, _<_}
 use lib.Dec.{leb}
@@ -10,8 +10,9 @@ use lib.ListN.{length}
 use lib.IntN.{ℤ, pos}
 use Rattle.backoff.specs.Limits.{orderLimit}
 use Rattle.backoff.specs.Refusal.{arrayHead, brokenNode, wordCount}
-use Rattle.backoff.specs.Store.{Look, absent, broken, here, Store, isBroken, modelIn}
-use Rattle.double_array.specs.DoubleArray.{opened}
+use Rattle.backoff.specs.FirstMet.{Line, _when_, FirstMet}
+use Rattle.backoff.specs.Store.{Look, absent, broken, here, Store, modelIn}
+use Rattle.double_array.specs.DoubleArray.{isArray, orderIn, storeIn, opened}
 use Rattle.double_array.specs.declared.Lookup.{Lookup}
 use Rattle.double_array.specs.declared.Lookup.the-variants.{Found, NotFound, Refused}
 
@@ -63,33 +64,32 @@ leftOf (Found p b left) = cond left 1 0
 leftOf NotFound = 0
 leftOf (Refused n k) = 0
 
--- ---- what an answer means for the rows that the arrays hold, whatever the arrays are
+-- ---- what an answer means, whatever the arrays are
 
--- The arrays open to a store, of order n, whose model has the words as a row with exactly this p and b, and e as `left` says.
+-- "lookup 11, 14, 12": 14 for "0 or above 5 words", 12 where "a node on the walk has no sound marker"; more than n words have no walk
+abbrev pub lookupRefusals : List ℤ → List ℤ → List ℕ → List Line
+lookupRefusals base check ws =
+    arrayHead when (isArray base check ≡ false)
+    ∷ wordCount when ((length ws < 1) ⊎ (orderLimit < length ws))
+    ∷ brokenNode when ((length ws ≤ orderIn check) × (storeIn base check .look (reverse ws) ≡ broken))
+    ∷ []
+
+-- The words are a row that the array holds, with exactly this p and b, and e as `left` says.
 pub record IsRow (base check : List ℤ) (ws : List ℕ) (p b : ℤ) (left : ℕ) : Type 0 where
-  pub store : Store
-  pub opens : opened base check ≡ some store
-  pub short : length ws ≤ store .order
+  pub short : length ws ≤ orderIn check
   pub e : Bool
   pub f : Bool
-  pub row : modelIn store .find (reverse ws) ≡ some (record { p = p; b = b; e = e; f = f })
+  pub row : modelIn (storeIn base check) .find (reverse ws) ≡ some (record { p = p; b = b; e = e; f = f })
   pub left-is : left ≡ cond e 1 0
 
--- They open to a store for which the words are more than n, or whose model has no such row though every node on the walk is sound.
-pub record IsNoRow (base check : List ℤ) (ws : List ℕ) : Type 0 where
-  pub store : Store
-  pub opens : opened base check ≡ some store
-  pub no-row : (store .order < length ws) ⊎ ((modelIn store .find (reverse ws) ≡ none) × (isBroken (store .look (reverse ws)) ≡ false))
+-- They are more than n, or no such row.
+abbrev pub IsNoRow : List ℤ → List ℤ → List ℕ → Type 0
+IsNoRow base check ws = (orderIn check < length ws) ⊎ (modelIn (storeIn base check) .find (reverse ws) ≡ none)
 
--- The three numbers by which a lookup is refused, each with its condition.
-pub data RefusedBy (base check : List ℤ) (ws : List ℕ) : ℕ → Type 0 where
-  no-array : opened base check ≡ none → RefusedBy base check ws arrayHead
-  word-count : (S : Store) → opened base check ≡ some S → (length ws < 1) ⊎ (orderLimit < length ws) → RefusedBy base check ws wordCount
-  broken-node : (S : Store) → opened base check ≡ some S → length ws ≤ S .order → isBroken (S .look (reverse ws)) ≡ true → RefusedBy base check ws brokenNode
-
--- The numbers that were returned: `found` is 1 or 0, and 0 where the lookup is refused.
+-- The numbers that were returned. Where nothing is found, and where the lookup is refused, `found` and what would be told of a row are 0.
 pub record LookupMeans (base check : List ℤ) (ws : List ℕ) (number place found : ℕ) (p b : ℤ) (left : ℕ) : Type 0 where
-  pub yes : found ≡ 1 → IsRow base check ws p b left
+  pub verdict : FirstMet (lookupRefusals base check ws) number place
+  pub one-or-zero : (found ≡ 1) ⊎ (found ≡ 0)
+  pub yes : found ≡ 1 → (number ≡ 0) × IsRow base check ws p b left
   pub no : found ≡ 0 → number ≡ 0 → IsNoRow base check ws
-  pub refused : (number ≡ 0 → ⊥) → RefusedBy base check ws number
-  pub no-place : place ≡ 0
+  pub zeros : found ≡ 0 → (p ≡ pos 0) × (b ≡ pos 0) × (left ≡ 0)

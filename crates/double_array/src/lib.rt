@@ -139,7 +139,7 @@ fn owned_inside(check: &[i32], s: usize, t: usize) -> Child
 }
 
 // The same of any slot.
-pub fn owned_by(check: &[i32], s: usize, t: usize) -> Child
+fn owned_by(check: &[i32], s: usize, t: usize) -> Child
     requires { ⌜ s < slotLimit ⌝ }
     ensures { λ r. ⌜ r ≡ ownedBy (now (check .entry)) s t ⌝ }
 {

@@ -8,7 +8,7 @@ use native.Mathlib.Omega.{arith}
 use lib.Dec.{ltb}
 use lib.IntN.{ℤ}
 use borrow.Author.Tests.{le-ltb, lt-ltb}
-use Rattle.integer.proofs.Ranges.{lt-or-ge, upTo-le}
+use Rattle.integer.proofs.Ranges.{lt-or-ge, false-unless, upTo-le}
 use Rattle.backoff.specs.Limits.{wordLimit}
 use Rattle.backoff.specs.Words.{radix, key}
 use Rattle.rows.specs.Table.{rowsOf, field, wordOf, words, withoutFirst}
@@ -37,7 +37,7 @@ module _ (t : List ℤ) (g : Good t (rowsOf t)) (i : ℕ) (l : i < rowsOf t) (j 
       let u = upTo-le wordLimit (field t j 1) in
       (omega arith, omega arith)
 
-  pub front-only : radix * rowKey t i ≤ rowKey t j → rowKey t j < radix * rowKey t i + radix → withoutFirst t j ≡ words t i
+  front-only : radix * rowKey t i ≤ rowKey t j → rowKey t j < radix * rowKey t i + radix → withoutFirst t j ≡ words t i
   unfolding rowKey
   front-only p q =
       let c = front-key t g j m in
@@ -90,8 +90,4 @@ module _ (t : List ℤ) (g : Good t (rowsOf t)) (i : ℕ) (l : i < rowsOf t) (fi
       go true e (inr h) = absurd (omega (arith, extended-from e .1))
 
   pub extended-none : rowsOf t ≤ first → extendedIn t (words t i) ≡ false
-  extended-none m = go (extendedIn t (words t i)) refl
-    where
-      go : (c : Bool) → extendedIn t (words t i) ≡ c → c ≡ false
-      go true e = absurd (omega (arith, extended-from e .0))
-      go false e = refl
+  extended-none m = false-unless _ (λ e. omega (arith, extended-from e .0))

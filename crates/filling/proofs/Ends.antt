@@ -2,11 +2,11 @@
 use mathlib.Core.Path.{_≡_, refl, sym, ap, _∙_}
 use mathlib.Core.Logic.{inr, ⊎-elim}
 use mathlib.Core.Bool.{Bool, true, false, cond, _&&_}
-use mathlib.Core.List.{List, [], _∷_, List·Memᴰ·head, List·Memᴰ·tail}
+use mathlib.Core.List.{List, _∷_}
 use Prim.Native.Nat.{ℕ, _+_, _*_, _-_, _<_, _≤_}
 use native.Mathlib.Omega.{arith}
 use lib.IntN.{ℤ, pos}
-use Rattle.integer.proofs.Ranges.{lt-or-ge, and-left, and-right, and-both}
+use Rattle.integer.proofs.Ranges.{lt-or-ge, and-left, and-right}
 use Rattle.backoff.specs.Refusal.{rowProbability}
 use Rattle.backoff.specs.Model.{inProbability}
 use Rattle.backoff.specs.declared.Verdict.the-variants.{Accepted}
@@ -18,14 +18,14 @@ use Rattle.row_search.proofs.Search.{found-words, finds}
 use Rattle.list.specs.Check.{verdictFor}
 use Rattle.list.proofs.Check.{checked-good, checked-row}
 use Rattle.filling.specs.Filled.{withoutFirstWords, filledProbability, filledBackoff, filledTable}
-use Rattle.filling.specs.Fill.{addable, allAddable, neededFault}
+use Rattle.filling.specs.Fill.{addable, neededFault}
 use Rattle.filling.specs.Next.{lastWords, Best}
 use Rattle.filling.specs.Points.{wordsFrom, placePoints}
 use Rattle.filling.specs.Steps.{IsEnd, NoneNeeding, endProbability, endBackoff}
 use Rattle.filling.proofs.Ascending.{In}
 use Rattle.filling.proofs.WithoutFirstWords.{in-behind}
 use Rattle.filling.proofs.FilledModel.{filled-finds}
-use Rattle.filling.proofs.Refusals.{addable-listed, addable-unlisted}
+use Rattle.filling.proofs.Refusals.{all-addable, addable-listed, addable-unlisted}
 use Rattle.filling.proofs.Next.{best-absent, last-all}
 use Rattle.filling.proofs.Points.{end-words-are, end-points-are}
 
@@ -70,14 +70,9 @@ module _ (t : List ℤ) (a : verdictFor true t ≡ Accepted) where
       go (At j) e = checked-row true t a j (found-words t (lastWords t i m) j e .0) .fields .probability ∙ sym (addable-listed t (lastWords t i m) (ap isAt e))
       go Nothing e = sym (addable-unlisted t (lastWords t i m) (ap isAt e))
 
-  all-addable : (rows : List (List ℕ)) → ((ws : List ℕ) → In ws rows → addable t ws ≡ true) → allAddable t rows ≡ true
-  unfolding allAddable
-  all-addable [] f = refl
-  all-addable (ws ∷ rows) f = and-both (addable t ws) (allAddable t rows) (f ws (List·Memᴰ·head refl)) (all-addable rows (λ vs m. f vs (List·Memᴰ·tail m)))
-
   pub none-needing : ((j : ℕ) → j < rowsOf (filledTable t) → addable t (words (filledTable t) j) ≡ true) → NoneNeeding t
   unfolding neededFault
-  none-needing h i l = ap (λ (b : Bool). cond b 0 rowProbability) (all-addable (withoutFirstWords (words t i)) each)
+  none-needing h i l = ap (λ (b : Bool). cond b 0 rowProbability) (all-addable t (withoutFirstWords (words t i)) each)
     where
       each : (ws : List ℕ) → In ws (withoutFirstWords (words t i)) → addable t ws ≡ true
       each ws m =

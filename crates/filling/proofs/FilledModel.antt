@@ -6,15 +6,15 @@ use Prim.Native.Nat.{ℕ, _-_, _≤_, _<_}
 use native.Mathlib.Omega.{arith}
 use lib.ListN.{length, length-reverse}
 use lib.IntN.{ℤ}
-use Rattle.backoff.specs.Model.{listed, probability, backoff, probabilityOf, backoffOf}
+use Rattle.backoff.specs.Model.{listed, probability, backoff}
 use Rattle.rows.specs.Table.{rowsOf, probabilityAt, backoffAt, orderOf, words}
 use Rattle.rows.specs.Good.{Good}
 use Rattle.rows.proofs.Table.{row-in, words-length}
-use Rattle.row_search.specs.Search.{findIn, isAt}
+use Rattle.row_search.specs.Search.{findIn, isAt, foundRow}
 use Rattle.row_search.specs.declared.Found.{Found}
 use Rattle.row_search.specs.declared.Found.the-variants.{At, Nothing}
 use Rattle.row_search.proofs.Search.{found-words, finds}
-use Rattle.list.specs.ListModel.{entryAt, modelOf}
+use Rattle.list.specs.ListModel.{modelOf}
 use Rattle.list.proofs.ListModel.{listed-found, probability-found, backoff-found, length-order}
 use Rattle.filling.specs.Added.{ownPoints, Kept, Added, Extends}
 use Rattle.filling.specs.Filled.{addedProbability, filledProbability, filledBackoff, filledTable}
@@ -28,11 +28,11 @@ module _ (t : List ℤ) (l : List ℕ) (f : Found) (e : findIn t (reverse l) ≡
   pub listed-by : listed (modelOf t) l ≡ isAt f
   listed-by = listed-found t l ∙ ap isAt e
 
-  pub probability-by : probability (modelOf t) l ≡ probabilityOf (entryAt t (reverse l) f)
-  probability-by = probability-found t l ∙ ap (λ (f : Found). probabilityOf (entryAt t (reverse l) f)) e
+  pub probability-by : probability (modelOf t) l ≡ foundRow t f .p
+  probability-by = probability-found t l ∙ ap (λ (f : Found). foundRow t f .p) e
 
-  pub backoff-by : backoff (modelOf t) l ≡ backoffOf (entryAt t (reverse l) f)
-  backoff-by = backoff-found t l ∙ ap (λ (f : Found). backoffOf (entryAt t (reverse l) f)) e
+  backoff-by : backoff (modelOf t) l ≡ foundRow t f .b
+  backoff-by = backoff-found t l ∙ ap (λ (f : Found). foundRow t f .b) e
 
 pub at-nothing : (i : ℕ) → At i ≡ Nothing → ⊥
 at-nothing i e = let z : _≡_ {A = ℕ} 0 1 = cc in omega arith
@@ -55,7 +55,7 @@ module _ (t : List ℤ) (g : Good t (rowsOf t)) where
     row-backoff = stands-backoff t T j (words T j) (filled-own t g j l) ∙ ap (filledBackoff t) e
 
   -- a row of T that t lacks has two or more words
-  pub absent-long : (j : ℕ) → j < rowsOf T → findIn t (words T j) ≡ Nothing → 2 ≤ length (words T j)
+  absent-long : (j : ℕ) → j < rowsOf T → findIn t (words T j) ≡ Nothing → 2 ≤ length (words T j)
   absent-long j l e = go (filled-end t g j l)
     where
       go : EndOf t (words T j) → 2 ≤ length (words T j)
@@ -103,7 +103,7 @@ module _ (t : List ℤ) (g : Good t (rowsOf t)) where
   -- ---- the sequences that the rule asks for
 
   filled-each : (l : List ℕ) → Kept (modelOf t) (modelOf T) l ⊎ Added (modelOf t) (modelOf T) l
-  unfolding addedProbability
+  unfolding addedProbability foundRow
   filled-each l = go (findIn t (reverse l)) refl
     where
       lent : (i : ℕ) → findIn t (reverse l) ≡ At i → Kept (modelOf t) (modelOf T) l

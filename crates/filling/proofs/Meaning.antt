@@ -4,15 +4,16 @@ use mathlib.Core.Bool.{true, _&&_}
 use mathlib.Core.List.{List, [], _∷_}
 use Prim.Native.Nat.{ℕ, _*_, _≤_}
 use native.Mathlib.Omega.{arith}
-use lib.ListN.{length, take, drop, length-append, length-drop}
+use lib.ListN.{length, take, drop}
 use lib.Seq.{take-at, drop-at}
 use lib.IntN.{ℤ}
 use Rattle.integer.proofs.Ranges.{and-left}
 use Rattle.backoff.specs.Limits.{unknownWord, startWord, endWord}
 use Rattle.backoff.specs.Model.{listed}
-use Rattle.backoff.specs.Rule.{rule, rulePoints}
+use Rattle.backoff.specs.Rule.{rule}
 use Rattle.backoff.specs.Refusal.{numberOf, placeOf}
 use Rattle.backoff.specs.Run.{written}
+use Rattle.backoff.proofs.Slices.{length-written}
 use Rattle.backoff.specs.declared.Verdict.{Verdict}
 use Rattle.backoff.specs.declared.Verdict.the-variants.{Accepted, Refused}
 use Rattle.row_search.specs.Search.{findIn, isAt}
@@ -25,7 +26,7 @@ use Rattle.filling.specs.Added.{Extends}
 use Rattle.filling.specs.Filled.{filledRows, filledTable}
 use Rattle.filling.specs.Fill.{fillVerdict, Filled, filledBy, fillOutcome, IsFilled}
 use Rattle.filling.specs.Meaning.{FilledList, FillMeans}
-use Rattle.filling.proofs.Alike.{rule-alike, rulePoints-alike}
+use Rattle.filling.proofs.Alike.{rule-alike}
 use Rattle.filling.proofs.FilledTable.{filled-length, filled-rows, filled-good}
 use Rattle.filling.proofs.FilledModel.{filled-order, filled-extends, filled-adds-only}
 use Rattle.filling.proofs.Refusals.{fill-accepted, fill-number, refused-told}
@@ -47,11 +48,7 @@ module _ (t : List ℤ) (a : verdictFor true t ≡ Accepted) where
   pub filled-scores-alike : (h : List ℕ) (w : ℕ) → rule (modelOf (filledTable t)) h w .points ≡ rule (modelOf t) h w .points
   filled-scores-alike = rule-alike (modelOf t) (modelOf (filledTable t)) extends unknown-listed
 
-  -- and so of all words of a text
-  pub filled-texts-alike : (h ws : List ℕ) → rulePoints (modelOf (filledTable t)) h ws ≡ rulePoints (modelOf t) h ws
-  filled-texts-alike = rulePoints-alike (modelOf t) (modelOf (filledTable t)) filled-scores-alike
-
-pub filled-list : (t : List ℤ) (size : ℕ) → fillVerdict t size ≡ Accepted → FilledList t (filledTable t)
+filled-list : (t : List ℤ) (size : ℕ) → fillVerdict t size ≡ Accepted → FilledList t (filledTable t)
 filled-list t size e =
     let f = fill-accepted t size e in
     let a = f .checked in
@@ -69,10 +66,6 @@ written-part : (new old : List ℤ) (n : ℕ) → length new ≡ n → (take n (
 unfolding written
 written-part new old n e = (take-at new (drop (length new) old) n e, drop-at new (drop (length new) old) n e ∙ ap (λ (k : ℕ). drop k old) e)
 
-written-length : (new old : List ℤ) → length new ≤ length old → length (written new old) ≡ length old
-unfolding written
-written-length new old l = omega (arith, length-append new (drop (length new) old), length-drop (length new) old)
-
 module _ (t second : List ℤ) where
   abbrev Means : Filled → Type 0
   Means o = FillMeans t second (numberOf (o .answer)) (placeOf (o .answer)) (o .rows) (o .table)
@@ -89,7 +82,7 @@ module _ (t second : List ℤ) where
         counted = λ _. rw (part .0) (filled-rows t g);
         rest = λ _. part .1;
         no-place = λ _. refl;
-        as-long = written-length (filledTable t) second fits;
+        as-long = length-written (filledTable t) second fits;
         refused = λ n. absurd (n refl);
         untouched = λ n. absurd (n refl);
       }

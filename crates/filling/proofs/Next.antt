@@ -19,7 +19,7 @@ use Rattle.backoff.proofs.Words.{first-some, first-limit, words-rest}
 use Rattle.rows.specs.Table.{rowsOf, lengthOf, orderOf, wordsOf, words}
 use Rattle.rows.specs.Good.{GoodRow, Good}
 use Rattle.rows.specs.Keys.{keyOf, rowKey}
-use Rattle.rows.proofs.Table.{row-in, words-length, length-limit}
+use Rattle.rows.proofs.Table.{row-in, words-length, order-limit}
 use Rattle.rows.proofs.Good.{lengths-ascend, are-words, ascend-key}
 use Rattle.rows.proofs.Keys.{key-unique}
 use Rattle.row_search.specs.Search.{findIn}
@@ -118,22 +118,22 @@ unfolding power zeros key
 key-below [] e = omega arith
 key-below (w ∷ ws) e = let h = key-below ws (words-rest w ws e) in let u = first-limit w ws e in omega arith
 
-pub key-above : (w : ℕ) (ws : List ℕ) → areWords (w ∷ ws) ≡ true → power (length ws) ≤ key (w ∷ ws)
+key-above : (w : ℕ) (ws : List ℕ) → areWords (w ∷ ws) ≡ true → power (length ws) ≤ key (w ∷ ws)
 unfolding power zeros key
 key-above w [] e = let s = first-some w [] e in omega arith
 key-above w (v ∷ vs) e = let h = key-above v vs (words-rest w (v ∷ vs) e) in omega arith
 
 -- so a key from `power (m − 1)` on and below `power m` has m words
-pub long-enough : (m : ℕ) (ws : List ℕ) → areWords ws ≡ true → power m ≤ key ws → m < length ws
+long-enough : (m : ℕ) (ws : List ℕ) → areWords ws ≡ true → power m ≤ key ws → m < length ws
 long-enough m ws e l = ⊎-elim (λ p. p) (λ p. absurd (let a = key-below ws e in let b = power-le (length ws) m p in omega arith)) (lt-or-ge m (length ws))
 
-pub short-enough : (m : ℕ) (ws : List ℕ) → areWords ws ≡ true → key ws < power m → length ws ≤ m
+short-enough : (m : ℕ) (ws : List ℕ) → areWords ws ≡ true → key ws < power m → length ws ≤ m
 short-enough m [] e l = omega arith
 short-enough m (w ∷ ws) e l = ⊎-elim (λ p. p) (λ (p : m ≤ length ws). absurd (let a = key-above w ws e in let b = power-le m (length ws) p in omega arith)) (lt-or-ge (length ws) m)
 
 -- ---- the last words of a row in the table
 
-pub drop-wordsOf : (j : ℕ) (zs : List ℤ) → drop j (wordsOf zs) ≡ wordsOf (drop j zs)
+drop-wordsOf : (j : ℕ) (zs : List ℤ) → drop j (wordsOf zs) ≡ wordsOf (drop j zs)
 unfolding wordsOf
 drop-wordsOf zero zs = refl
 drop-wordsOf (suc j) [] = refl
@@ -174,7 +174,7 @@ module _ (t : List ℤ) (g : Good t (rowsOf t)) where
 
   module _ (m floor k : ℕ) (low : power (m - 1) ≤ floor) (some : 0 < m) (mk : m ≤ k) where
     -- a candidate of k words
-    pub bound-key : (i : ℕ) → Candidate t m floor (suc k) i → lengthOf t i ≡ k → zeros (k - m) floor ≤ rowKey t i
+    bound-key : (i : ℕ) → Candidate t m floor (suc k) i → lengthOf t i ≡ k → zeros (k - m) floor ≤ rowKey t i
     unfolding rowKey lastWords
     bound-key i c e =
         let z : lengthOf t i - m ≡ k - m = omega arith in
@@ -241,7 +241,7 @@ module _ (t : List ℤ) (g : Good t (rowsOf t)) where
 
       module _ (l : s < rowsOf t) (e : lengthOf t s ≡ k) where
         -- it is one, and its last words are less, or there was none
-        pub least-new : (r < rowsOf t → endKey t s m < endKey t r m) → Least t m floor (suc k) s
+        least-new : (r < rowsOf t → endKey t s m < endKey t r m) → Least t m floor (suc k) s
         least-new n = record {
           within = omega arith;
           one = λ _. key-bound s l e (b .above s (omega arith) l);
@@ -255,7 +255,7 @@ module _ (t : List ℤ) (g : Good t (rowsOf t)) where
         }
 
         -- it is one, and its last words are not less
-        pub least-old : r < rowsOf t → endKey t r m ≤ endKey t s m → Least t m floor (suc k) r
+        least-old : r < rowsOf t → endKey t r m ≤ endKey t s m → Least t m floor (suc k) r
         least-old w n = record {
           within = h .within;
           one = λ p. longer r (h .one p);
@@ -292,7 +292,7 @@ module _ (t : List ℤ) (g : Good t (rowsOf t)) where
       absent = h .absent;
     }
 
-  pub least-start : (m floor : ℕ) → Least t m floor m (rowsOf t)
+  least-start : (m floor : ℕ) → Least t m floor m (rowsOf t)
   least-start m floor = record {
     within = omega arith;
     one = λ l. absurd (omega arith);
@@ -356,10 +356,6 @@ module _ (t : List ℤ) (a : verdictFor true t ≡ Accepted) where
       let q = end-some t good (words T j) e .1 in
       (e .at, e .within, omega arith, sym (ap (drop (lengthOf t (e .at) - lengthOf T j)) (e .same) ∙ drop-at (e .front) (words T j) (lengthOf t (e .at) - lengthOf T j) p))
 
-  order-five : orderOf t ≤ orderLimit
-  unfolding orderOf
-  order-five = length-limit t (rowsOf t - 1)
-
   -- ---- filling under way
 
   pub filling-starts : (n : ℕ) → n ≡ orderOf t → Filling t n 1 0 1 0
@@ -400,11 +396,11 @@ module _ (t : List ℤ) (a : verdictFor true t ≡ Accepted) where
 
     module _ (l : m ≤ n) where
       pub filling-asks : (0 < m) × (m ≤ n) × (n ≤ orderLimit) × (power (m - 1) ≤ floor) × (floor ≤ power m)
-      filling-asks = (f .some, l, omega (arith, order-five, f .order-is), f .from, f .to)
+      filling-asks = (f .some, l, omega (arith, order-limit t, f .order-is), f .from, f .to)
 
       pub zeros-room : zeros m 1 ≤ power orderLimit
       unfolding power
-      zeros-room = power-le m orderLimit (omega (arith, order-five, f .order-is))
+      zeros-room = power-le m orderLimit (omega (arith, order-limit t, f .order-is))
 
       module _ (r high′ low′ : ℕ) (b : Best t m floor (suc n) r high′ low′) where
         best : Least t m floor (suc (orderOf t)) r
@@ -518,7 +514,7 @@ module _ (t : List ℤ) (a : verdictFor true t ≡ Accepted) where
     unfolding power zeros
     next-high =
         let u = next-least in
-        let v = power-le m orderLimit (omega (arith, order-five, f .order-is)) in
+        let v = power-le m orderLimit (omega (arith, order-limit t, f .order-is)) in
         let y = b .key-is w in
         omega arith
 

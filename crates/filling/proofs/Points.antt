@@ -10,37 +10,37 @@ use lib.Seq.{drop-cons, take-suc, getD-drop, take-all}
 use lib.IntN.{ℤ, pos, _+ℤ_}
 use Rattle.backoff.specs.Limits.{orderLimit}
 use Rattle.backoff.specs.Words.{areWords}
-use Rattle.backoff.specs.Model.{Model, backoff, reach}
+use Rattle.backoff.specs.Model.{Model, reach}
 use Rattle.backoff.specs.Rule.{Score, addPoints, replaced, textRule}
 use Rattle.backoff.specs.declared.Verdict.the-variants.{Accepted}
 use Rattle.backoff.proofs.Rule.{rule-is-textRule}
 use Rattle.rows.specs.Table.{rowsOf, probabilityAt, lengthOf, orderOf, wordOf, wordsOf}
 use Rattle.rows.specs.Good.{Good}
 use Rattle.rows.proofs.Table.{row-in, length-limit}
-use Rattle.row_search.specs.Search.{findIn}
+use Rattle.row_search.specs.Search.{findIn, foundRow}
 use Rattle.row_search.specs.declared.Found.{Found}
 use Rattle.row_search.specs.declared.Found.the-variants.{At, Nothing}
 use Rattle.row_search.proofs.Search.{finds}
 use Rattle.list.specs.Check.{verdictFor}
 use Rattle.list.specs.ListModel.{modelOf}
-use Rattle.list.proofs.ListModel.{length-order}
+use Rattle.list.proofs.ListModel.{entry-backoff, length-order}
 use Rattle.list.proofs.Check.{checked-good, checked-size}
 use Rattle.filling.specs.Added.{ownPoints}
-use Rattle.filling.specs.Filled.{addedProbability, filledBackoff}
+use Rattle.filling.specs.Filled.{addedProbability}
 use Rattle.filling.specs.Next.{lastWords}
 use Rattle.filling.specs.Points.{wordsFrom, pointsBy, placePoints}
 use Rattle.filling.proofs.FilledRows.{EndOf, last-alone, end-without-last, end-some}
-use Rattle.filling.proofs.FilledModel.{listed-by, probability-by, backoff-by}
+use Rattle.filling.proofs.FilledModel.{listed-by, probability-by}
 use Rattle.filling.proofs.Next.{places-last, last-are-words, last-words-end}
 
 -- ---- words in the table
 
 module _ (t : List ℤ) (a k : ℕ) where
-  pub from-cons : a < length t → wordsFrom t a (suc k) ≡ wordOf (getD t a (pos 0)) ∷ wordsFrom t (suc a) k
+  from-cons : a < length t → wordsFrom t a (suc k) ≡ wordOf (getD t a (pos 0)) ∷ wordsFrom t (suc a) k
   unfolding wordsFrom wordsOf
   from-cons l = ap (λ (zs : List ℤ). wordsOf (take (suc k) zs)) (drop-cons t a (pos 0) l)
 
-  pub from-snoc : a + k < length t → wordsFrom t a (suc k) ≡ wordsFrom t a k ++ (wordOf (getD t (a + k) (pos 0)) ∷ [])
+  from-snoc : a + k < length t → wordsFrom t a (suc k) ≡ wordsFrom t a k ++ (wordOf (getD t (a + k) (pos 0)) ∷ [])
   unfolding wordsFrom wordsOf
   from-snoc l =
       ap wordsOf (take-suc (drop a t) k (pos 0) (rw length-drop (omega arith)))
@@ -57,30 +57,23 @@ module _ (t : List ℤ) where
   M = modelOf t
 
   text-here : (o : ℕ) (h : List ℕ) (v i : ℕ) → findIn t ((o ∷ h) ++ (v ∷ [])) ≡ At i → textRule M (o ∷ h) v .points ≡ probabilityAt t i
-  unfolding textRule
+  unfolding textRule foundRow
   text-here o h v i e =
       let f : findIn t (reverse (v ∷ reverse (o ∷ h))) ≡ At i = ap (findIn t) (turned (o ∷ h) v) ∙ e in
       rw (listed-by t (v ∷ reverse (o ∷ h)) (At i) f) (probability-by t (v ∷ reverse (o ∷ h)) (At i) f)
 
-  backoff-turned : (h : List ℕ) → backoff M (reverse h) ≡ filledBackoff t (findIn t h)
-  backoff-turned h = go (findIn t h) refl
-    where
-      go : (f : Found) → findIn t h ≡ f → backoff M (reverse h) ≡ filledBackoff t f
-      go (At i) e = backoff-by t (reverse h) (At i) (ap (findIn t) (reverse-reverse h) ∙ e)
-      go Nothing e = backoff-by t (reverse h) Nothing (ap (findIn t) (reverse-reverse h) ∙ e)
-
-  text-down : (o : ℕ) (h : List ℕ) (v : ℕ) → findIn t ((o ∷ h) ++ (v ∷ [])) ≡ Nothing → textRule M (o ∷ h) v .points ≡ filledBackoff t (findIn t (o ∷ h)) +ℤ textRule M h v .points
+  text-down : (o : ℕ) (h : List ℕ) (v : ℕ) → findIn t ((o ∷ h) ++ (v ∷ [])) ≡ Nothing → textRule M (o ∷ h) v .points ≡ foundRow t (findIn t (o ∷ h)) .b +ℤ textRule M h v .points
   unfolding textRule addPoints
   text-down o h v e =
       let f : findIn t (reverse (v ∷ reverse (o ∷ h))) ≡ Nothing = ap (findIn t) (turned (o ∷ h) v) ∙ e in
-      rw (listed-by t (v ∷ reverse (o ∷ h)) Nothing f) (ap (λ (z : ℤ). z +ℤ textRule M h v .points) (backoff-turned (o ∷ h)))
+      rw (listed-by t (v ∷ reverse (o ∷ h)) Nothing f) (ap (λ (z : ℤ). z +ℤ textRule M h v .points) (sym (entry-backoff t (o ∷ h))))
 
   text-single : (v i : ℕ) → findIn t (v ∷ []) ≡ At i → textRule M [] v .points ≡ probabilityAt t i
-  unfolding textRule
+  unfolding textRule foundRow
   text-single v i e = probability-by t (v ∷ []) (At i) e
 
   -- the points at the places are the rule's, where the last word is listed alone
-  pub place-text : (k a i : ℕ) → a + k < length t → findIn t (wordOf (getD t (a + k) (pos 0)) ∷ []) ≡ At i → placePoints t a (suc k) ≡ textRule M (wordsFrom t a k) (wordOf (getD t (a + k) (pos 0))) .points
+  place-text : (k a i : ℕ) → a + k < length t → findIn t (wordOf (getD t (a + k) (pos 0)) ∷ []) ≡ At i → placePoints t a (suc k) ≡ textRule M (wordsFrom t a k) (wordOf (getD t (a + k) (pos 0))) .points
   unfolding placePoints
   place-text zero a i l e =
       let v = wordOf (getD t (a + 0) (pos 0)) in
@@ -109,11 +102,11 @@ module _ (t : List ℤ) where
       whole = from-snoc t a (suc k) l ∙ ap (λ (ws : List ℕ). ws ++ (v ∷ [])) cons
 
       go : (f : Found) → findIn t (wordsFrom t a (suc (suc k))) ≡ f → placePoints t (suc a) (suc k) ≡ textRule M h (wordOf (getD t (suc a + k) (pos 0))) .points
-          → pointsBy t (findIn t (wordsFrom t a (suc (suc k)))) (filledBackoff t (findIn t (wordsFrom t a (suc k)))) (placePoints t (suc a) (suc k)) ≡ textRule M (wordsFrom t a (suc k)) v .points
+          → pointsBy t (findIn t (wordsFrom t a (suc (suc k)))) (foundRow t (findIn t (wordsFrom t a (suc k))) .b) (placePoints t (suc a) (suc k)) ≡ textRule M (wordsFrom t a (suc k)) v .points
       go (At j) q ih = rw (q, cons) (sym (text-here o h v j (ap (findIn t) (sym whole) ∙ q)))
       go Nothing q ih =
           rw (q, cons)
-          (ap (λ (z : ℤ). filledBackoff t (findIn t (o ∷ h)) +ℤ z) (ih ∙ ap (λ (b : ℕ). textRule M h (wordOf (getD t b (pos 0))) .points) same)
+          (ap (λ (z : ℤ). foundRow t (findIn t (o ∷ h)) .b +ℤ z) (ih ∙ ap (λ (b : ℕ). textRule M h (wordOf (getD t b (pos 0))) .points) same)
           ∙ sym (text-down o h v (ap (findIn t) (sym whole) ∙ q)))
 
 -- ---- the words of an end are listed, so none is replaced
@@ -158,7 +151,7 @@ module _ (t : List ℤ) (a : verdictFor true t ≡ Accepted) where
 
   -- ---- so the points of an end are the rule's in the order of the text
 
-  pub end-text : (h : List ℕ) (v : ℕ) → EndOf t (h ++ (v ∷ [])) → addedProbability t (h ++ (v ∷ [])) ≡ textRule (modelOf t) h v .points
+  end-text : (h : List ℕ) (v : ℕ) → EndOf t (h ++ (v ∷ [])) → addedProbability t (h ++ (v ∷ [])) ≡ textRule (modelOf t) h v .points
   unfolding addedProbability ownPoints
   end-text h v e =
       ap (ownPoints (modelOf t)) back
@@ -183,7 +176,7 @@ module _ (t : List ℤ) (a : verdictFor true t ≡ Accepted) where
           omega (arith, reach-is, length-reverse h, length-append h (v ∷ []))
 
   -- the last m words of row i, which has k words, where they stand
-  pub place-points : (i k m : ℕ) → i < rowsOf t → k ≡ lengthOf t i → 0 < m → m ≤ k → placePoints t (8 * i + (k + 1) - m) m ≡ addedProbability t (lastWords t i m)
+  place-points : (i k m : ℕ) → i < rowsOf t → k ≡ lengthOf t i → 0 < m → m ≤ k → placePoints t (8 * i + (k + 1) - m) m ≡ addedProbability t (lastWords t i m)
   place-points i k zero l e s h = absurd (omega arith)
   place-points i k (suc m) l e s h =
       place-text t m at (x .at) (let b = row-in t i l in let n = length-limit t i in omega arith) (single-found v x)

@@ -1,4 +1,4 @@
--- What it says of a list that filling it is not refused, and what that it is. Assumes nothing.
+-- The refusals of filling: what a list is that is filled, how the code comes to each refusal, and what a refusal means. Assumes nothing.
 use mathlib.Core.Path.{_≡_, refl, sym, ap, _∙_, subst}
 use mathlib.Core.Logic.{⊎-elim}
 use mathlib.Core.Bool.{Bool, true, false, cond, _&&_, _||_, true≢false}
@@ -11,7 +11,7 @@ use lib.ListN.{length, getD, drop}
 use lib.Seq.{drop-cons}
 use lib.IntN.{ℤ}
 use borrow.Author.Tests.{leb-true, leb-false, le-leb, lt-leb}
-use Rattle.integer.proofs.Ranges.{lt-or-ge, and-left, and-right}
+use Rattle.integer.proofs.Ranges.{lt-or-ge, and-left, and-right, and-both}
 use Rattle.backoff.specs.Limits.{rowLimit}
 use Rattle.backoff.specs.Refusal.{numberOf, placeOf, tableLength, rowProbability, shortSlice}
 use Rattle.backoff.specs.Model.{inProbability}
@@ -29,7 +29,7 @@ use Rattle.list.proofs.Meaning.{no-row, none-meets, refused-verdict}
 use Rattle.list.proofs.Check.{cond-accepted, refuse-accepted, refuse-number, accepted-refused, checked-number}
 use Rattle.filling.specs.Filled.{withoutFirstWords, addedProbability, filledRows, filledTable}
 use Rattle.filling.specs.Fill.{addable, allAddable, neededFault, sizeVerdict, neededScan, andThen, fillVerdict, filledBy, fillOutcome, IsFilled}
-use Rattle.filling.specs.Steps.{FirstNeeding, Checks}
+use Rattle.filling.specs.Steps.{NoneNeeding, FirstNeeding, Checks}
 use Rattle.filling.specs.Meaning.{OutOfRange, AllInRange, FillRefusedBy, bad-list, added-probability, too-many-rows, too-short}
 use Rattle.filling.specs.Next.{lastWords}
 use Rattle.filling.proofs.Ascending.{In}
@@ -38,7 +38,7 @@ use Rattle.filling.proofs.Next.{last-size, last-all}
 
 pub record Fills (t : List ℤ) (size : ℕ) : Type 0 where
   pub checked : verdictFor true t ≡ Accepted
-  pub needed : (i : ℕ) → i < rowsOf t → neededFault t i ≡ 0
+  pub needed : NoneNeeding t
   pub few : length (filledRows t) ≤ rowLimit
   pub fits : 8 * length (filledRows t) ≤ size
 
@@ -102,6 +102,11 @@ module _ (t : List ℤ) where
   unfolding allAddable
   each-addable (vs ∷ rows) e ws (List·Memᴰ·head q) = rw q (and-left (addable t vs) (allAddable t rows) e)
   each-addable (vs ∷ rows) e ws (List·Memᴰ·tail m) = each-addable rows (and-right (addable t vs) (allAddable t rows) e) ws m
+
+  pub all-addable : (rows : List (List ℕ)) → ((ws : List ℕ) → In ws rows → addable t ws ≡ true) → allAddable t rows ≡ true
+  unfolding allAddable
+  all-addable [] f = refl
+  all-addable (ws ∷ rows) f = and-both (addable t ws) (allAddable t rows) (f ws (List·Memᴰ·head refl)) (all-addable rows (λ vs m. f vs (List·Memᴰ·tail m)))
 
   fault-none : (b : Bool) → cond b 0 rowProbability ≡ 0 → b ≡ true
   fault-none true e = refl

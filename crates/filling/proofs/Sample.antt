@@ -20,23 +20,23 @@ unfolding between upTo sameWords inProbability inBackoff listed probability back
 computed = tt
 
 -- as it is, row 7 lacks the row 4 5
-pub pruned-refused : verdict pruned ≡ Refused 8 7
+pruned-refused : verdict pruned ≡ Refused 8 7
 unfolding computed
 pruned-refused = refl
 
-pub pruned-fills : fillVerdict pruned 64 ≡ Accepted
+pruned-fills : fillVerdict pruned 64 ≡ Accepted
 unfolding computed
 pruned-fills = refl
 
-pub pruned-too-short : fillVerdict pruned 63 ≡ Refused 15 0
+pruned-too-short : fillVerdict pruned 63 ≡ Refused 15 0
 unfolding computed
 pruned-too-short = refl
 
-pub pruned-filled : filledTable pruned ≡ prunedFilled
+pruned-filled : filledTable pruned ≡ prunedFilled
 unfolding computed
 pruned-filled = refl
 
 -- the first row that needs a p out of range, by its number in the lent list
-pub pruned-high : fillVerdict prunedHigh 64 ≡ Refused 5 7
+pruned-high : fillVerdict prunedHigh 64 ≡ Refused 5 7
 unfolding computed
 pruned-high = refl

@@ -4,8 +4,8 @@ use mathlib.Core.Bool.{true}
 use mathlib.Core.List.{List, [], _∷_, _++_, append-assoc}
 use Prim.Native.Nat.{ℕ, _+_, _-_, _*_, _≤_, _<_}
 use native.Mathlib.Omega.{arith}
-use lib.ListN.{length, getD, take, drop, set, length-take, length-drop, length-append, length-map, List·getD-eq-default, List·getD-map}
-use lib.Seq.{getD-take, getD-drop, length-take-le, ext-getD, take-at, drop-at, drop-drop, take-add, take-length}
+use lib.ListN.{length, getD, take, drop, set, length-take, length-drop, length-append, length-map, drop-of-length-le, List·getD-eq-default, List·getD-map}
+use lib.Seq.{getD-take, getD-drop, length-take-le, ext-getD, take-at, drop-at, drop-drop, take-add, take-length, sets-eq}
 use lib.IntN.{ℤ, pos}
 use Rattle.integer.specs.Integer.{between, upTo}
 use Rattle.backoff.specs.Limits.{wordLimit}
@@ -41,16 +41,9 @@ module _ (t : List ℤ) (from k j : ℕ) where
 
 -- eight numbers stored one after the other
 pub eight-set : (l : List ℤ) (a b c d e f g h : ℤ) → length l ≡ 8 → set (set (set (set (set (set (set (set l 0 a) 1 b) 2 c) 3 d) 4 e) 5 f) 6 g) 7 h ≡ a ∷ b ∷ c ∷ d ∷ e ∷ f ∷ g ∷ h ∷ []
-eight-set (x₀ ∷ x₁ ∷ x₂ ∷ x₃ ∷ x₄ ∷ x₅ ∷ x₆ ∷ x₇ ∷ []) a b c d e f g h q = refl
-eight-set [] a b c d e f g h q = absurd (omega arith)
-eight-set (x₀ ∷ []) a b c d e f g h q = absurd (omega arith)
-eight-set (x₀ ∷ x₁ ∷ []) a b c d e f g h q = absurd (omega arith)
-eight-set (x₀ ∷ x₁ ∷ x₂ ∷ []) a b c d e f g h q = absurd (omega arith)
-eight-set (x₀ ∷ x₁ ∷ x₂ ∷ x₃ ∷ []) a b c d e f g h q = absurd (omega arith)
-eight-set (x₀ ∷ x₁ ∷ x₂ ∷ x₃ ∷ x₄ ∷ []) a b c d e f g h q = absurd (omega arith)
-eight-set (x₀ ∷ x₁ ∷ x₂ ∷ x₃ ∷ x₄ ∷ x₅ ∷ []) a b c d e f g h q = absurd (omega arith)
-eight-set (x₀ ∷ x₁ ∷ x₂ ∷ x₃ ∷ x₄ ∷ x₅ ∷ x₆ ∷ []) a b c d e f g h q = absurd (omega arith)
-eight-set (x₀ ∷ x₁ ∷ x₂ ∷ x₃ ∷ x₄ ∷ x₅ ∷ x₆ ∷ x₇ ∷ y ∷ l) a b c d e f g h q = absurd (omega arith)
+eight-set l a b c d e f g h n =
+    let eight : List ℤ = a ∷ b ∷ c ∷ d ∷ e ∷ f ∷ g ∷ h ∷ [] in
+    sets-eq eight l 0 (omega arith) ∙ ap (λ (r : List ℤ). eight ++ r) (drop-of-length-le l {i = 8} (omega arith))
 
 -- eight numbers are a filled row
 pub filled-row-is : (t : List ℤ) (ws : List ℕ) (n v w x y z p b : ℤ) → n ≡ pos (length ws) → v ≡ pos (getD ws 0 0) → w ≡ pos (getD ws 1 0) → x ≡ pos (getD ws 2 0) → y ≡ pos (getD ws 3 0) → z ≡ pos (getD ws 4 0)

@@ -13,11 +13,11 @@ ghost use Rattle.backoff.specs.declared.Verdict.the-variants.{Accepted};
 ghost use Rattle.rows.specs.Table.{rowsOf, lengthOf, orderOf};
 ghost use Rattle.rows.specs.Good.{GoodRow, Good};
 ghost use Rattle.rows.specs.Keys.{keyOf};
-ghost use Rattle.row_search.specs.Search.{findIn, isAt};
+ghost use Rattle.row_search.specs.Search.{findIn, isAt, foundRow};
 ghost use Rattle.row_search.specs.ByKey.{Bracket};
 ghost use Rattle.list.specs.Check.{verdictFor};
-ghost use Rattle.filling.specs.Filled.{filledBackoff, filledRow, filledRows, filledTable};
-ghost use Rattle.filling.specs.Points.{wordsFrom, placePoints, IsRow};
+ghost use Rattle.filling.specs.Filled.{filledRow, filledRows, filledTable};
+ghost use Rattle.filling.specs.Points.{wordsFrom, placePoints};
 ghost use Rattle.filling.specs.Fill.{addable, neededFault, fillOutcome, IsFilled};
 ghost use Rattle.filling.specs.Meaning.{FillMeans};
 ghost use Rattle.filling.specs.Steps.{NoneNeeding, FirstNeeding, Counts, IsEnd, endProbability, endBackoff, Checks};
@@ -28,7 +28,7 @@ use backoff::ROW_PROBABILITY;
 use backoff::SHORT_SLICE;
 use backoff::TABLE_LENGTH;
 use backoff::Verdict;
-use row_search::Found;
+use row_search::Row;
 use row_search::Span;
 use rows::Key;
 
@@ -190,40 +190,13 @@ fn next_end(table: &[i32], n: usize, m: usize, floor: Key, near: &mut [usize; 6]
 
 // ---- p of an added row
 
-// A sequence as the list has it: p and b are 0 if it is unlisted.
-pub struct Row {
-    pub listed: bool,
-    pub p: i32,
-    pub b: i32,
-}
-
 // What the list has of the words at places `from` to `past` - 1.
 fn row_of(table: &[i32], from: usize, past: usize) -> Row
     requires { ⌜ (verdictFor true (now table) ≡ Accepted) × (from ≤ past) × (past ≤ length (now table)) × (past - from ≤ orderLimit) × (areWords (wordsFrom (now table) from (past - from)) ≡ true) ⌝ }
-    ensures { λ r. ⌜ IsRow (now (table .entry)) (wordsFrom (now (table .entry)) from (past - from)) r ⌝ }
+    ensures { λ r. ⌜ r ≡ foundRow (now (table .entry)) (findIn (now (table .entry)) (wordsFrom (now (table .entry)) from (past - from))) ⌝ }
 {
     let found = row_search::find_row(table, &table[from..past]);
-    let Found::At(i) = found else {
-        return Row {
-            listed: false,
-            p: 0,
-            b: 0,
-        };
-    };
-    Row {
-        listed: true,
-        p: rows::field(table, i, 6),
-        b: rows::field(table, i, 7),
-    }
-}
-
-// The back-off of the words at places `from` to `past` - 1, 0 where they are no row.
-fn backoff_of(table: &[i32], from: usize, past: usize) -> i32
-    requires { ⌜ (verdictFor true (now table) ≡ Accepted) × (from ≤ past) × (past ≤ length (now table)) × (past - from ≤ orderLimit) × (areWords (wordsFrom (now table) from (past - from)) ≡ true) ⌝ }
-    ensures { λ r. ⌜ r ≡ filledBackoff (now (table .entry)) (findIn (now (table .entry)) (wordsFrom (now (table .entry)) from (past - from))) ⌝ }
-{
-    let row = row_of(table, from, past);
-    row.b
+    row_search::found_row(table, found)
 }
 
 // The points of the last of the words at places `from` to `past` - 1, after the others: they are no row.
@@ -234,7 +207,7 @@ fn end_points(table: &[i32], from: usize, past: usize) -> i32
     let mut owed: i32 = 0;
     let mut at = from;
     while at < past {
-        owed += backoff_of(table, at, past - 1);
+        owed += row_of(table, at, past - 1).b;
         at += 1;
         let row = row_of(table, at, past);
         if row.listed {

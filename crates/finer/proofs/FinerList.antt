@@ -11,15 +11,16 @@ use lib.ListN.{length, getD, take, drop, length-take}
 use borrow.Author.Tests.{le-leb, lt-leb}
 use Rattle.integer.specs.Integer.{upTo}
 use Rattle.integer.proofs.Arithmetic.{zarith, mul}
-use Rattle.integer.proofs.Ranges.{between-low, between-high, between-yes, upTo-le}
+use Rattle.integer.proofs.Ranges.{between-low, between-high, between-yes}
 use Rattle.backoff.specs.Limits.{orderLimit, leastProbability, largestBackoff, unknownWord, startWord, endWord}
 use Rattle.backoff.specs.Words.{sameWords}
 use Rattle.backoff.specs.Model.{inProbability, inBackoff}
 use Rattle.backoff.specs.Refusal.{wordCount}
 use Rattle.backoff.specs.declared.Verdict.{Verdict}
 use Rattle.backoff.proofs.Model.{model-ext}
-use Rattle.rows.specs.Table.{rowsOf, field, probabilityAt, backoffAt, lengthOf, orderOf, wordsOf, words, withoutFirst, withoutLast, lastWord, placeFits, placesFit}
+use Rattle.rows.specs.Table.{rowsOf, field, probabilityAt, backoffAt, lengthOf, orderOf, wordsOf, words, withoutFirst, withoutLast, lastWord}
 use Rattle.rows.specs.Order.{precedes}
+use Rattle.rows.proofs.Table.{length-limit, same-places}
 use Rattle.row_search.specs.Search.{findBelow, findIn, isAt}
 use Rattle.row_search.specs.declared.Found.{Found}
 use Rattle.row_search.specs.declared.Found.the-variants.{At, Nothing}
@@ -97,10 +98,6 @@ module _ (k : ℕ) (t : List ℤ) where
   unfolding orderOf
   orderOf-times = lengthOf-times (rowsOf u - 1) ∙ ap (λ (n : ℕ). lengthOf t (n - 1)) rows-times
 
-  few : (i : ℕ) → lengthOf t i ≤ 5
-  unfolding lengthOf
-  few i = upTo-le orderLimit (field t i 0)
-
   -- words stay
   part-stays : (a m : ℕ) → a % 8 + m ≤ 6 → take m (drop a u) ≡ take m (drop a t)
   unfolding timesList
@@ -110,21 +107,21 @@ module _ (k : ℕ) (t : List ℤ) where
 
   pub words-times : words u ≡ words t
   unfolding words
-  words-times = λ p i. (ap (λ (n : ℕ). wordsOf (take n (drop (8 * i + 1) u))) (lengthOf-times i) ∙ ap wordsOf (part-stays (8 * i + 1) (lengthOf t i) (omega (arith, few i)))) p
+  words-times = λ p i. (ap (λ (n : ℕ). wordsOf (take n (drop (8 * i + 1) u))) (lengthOf-times i) ∙ ap wordsOf (part-stays (8 * i + 1) (lengthOf t i) (omega (arith, length-limit t i)))) p
 
   withoutFirst-times : withoutFirst u ≡ withoutFirst t
   unfolding withoutFirst
   withoutFirst-times = λ p i.
-      (ap (λ (n : ℕ). wordsOf (take (n - 1) (drop (8 * i + 2) u))) (lengthOf-times i) ∙ ap wordsOf (part-stays (8 * i + 2) (lengthOf t i - 1) (omega (arith, few i)))) p
+      (ap (λ (n : ℕ). wordsOf (take (n - 1) (drop (8 * i + 2) u))) (lengthOf-times i) ∙ ap wordsOf (part-stays (8 * i + 2) (lengthOf t i - 1) (omega (arith, length-limit t i)))) p
 
   withoutLast-times : withoutLast u ≡ withoutLast t
   unfolding withoutLast
   withoutLast-times = λ p i.
-      (ap (λ (n : ℕ). wordsOf (take (n - 1) (drop (8 * i + 1) u))) (lengthOf-times i) ∙ ap wordsOf (part-stays (8 * i + 1) (lengthOf t i - 1) (omega (arith, few i)))) p
+      (ap (λ (n : ℕ). wordsOf (take (n - 1) (drop (8 * i + 1) u))) (lengthOf-times i) ∙ ap wordsOf (part-stays (8 * i + 1) (lengthOf t i - 1) (omega (arith, length-limit t i)))) p
 
   lastWord-times : (i : ℕ) → lastWord u i ≡ lastWord t i
   unfolding lastWord
-  lastWord-times i = ap (λ (n : ℕ). wordsOf (take 1 (drop (8 * i + n) u))) (lengthOf-times i) ∙ ap wordsOf (part-stays (8 * i + lengthOf t i) 1 (omega (arith, few i)))
+  lastWord-times i = ap (λ (n : ℕ). wordsOf (take 1 (drop (8 * i + n) u))) (lengthOf-times i) ∙ ap wordsOf (part-stays (8 * i + lengthOf t i) 1 (omega (arith, length-limit t i)))
 
   -- ---- what is found
 
@@ -172,15 +169,6 @@ module _ (k : ℕ) (some-k : 0 < k) (t : List ℤ) (R : SameRanges k t) where
   abbrev v : List ℤ
   v = timesList k t
 
-  placeFits-times : (i j : ℕ) → j < 6 → placeFits v i j ≡ placeFits t i j
-  unfolding placeFits
-  placeFits-times i j h = rw (lengthOf-times k t i, field-stays k t i j h) refl
-
-  placesFit-times : (i j n : ℕ) → j + n ≤ 6 → placesFit v i j n ≡ placesFit t i j n
-  unfolding placesFit
-  placesFit-times i j zero h = refl
-  placesFit-times i j (suc n) h = ap₂ _&&_ (placeFits-times i j (omega arith)) (placesFit-times i (suc j) n (omega arith))
-
   backoffFits-times : (n i : ℕ) → i < rowsOf t → backoffFits v n i ≡ backoffFits t n i
   unfolding backoffFits
   backoffFits-times n i h =
@@ -189,7 +177,7 @@ module _ (k : ℕ) (some-k : 0 < k) (t : List ℤ) (R : SameRanges k t) where
   fieldFault-times : (n i : ℕ) → i < rowsOf t → fieldFault v n i ≡ fieldFault t n i
   unfolding fieldFault
   fieldFault-times n i h =
-      rw (lengthOf-times k t i, placesFit-times i 1 orderLimit (omega arith), field-times k t i 6 (omega arith) (omega arith), R .in-probability i h, backoffFits-times n i h) refl
+      rw (lengthOf-times k t i, same-places v t i i (field-stays k t i) 1 orderLimit (omega arith), field-times k t i 6 (omega arith) (omega arith), R .in-probability i h, backoffFits-times n i h) refl
 
   isAfter-times : (i : ℕ) → isAfter v i ≡ isAfter t i
   unfolding isAfter

@@ -123,12 +123,12 @@ module _ (k : ℕ) (M : Model) where
   unfolding ruleByte timesScore
   ruleByte-times h w = ap₂ (λ (s : Score) (f : ℕ → ℕ). lengthByte (s .matched) (f w) (s .extended)) (rule-times h w) replaced-times
 
-  pub rulePoints-times : (h ws : List ℕ) → rulePoints N h ws ≡ map (times k) (rulePoints M h ws)
+  rulePoints-times : (h ws : List ℕ) → rulePoints N h ws ≡ map (times k) (rulePoints M h ws)
   unfolding rulePoints grow timesScore
   rulePoints-times h [] = refl
   rulePoints-times h (w ∷ ws) = ap₂ (λ (z : ℤ) (zs : List ℤ). z ∷ zs) (ap (λ (s : Score). s .points) (rule-times h w)) (rulePoints-times (grow M h w) ws)
 
-  pub ruleBytes-times : (h ws : List ℕ) → ruleBytes N h ws ≡ ruleBytes M h ws
+  ruleBytes-times : (h ws : List ℕ) → ruleBytes N h ws ≡ ruleBytes M h ws
   unfolding ruleBytes grow
   ruleBytes-times h [] = refl
   ruleBytes-times h (w ∷ ws) = ap₂ (λ (b : ℕ) (bs : List ℕ). b ∷ bs) (ruleByte-times h w) (ruleBytes-times (grow M h w) ws)
@@ -206,22 +206,22 @@ module _ (k : ℕ) (M : Model) where
     unfolding timesState
     empty-times = refl
 
-    pub stepPoints-times : (s : State) (w : ℕ) → stepPoints N (timesState k s) w ≡ times k (stepPoints M s w)
+    stepPoints-times : (s : State) (w : ℕ) → stepPoints N (timesState k s) w ≡ times k (stepPoints M s w)
     unfolding stepPoints
     stepPoints-times s w = ap (λ (f : ℕ → ℕ). pointsFrom N (timesState k s) (f w)) replaced-times ∙ pointsFrom-times s (replaced M w)
 
-    pub stepByte-times : (s : State) (w : ℕ) → stepByte N (timesState k s) w ≡ stepByte M s w
+    stepByte-times : (s : State) (w : ℕ) → stepByte N (timesState k s) w ≡ stepByte M s w
     unfolding stepByte
     stepByte-times s w =
         ap (λ (f : ℕ → ℕ). lengthByte (matchedFrom N (timesState k s) (f w)) (f w) (extendedFrom N (timesState k s) (f w))) replaced-times
         ∙ ap₂ (λ (n : ℕ) (e : Bool). lengthByte n (replaced M w) e) (matchedFrom-times s (replaced M w)) (extendedFrom-times s (replaced M w))
 
-    pub start-times : start N ≡ timesState k (start M)
+    start-times : start N ≡ timesState k (start M)
     unfolding start
     start-times =
         ap₂ (λ (s : State) (f : ℕ → ℕ). nextFrom N s (f startWord)) (sym empty-times) replaced-times ∙ nextFrom-times empty (replaced M startWord)
 
-    pub stepNext-times : (s : State) (w : ℕ) → stepNext N (timesState k s) w ≡ timesState k (stepNext M s w)
+    stepNext-times : (s : State) (w : ℕ) → stepNext N (timesState k s) w ≡ timesState k (stepNext M s w)
     unfolding stepNext
     stepNext-times s w = go (eqb w endWord)
       where
@@ -237,7 +237,7 @@ module _ (k : ℕ) (M : Model) where
     runPoints-times s (w ∷ ws) =
         ap₂ (λ (z : ℤ) (zs : List ℤ). z ∷ zs) (stepPoints-times s w) (ap (λ (t : State). runPoints N t ws) (stepNext-times s w) ∙ runPoints-times (stepNext M s w) ws)
 
-    pub runBytes-times : (s : State) (ws : List ℕ) → runBytes N (timesState k s) ws ≡ runBytes M s ws
+    runBytes-times : (s : State) (ws : List ℕ) → runBytes N (timesState k s) ws ≡ runBytes M s ws
     unfolding runBytes
     runBytes-times s [] = refl
     runBytes-times s (w ∷ ws) =
@@ -248,7 +248,7 @@ module _ (k : ℕ) (M : Model) where
     runEnd-times s [] = refl
     runEnd-times s (w ∷ ws) = ap (λ (t : State). runEnd N t ws) (stepNext-times s w) ∙ runEnd-times (stepNext M s w) ws
 
-    pub first-times : (b : Bool) → first N b ≡ timesState k (first M b)
+    first-times : (b : Bool) → first N b ≡ timesState k (first M b)
     unfolding first
     first-times true = start-times
     first-times false = sym empty-times
@@ -319,16 +319,16 @@ module _ {S : Type 0} (k : ℕ) (scale : S → S) (call finer : Call S) (each : 
   times-more s {r} {q} a g =
       let one = each s r q a in
       record {
-        numbers = ap₂ (λ (x : ℕ) (l : List ℕ). x ∷ l) (one .number) (g .numbers);
-        places = ap₂ (λ (x : ℕ) (l : List ℕ). x ∷ l) (one .place) (g .places);
-        totals = ap₂ (λ (x : ℤ) (l : List ℤ). x ∷ l) (one .total) (g .totals);
-        ends = ap₂ (λ (x : S) (l : List S). x ∷ l) (one .end) (g .ends);
+        numbers = ap₂ _∷_ (one .number) (g .numbers);
+        places = ap₂ _∷_ (one .place) (g .places);
+        totals = ap₂ _∷_ (one .total) (g .totals);
+        ends = ap₂ _∷_ (one .end) (g .ends);
         last = g .last;
-        points = ap₂ (λ (x : List ℤ) (l : List (List ℤ)). x ∷ l) (one .points) (g .points);
-        lengths = ap₂ (λ (x : List ℕ) (l : List (List ℕ)). x ∷ l) (one .lengths) (g .lengths);
+        points = ap₂ _∷_ (one .points) (g .points);
+        lengths = ap₂ _∷_ (one .lengths) (g .lengths);
       }
 
-  pub runs-times : (s : S) {rs qs : List Run} → AllAlike rs qs → ScoreTimes k scale call finer s (scale s) rs qs
+  runs-times : (s : S) {rs qs : List Run} → AllAlike rs qs → ScoreTimes k scale call finer s (scale s) rs qs
   unfolding answers lastState standingPoints standingLengths
   runs-times s done = record { numbers = refl; places = refl; totals = refl; ends = refl; last = refl; points = refl; lengths = refl }
   runs-times s (more {r = r} {q = q} {rs = rs} {qs = qs} a l) =

@@ -1,7 +1,6 @@
 -- The rows of a node's children, passed one by one: their first words, whether their slots are free, how far they reach, and the stores of their slots.
 -- Assumes nothing.
 use mathlib.Core.Path.{_≡_, refl, sym, ap, _∙_, subst}
-use mathlib.Core.Logic.{_≢_}
 use mathlib.Core.Bool.{Bool, true, false, _&&_, false≢true}
 use mathlib.Core.List.{List, [], _∷_, List·Memᴰ, List·Memᴰ·head, List·Memᴰ·tail}
 use Prim.Native.Nat.{ℕ, zero, suc, _+_, _-_, _≤_, _<_, max}
@@ -13,6 +12,7 @@ use lib.ListN.{length, getD, set, length-set}
 use lib.Seq.{getD-set-same, getD-set-other}
 use borrow.Author.Count.{below-more}
 use Rattle.double_array.specs.DoubleArray.{childSlot}
+use Rattle.double_array.proofs.DoubleArray.{slots-apart, marker-apart}
 use Rattle.rows.specs.Table.{rowsOf, field, wordOf}
 use Rattle.placing.specs.Placing.{Room, isFree, isOpen, allOpen, update, own, topWith}
 use Rattle.placing.proofs.FirstFit.{isFree-yes, open-told, all-open-at}
@@ -92,7 +92,7 @@ module _ (t : List ℤ) (i n : ℕ) where
     reach-step l = rw (oldest-step l)
 
     -- a child that is left lies within what those left reach
-    pub reach-first : (N : ℕ) → i < n → topWith 0 behind d left ≤ N → (childSlot behind d word < N) × (topWith 0 behind d rest ≤ N)
+    reach-first : (N : ℕ) → i < n → topWith 0 behind d left ≤ N → (childSlot behind d word < N) × (topWith 0 behind d rest ≤ N)
     reach-first N l h = omega (arith, reach-step l)
 
     own-step : (s : ℕ) (c : Room) → i < n → own behind d s left c ≡ own behind d s rest (update c (childSlot behind d word) (pos s))
@@ -153,15 +153,6 @@ slots-open c false d rows e = record { room = λ q. absurd (false≢true q) }
 
 -- ---- the loops that write what a node gives its children
 
--- no child's slot is d, and no two are one
-off-d : (behind : Bool) (d w : ℕ) → 1 ≤ d → 1 ≤ w → d ≢ childSlot behind d w
-off-d true d w k l e = absurd (omega arith)
-off-d false d w k l e = absurd (omega arith)
-
-one-word : (behind : Bool) (d v w : ℕ) → 1 ≤ childSlot behind d v → 1 ≤ childSlot behind d w → childSlot behind d v ≡ childSlot behind d w → v ≡ w
-one-word true d v w k l e = omega arith
-one-word false d v w k l e = omega arith
-
 -- the slices while the children's slots are taken: those left lead to the same room
 pub record Owning (N : ℕ) (b c₀ : Room) (rows : List ℤ) (behind : Bool) (d s : ℕ) (base check : List ℤ) (i : ℕ) : Type 0 where
   pub c : Room
@@ -194,7 +185,7 @@ module _ {N : ℕ} {b c₀ : Room} {rows : List ℤ} {behind : Bool} {d s : ℕ}
     abbrev t : ℕ
     t = childSlot behind d (wordOf (field rows i 1))
 
-    pub owning-inside : t < N
+    owning-inside : t < N
     owning-inside = reach-first rows i (rowsOf rows) behind d N l (o .room) .0
 
     pub owning-takes : Takes base check t (pos s)
@@ -220,10 +211,10 @@ module _ {N : ℕ} {b c₀ : Room} {rows : List ℤ} {behind : Bool} {d s : ℕ}
       positive = o .positive;
       left = λ k m h.
           ap isFree (update-other (o .c) t (pos s) (childSlot behind d (wordOf (field rows k 1)))
-          (λ e. absurd (omega (arith, A .rising i k (omega arith) h, one-word behind d (wordOf (field rows k 1)) (wordOf (field rows i 1)) (o .positive k h) (o .positive i l) e))))
+          (λ e. absurd (omega (arith, A .rising i k (omega arith) h, slots-apart behind behind d (wordOf (field rows k 1)) (wordOf (field rows i 1)) (A .positive k h) (A .positive i l) (o .positive k h) (o .positive i l) e .1))))
           ∙ o .left k (omega arith) h;
       d-positive = o .d-positive;
-      d-free = ap isFree (update-other (o .c) t (pos s) d (off-d behind d (wordOf (field rows i 1)) (o .d-positive) (A .positive i l))) ∙ o .d-free;
+      d-free = ap isFree (update-other (o .c) t (pos s) d (marker-apart behind d (wordOf (field rows i 1)) (o .d-positive) (A .positive i l))) ∙ o .d-free;
       taken = ap isFree (update-other (o .c) t (pos s) s (λ e. false≢true (sym (o .taken) ∙ ap (λ (x : ℕ). isFree (o .c x)) e ∙ free))) ∙ o .taken;
     }
       where

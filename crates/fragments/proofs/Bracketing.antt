@@ -98,13 +98,17 @@ module _ (S : Store) (W : Whole S) (A : AcceptedModel (modelIn S)) where
       go (inl many) = ([], ap (λ (j : Joined). j .fragment) (fragmentOutcome-too-many S W A ws many) ∙ ap toNumbers (nothing-scored S W A))
       go (inr few) = (ws, ap (λ (j : Joined). j .fragment) (fragmentOutcome-is S W A ws few))
 
-  -- whatever is refused in a bracketing, it comes to the scoring of some words
-  evaluate-scores : (t : Bracketing) → (ws : List ℕ) × (evaluate (some S) t ≡ fragmentOutcome (some S) ws)
+  -- the scoring of some words
+  abbrev Scoring : Joined → Type 0
+  Scoring j = (ws : List ℕ) × (j ≡ fragmentOutcome (some S) ws)
+
+  -- whatever is refused in a bracketing, it comes to one
+  evaluate-scores : (t : Bracketing) → Scoring (evaluate (some S) t)
   unfolding evaluate
   evaluate-scores (piece ws) = (ws, refl)
   evaluate-scores (both t u) = go (evaluate-scores t) (evaluate-scores u)
     where
-      go : ((ws : List ℕ) × (evaluate (some S) t ≡ fragmentOutcome (some S) ws)) → ((ws : List ℕ) × (evaluate (some S) u ≡ fragmentOutcome (some S) ws)) → (ws : List ℕ) × (evaluate (some S) (both t u) ≡ fragmentOutcome (some S) ws)
+      go : Scoring (evaluate (some S) t) → Scoring (evaluate (some S) u) → Scoring (evaluate (some S) (both t u))
       go (us, e) (vs, f) = (
         returned-scored us .0 ++ returned-scored vs .0,
         ap₂ (λ (a b : Numbers). joinOutcome (some S) a b) (ap (λ (j : Joined). j .fragment) e ∙ returned-scored us .1) (ap (λ (j : Joined). j .fragment) f ∙ returned-scored vs .1)
@@ -115,7 +119,7 @@ module _ (S : Store) (W : Whole S) (A : AcceptedModel (modelIn S)) where
   pub bracketings-pass : (t : Bracketing) → fragmentOk (S .order) (fragmentIn (evaluate (some S) t .fragment)) ≡ true
   bracketings-pass t = go (evaluate-scores t)
     where
-      go : ((ws : List ℕ) × (evaluate (some S) t ≡ fragmentOutcome (some S) ws)) → fragmentOk (S .order) (fragmentIn (evaluate (some S) t .fragment)) ≡ true
+      go : Scoring (evaluate (some S) t) → fragmentOk (S .order) (fragmentIn (evaluate (some S) t .fragment)) ≡ true
       go (ws, e) =
           let us = returned-scored ws .0 in
           ap (λ (f : Numbers). fragmentOk (S .order) (fragmentIn f)) (ap (λ (j : Joined). j .fragment) e ∙ returned-scored ws .1)
@@ -126,7 +130,7 @@ module _ (S : Store) (W : Whole S) (A : AcceptedModel (modelIn S)) where
   pub only-too-many-refused : (t : Bracketing) → (evaluate (some S) t .number ≡ 0) ⊎ (evaluate (some S) t ≡ crossed (refusedBy wordCount 0))
   only-too-many-refused t = go (evaluate-scores t)
     where
-      go : ((ws : List ℕ) × (evaluate (some S) t ≡ fragmentOutcome (some S) ws)) → (evaluate (some S) t .number ≡ 0) ⊎ (evaluate (some S) t ≡ crossed (refusedBy wordCount 0))
+      go : Scoring (evaluate (some S) t) → (evaluate (some S) t .number ≡ 0) ⊎ (evaluate (some S) t ≡ crossed (refusedBy wordCount 0))
       go (ws, e) = by-length (lt-or-ge runLimit (length ws))
         where
           by-length : (runLimit < length ws) ⊎ (length ws ≤ runLimit) → (evaluate (some S) t .number ≡ 0) ⊎ (evaluate (some S) t ≡ crossed (refusedBy wordCount 0))
@@ -155,13 +159,17 @@ module _ (S : Store) (W : Whole S) (A : AcceptedModel (modelIn S)) where
       ap (λ (s : State). toNumbers (packed (noWords s))) (start-is-after M A)
       ∙ ap (λ (f : Fragment State). toNumbers (packed f)) (sym (no-words-scored M (after M (startWord ∷ []))))
 
-  -- whatever is refused in it, it comes to words that are scored after some history, and so does not meet 21
-  since-scores : (x : Begun) → (h : List ℕ) × ((ws : List ℕ) × (evaluateSince (some S) (nine (start M)) x .fragment ≡ toNumbers (packed (fragmentFrom M (after M h) ws))))
+  -- words that are scored after some history
+  abbrev ScoredAfter : Numbers → Type 0
+  ScoredAfter f = (h : List ℕ) × ((ws : List ℕ) × (f ≡ toNumbers (packed (fragmentFrom M (after M h) ws))))
+
+  -- whatever is refused in it, it comes to such, and so does not meet 21
+  since-scores : (x : Begun) → ScoredAfter (evaluateSince (some S) (nine (start M)) x .fragment)
   unfolding evaluateSince
   since-scores at-start = (startWord ∷ [], ([], begun-scores))
   since-scores (onto x t) = go (since-scores x) (evaluate-scores t)
     where
-      go : ((h : List ℕ) × ((ws : List ℕ) × (evaluateSince (some S) (nine (start M)) x .fragment ≡ toNumbers (packed (fragmentFrom M (after M h) ws))))) → ((ws : List ℕ) × (evaluate (some S) t ≡ fragmentOutcome (some S) ws)) → (h : List ℕ) × ((ws : List ℕ) × (joinOutcome (some S) (evaluateSince (some S) (nine (start M)) x .fragment) (evaluate (some S) t .fragment) .fragment ≡ toNumbers (packed (fragmentFrom M (after M h) ws))))
+      go : ScoredAfter (evaluateSince (some S) (nine (start M)) x .fragment) → Scoring (evaluate (some S) t) → ScoredAfter (joinOutcome (some S) (evaluateSince (some S) (nine (start M)) x .fragment) (evaluate (some S) t .fragment) .fragment)
       go (h, (us, e)) (ws, f) = by-length (lt-or-ge runLimit (length (us ++ vs)))
         where
           vs : List ℕ
@@ -170,14 +178,14 @@ module _ (S : Store) (W : Whole S) (A : AcceptedModel (modelIn S)) where
           joined : joinOutcome (some S) (evaluateSince (some S) (nine (start M)) x .fragment) (evaluate (some S) t .fragment) ≡ joinOutcome (some S) (toNumbers (packed (fragmentFrom M (after M h) us))) (toNumbers (packed (fragmentOf M vs)))
           joined = ap₂ (λ (a b : Numbers). joinOutcome (some S) a b) e (ap (λ (j : Joined). j .fragment) f ∙ returned-scored ws .1)
 
-          by-length : (runLimit < length (us ++ vs)) ⊎ (length (us ++ vs) ≤ runLimit) → (h : List ℕ) × ((ws : List ℕ) × (joinOutcome (some S) (evaluateSince (some S) (nine (start M)) x .fragment) (evaluate (some S) t .fragment) .fragment ≡ toNumbers (packed (fragmentFrom M (after M h) ws))))
+          by-length : (runLimit < length (us ++ vs)) ⊎ (length (us ++ vs) ≤ runLimit) → ScoredAfter (joinOutcome (some S) (evaluateSince (some S) (nine (start M)) x .fragment) (evaluate (some S) t .fragment) .fragment)
           by-length (inl many) = ([], ([], ap (λ (j : Joined). j .fragment) (joined ∙ joined-many S W A h us vs many) ∙ ap toNumbers (nothing-scored S W A ∙ ap packed (fragmentOf-is M []))))
           by-length (inr few) = (h, (us ++ vs, ap (λ (j : Joined). j .fragment) (joined ∙ joined-few S W A h us vs few)))
 
   pub since-passes : (x : Begun) → fragmentOk (S .order) (fragmentIn (evaluateSince (some S) (nine (start M)) x .fragment)) ≡ true
   since-passes x = go (since-scores x)
     where
-      go : ((h : List ℕ) × ((ws : List ℕ) × (evaluateSince (some S) (nine (start M)) x .fragment ≡ toNumbers (packed (fragmentFrom M (after M h) ws))))) → fragmentOk (S .order) (fragmentIn (evaluateSince (some S) (nine (start M)) x .fragment)) ≡ true
+      go : ScoredAfter (evaluateSince (some S) (nine (start M)) x .fragment) → fragmentOk (S .order) (fragmentIn (evaluateSince (some S) (nine (start M)) x .fragment)) ≡ true
       go (h, (ws, e)) =
           ap (λ (f : Numbers). fragmentOk (S .order) (fragmentIn f)) e
           ∙ ap (fragmentOk (S .order)) (packed-back (fragmentFrom M (after M h) ws) (few-kept S W A (after M h) ws))

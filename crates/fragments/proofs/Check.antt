@@ -1,25 +1,27 @@
--- Check 21, test by test; no fragment of words that are scored after a history, or without one, meets it. Assumes nothing.
+-- Check 21, test by test, and what it leaves of a fragment; no fragment of words that are scored after a history, or without one, meets it. Assumes nothing.
 use mathlib.Core.Path.{_≡_, ap, _∙_}
 use mathlib.Core.Bool.{Bool, true, _&&_, and-assoc, and-true}
 use mathlib.Core.List.{List, [], _∷_}
-use Prim.Native.Nat.{ℕ, _*_, _-_, min}
+use Prim.Native.Nat.{ℕ, _*_, _-_, _≤_, min}
+use native.Mathlib.Nat.{mul-le-mul-left, mul-le-mul-right}
 use native.Mathlib.Omega.{arith}
-use lib.ListN.{length-take}
-use lib.IntN.{natAbs}
+use lib.ListN.{length, length-take}
+use lib.IntN.{ℤ, natAbs}
 use lib.Dec.{eqb, leb}
-use borrow.Author.Tests.{eq-eqb, le-leb}
-use Rattle.backoff.specs.Limits.{largestBackoff}
+use borrow.Author.Tests.{eq-eqb, le-leb, leb-true, eqb-true}
+use Rattle.backoff.specs.Limits.{orderLimit, largestBackoff}
 use Rattle.backoff.specs.Model.{Model, AcceptedModel, reach}
 use Rattle.backoff.specs.Rule.{history}
 use Rattle.backoff.specs.State.{State, after}
 use Rattle.backoff.specs.NineNumbers.{all, nine, stateOk}
-use Rattle.backoff.proofs.NineNumbers.{after-bounded, after-ok}
+use Rattle.backoff.proofs.NineNumbers.{passed, after-bounded, after-ok}
 use Rattle.backoff.proofs.Run.{runEnd-is-after}
 use Rattle.backoff.proofs.Sizes.{runPoints-size}
 use Rattle.carried_state.specs.Numbers.{numbersOf}
 use Rattle.fragments.specs.declared.Fragment.{Fragment as Numbers}
-use Rattle.fragments.specs.Fragment.{packed, fragmentOk, fragmentFrom, fragmentOf}
+use Rattle.fragments.specs.Fragment.{Fragment, packed, fragmentOk, fragmentFrom, fragmentOf}
 use Rattle.fragments.specs.Outcome.{fragmentIn}
+use Rattle.fragments.specs.Inner.{mostPoints}
 use Rattle.fragments.proofs.Join.{fragmentOf-is}
 use Rattle.fragments.proofs.Crossing.{length-keptIn}
 
@@ -44,3 +46,19 @@ module _ (M : Model) (A : AcceptedModel M) where
 pub fragmentOk-tests : (n : ℕ) (f : Numbers) → fragmentOk n (fragmentIn f) ≡ ((eqb (f .kept) (min (n - 1) (f .count)) && stateOk n (numbersOf (f .state))) && leb (natAbs (f .total)) (f .count * (n * largestBackoff)))
 unfolding fragmentOk all
 fragmentOk-tests n f = rw (length-keptIn (f .kept) (f .first)) (simp (and-assoc, and-true))
+
+-- what it leaves of a fragment
+module _ (n : ℕ) (f : Fragment (List ℤ)) (ok : fragmentOk n f ≡ true) where
+  pub kept-words : length (f .first) ≡ min (n - 1) (f .count)
+  unfolding fragmentOk
+  kept-words = eqb-true _ _ (passed _ 0 ok)
+
+  pub end-ok : stateOk n (f .end) ≡ true
+  unfolding fragmentOk
+  end-ok = passed _ 1 ok
+
+  pub total-bound : n ≤ orderLimit → natAbs (f .total) ≤ f .count * mostPoints
+  unfolding fragmentOk
+  total-bound order =
+      let most : f .count * (n * largestBackoff) ≤ f .count * mostPoints = mul-le-mul-left (f .count) (mul-le-mul-right largestBackoff order) in
+      omega (arith, leb-true (natAbs (f .total)) (f .count * (n * largestBackoff)) (passed _ 2 ok))

@@ -1,4 +1,4 @@
--- A fragment as it crosses to C is the fragment again. Assumes nothing.
+-- A fragment as it crosses to C is the fragment again; and the first words of two neighbours, place by place. Assumes nothing.
 use mathlib.Core.Path.{_≡_, refl, sym, ap, _∙_}
 use mathlib.Core.Logic.{_⊎_, inl, inr}
 use mathlib.Core.List.{List, [], _∷_, _++_}
@@ -38,7 +38,7 @@ length-fourPlaces : (ws : List ℕ) → length (fourPlaces ws) ≡ 4
 unfolding fourPlaces
 length-fourPlaces ws = refl
 
-pub crossed-back : (f : Fragment (List ℤ)) → length (f .first) ≤ 4 → length (f .end) ≡ 9 → fragmentIn (toNumbers f) ≡ f
+crossed-back : (f : Fragment (List ℤ)) → length (f .first) ≤ 4 → length (f .end) ≡ 9 → fragmentIn (toNumbers f) ≡ f
 crossed-back f few long = λ i. record { total = f .total; first = words i; count = f .count; end = numbers-stateFrom (f .end) long i }
   where
     words : keptIn (length (f .first)) (fourPlaces (f .first)) ≡ f .first

@@ -21,6 +21,9 @@ use Rattle.fragments.specs.Fragment.{Fragment, fragmentOk}
 use Rattle.fragments.specs.Outcome.{Reply, refusedBy, joinedAs, joinedIn}
 use Rattle.fragments.specs.Inner.{firstBad, pairFault, joinFault, Passed}
 
+refused-not-accepted : (number place : ℕ) → Refused number place ≡ Accepted → ⊥
+refused-not-accepted number place e = let z : _≡_ {A = ℕ} 0 1 = cc in omega arith
+
 -- a verdict, and what a join returns where it is accepted
 abbrev ruled : Reply → Verdict → Reply
 ruled r Accepted = r
@@ -46,7 +49,7 @@ module _ (a b : Fragment (List ℤ)) where
       where
         go : (t : Bool) → isArray base check ≡ t → isArray base check ≡ true
         go true p = p
-        go false p = let z : Refused arrayHead 0 ≡ Accepted = rw (opened-none base check p) at e in let w : _≡_ {A = ℕ} 0 1 = cc in absurd (omega arith)
+        go false p = absurd (refused-not-accepted arrayHead 0 (rw (opened-none base check p) at e))
 
     none-meets : joinFault (some (storeIn base check)) a b ≡ Accepted
     none-meets = rw (opened-some base check fault-array) at e
@@ -56,9 +59,9 @@ module _ (a b : Fragment (List ℤ)) where
       where
         go : (p : Bool) → fragmentOk (orderIn check) a ≡ p → (q : Bool) → fragmentOk (orderIn check) b ≡ q → (k : Bool) → ltb runLimit (a .count + b .count) ≡ k → pairFault (firstBad (orderIn check) a b) (a .count + b .count) ≡ Accepted → Passed (orderIn check) a b
         go true p true q false k f = record { first = p; second = q; few = ltb-false runLimit (a .count + b .count) k }
-        go true p true q true k f = let z : Refused wordCount 0 ≡ Accepted = rw (p, q, k) at f in let w : _≡_ {A = ℕ} 0 1 = cc in absurd (omega arith)
-        go true p false q u k f = let z : Refused badFragment 2 ≡ Accepted = rw (p, q) at f in let w : _≡_ {A = ℕ} 0 1 = cc in absurd (omega arith)
-        go false p v q u k f = let z : Refused badFragment 1 ≡ Accepted = rw p at f in let w : _≡_ {A = ℕ} 0 1 = cc in absurd (omega arith)
+        go true p true q true k f = absurd (refused-not-accepted wordCount 0 (rw (p, q, k) at f))
+        go true p false q u k f = absurd (refused-not-accepted badFragment 2 (rw (p, q) at f))
+        go false p v q u k f = absurd (refused-not-accepted badFragment 1 (rw p at f))
 
     pub fault-none : joinedIn (opened base check) a b ≡ joinedAs (orderIn check) a b (runOver (storeIn base check) (b .first) empty 1) (runOver (storeIn base check) (b .first) (stateIn (a .end)) 1)
     fault-none = rw (opened-some base check fault-array) (ruled-fault (storeIn base check) ∙ rw none-meets (unfold storeIn in refl))

@@ -5,7 +5,7 @@ use mathlib.Core.Bool.{Bool, true, false, cond}
 use mathlib.Core.List.{List, [], _∷_, _++_}
 use Prim.Native.Nat.{ℕ, zero, suc, _+_, _≤_, _<_}
 use native.Mathlib.Omega.{arith}
-use lib.ListN.{length, take, drop, length-append, take-append-drop, length-drop}
+use lib.ListN.{length, take, drop, length-append, take-append-drop, drop-of-length-le}
 use lib.Seq.{take-take, take-all, take-nil, length-take-le}
 use lib.IntN.{ℤ, pos, _+ℤ_, _-ℤ_}
 use lib.Dec.{leb}
@@ -67,12 +67,8 @@ module _ (M : Model) (A : AcceptedModel M) where
   rest-settled : (h ws : List ℕ) → restTotal M ws empty ≡ restTotal M ws (after M h)
   rest-settled h ws = ap (restTotal M ws) (empty-is-after M) ∙ (unfold restTotal in go (lt-or-ge (length ws) (reach M)))
     where
-      no-rest : (l : List ℕ) → length l ≡ 0 → l ≡ []
-      no-rest [] e = refl
-      no-rest (x ∷ l) e = absurd (omega arith)
-
       go : (length ws < reach M) ⊎ (reach M ≤ length ws) → sum (runPoints M (runEnd M (after M []) (take (reach M) ws)) (drop (reach M) ws)) ≡ sum (runPoints M (runEnd M (after M h) (take (reach M) ws)) (drop (reach M) ws))
-      go (inl few) = rw (no-rest (drop (reach M) ws) (omega (arith, length-drop (reach M) ws))) (unfold runPoints in refl)
+      go (inl few) = rw (drop-of-length-le ws {i = reach M} (omega arith)) (unfold runPoints in refl)
       go (inr many) = ap (λ (s : State). sum (runPoints M s (drop (reach M) ws))) (runEnd-settled M A [] h (take (reach M) ws) (omega (arith, length-take-le (reach M) ws many)))
 
   -- the words us scored after any history h, joined with the fragment of vs

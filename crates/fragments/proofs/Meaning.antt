@@ -26,14 +26,14 @@ use Rattle.double_array.proofs.DoubleArray.{opened-order, opened-some, opened-n
 use Rattle.carried_state.proofs.Carried.{Four, length-numbers}
 use Rattle.word_step.specs.Rows.{arrayModel}
 use Rattle.score.specs.Meaning.{StuckWord}
-use Rattle.score.proofs.Refusals.{Told, first-stuck, none-stuck, told}
+use Rattle.score.proofs.Refusals.{Told, first-stuck, none-stuck, first-stuck-or-none}
 use Rattle.fragments.specs.declared.Fragment.{Fragment as Numbers}
 use Rattle.fragments.specs.Fragment.{Fragment, packed, unpacked, fragmentOk, fragmentFrom, fragmentOf, joinedTotal, joinedEnd, join}
 use Rattle.fragments.specs.Inner.{Passed}
 use Rattle.fragments.specs.Outcome.{returned, refusedBy, fragmentIn, crossed, scoredIn, joinedFragment, joinedIn, fragmentOutcome, joinOutcome}
 use Rattle.fragments.specs.Meaning.{scoringRefusals, ScoringMeans, BadFragment, StuckJoin, joinRefusals, JoinMeans}
 use Rattle.fragments.proofs.Outcome.{nine-cond}
-use Rattle.fragments.proofs.Rescoring.{end-ok}
+use Rattle.fragments.proofs.Check.{end-ok}
 
 module _ (base check : List ℤ) (ws : List ℕ) where
   refused-scoring : (number place : ℕ) → (number ≡ 0 → ⊥) → FirstMet (scoringRefusals base check ws) number place → ScoringMeans base check ws (crossed (refusedBy number place))
@@ -45,7 +45,7 @@ module _ (base check : List ℤ) (ws : List ℕ) where
 
   pub scoring-means : ScoringMeans base check ws (fragmentOutcome (opened base check) ws)
   unfolding fragmentOutcome storeIn
-  scoring-means = go (isArray base check) refl (ltb runLimit (length ws)) refl (told base check ws empty 1)
+  scoring-means = go (isArray base check) refl (ltb runLimit (length ws)) refl (first-stuck-or-none base check ws empty 1)
     where
       go : (t : Bool) → isArray base check ≡ t → (u : Bool) → ltb runLimit (length ws) ≡ u → Told base check ws empty 1 → ScoringMeans base check ws (crossed (scoredIn (opened base check) ws))
       go false p u q o = rw (opened-none base check p) (refused-scoring arrayHead 0 (λ z. omega arith) (inl (met-when p)))
@@ -95,12 +95,12 @@ module _ (base check : List ℤ) (one two : Numbers) (four : Four (two .state)) 
   }
     where
       held : nine (stateIn (b .end)) ≡ b .end
-      held = nine-stateIn (orderIn check) (b .end) (length-numbers (two .state) four) (opened-order base check p .1) (end-ok (orderIn check) (opened-order base check p .1) b (x .second))
+      held = nine-stateIn (orderIn check) (b .end) (length-numbers (two .state) four) (opened-order base check p .1) (end-ok (orderIn check) b (x .second))
 
   pub join-means : JoinMeans base check one two (joinOutcome (opened base check) one two)
   unfolding joinOutcome storeIn
   join-means =
-      go (isArray base check) refl (fragmentOk (orderIn check) a) refl (fragmentOk (orderIn check) b) refl (ltb runLimit (a .count + b .count)) refl (told base check (b .first) empty 1) (told base check (b .first) (stateIn (a .end)) 1)
+      go (isArray base check) refl (fragmentOk (orderIn check) a) refl (fragmentOk (orderIn check) b) refl (ltb runLimit (a .count + b .count)) refl (first-stuck-or-none base check (b .first) empty 1) (first-stuck-or-none base check (b .first) (stateIn (a .end)) 1)
     where
       neither : ((i : ℕ) → StuckWord S empty (b .first) i → ⊥) → ((i : ℕ) → StuckWord S (stateIn (a .end)) (b .first) i → ⊥) → StuckJoin base check one two → ⊥
       neither m n (inl h) = m (h .0) (h .1)

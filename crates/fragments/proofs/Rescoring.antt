@@ -1,24 +1,22 @@
 -- Words that are scored twice, from nothing and after a state: how large both totals get, and the join that they make. Assumes nothing.
 use mathlib.Core.Path.{_≡_, refl, sym, ap, _∙_}
 use mathlib.Core.Logic.{_⊎_, inl, inr}
-use mathlib.Core.Bool.{Bool, true, false, _&&_}
+use mathlib.Core.Bool.{true, false, _&&_, true≢false}
 use mathlib.Core.List.{List}
-use Prim.Native.Nat.{ℕ, _*_, _-_, _≤_, min}
-use native.Mathlib.Nat.{mul-le-mul-left, mul-le-mul-right}
+use Prim.Native.Nat.{ℕ, _*_, _-_, _≤_}
 use native.Mathlib.Omega.{arith}
 use lib.ListN.{length}
 use lib.IntN.{ℤ, natAbs}
 use lib.Dec.{eqb}
-use borrow.Author.Tests.{leb-true, eqb-true}
 use Rattle.integer.specs.Integer.{sum}
-use Rattle.backoff.specs.Limits.{largestBackoff, orderLimit}
+use Rattle.backoff.specs.Limits.{orderLimit}
 use Rattle.backoff.specs.Refusal.{brokenNode}
 use Rattle.backoff.specs.Model.{reach}
 use Rattle.backoff.specs.State.{State, empty}
 use Rattle.backoff.specs.Run.{runPoints}
-use Rattle.backoff.specs.NineNumbers.{all, nineZeros, stateIn, stateOk}
+use Rattle.backoff.specs.NineNumbers.{all, nineZeros, stateIn}
 use Rattle.backoff.specs.Store.{Store, Ran, ran, refusedAt, modelIn, runOver}
-use Rattle.backoff.proofs.NineNumbers.{passed, Bounded}
+use Rattle.backoff.proofs.NineNumbers.{Bounded}
 use Rattle.backoff.proofs.Sizes.{runPoints-size}
 use Rattle.backoff.proofs.Store.{modelRan, runOver-cases}
 use Rattle.double_array.specs.DoubleArray.{orderIn, storeIn}
@@ -28,26 +26,9 @@ use Rattle.word_step.proofs.Rows.{rows-in-probability, rows-in-backoff}
 use Rattle.score.specs.declared.Ran.{Ran as Summing}
 use Rattle.sums.specs.Sums.{Summed, summedOf, summed}
 use Rattle.fragments.specs.declared.Rescored.{Rescored}
-use Rattle.fragments.specs.Fragment.{Fragment, fragmentOk}
+use Rattle.fragments.specs.Fragment.{Fragment}
 use Rattle.fragments.specs.Outcome.{returned, refusedBy, scoredFragment, scoredAs, joinedFragment, joinedAs}
 use Rattle.fragments.specs.Inner.{mostPoints, RescoredAs}
-
--- ---- what 21 leaves of a fragment
-
-module _ (n : ℕ) (order : n ≤ orderLimit) (f : Fragment (List ℤ)) (ok : fragmentOk n f ≡ true) where
-  pub kept-words : length (f .first) ≡ min (n - 1) (f .count)
-  unfolding fragmentOk
-  kept-words = eqb-true _ _ (passed _ 0 ok)
-
-  pub end-ok : stateOk n (f .end) ≡ true
-  unfolding fragmentOk
-  end-ok = passed _ 1 ok
-
-  pub total-bound : natAbs (f .total) ≤ f .count * mostPoints
-  unfolding fragmentOk
-  total-bound =
-      let most : f .count * (n * largestBackoff) ≤ f .count * mostPoints = mul-le-mul-left (f .count) (mul-le-mul-right largestBackoff order) in
-      omega (arith, leb-true (natAbs (f .total)) (f .count * (n * largestBackoff)) (passed _ 2 ok))
 
 -- ---- the totals
 
@@ -74,8 +55,8 @@ module _ (base check : List ℤ) (order : orderIn check ≤ orderLimit) (ws : Li
     where
       go : (y z : Ran) → runOver S ws empty 1 ≡ y → runOver S ws s 1 ≡ z → RescoredAs y z r → (natAbs (r .less) ≤ 4 * mostPoints) × (natAbs (r .plus) ≤ 4 * mostPoints)
       go (ran ps bs u) (ran qs cs t) p q k = (rw (k .less-is) (total-small empty (empty-bounded _) ps bs u p), rw (k .plus-is) (total-small s b qs cs t q))
-      go (ran ps bs u) (refusedAt j) p q k = let z : _≡_ {A = Bool} true false = sym e ∙ k in let w : _≡_ {A = ℕ} 0 1 = cc in absurd (omega arith)
-      go (refusedAt j) z p q k = let z : _≡_ {A = Bool} true false = sym e ∙ k in let w : _≡_ {A = ℕ} 0 1 = cc in absurd (omega arith)
+      go (ran ps bs u) (refusedAt j) p q k = absurd (true≢false (sym e ∙ k))
+      go (refusedAt j) z p q k = absurd (true≢false (sym e ∙ k))
 
 -- ---- what the code's scorings say
 
@@ -108,10 +89,10 @@ module _ (l m : List ℤ) (x w : Summing) where
 module _ (n : ℕ) (a b : Fragment (List ℤ)) (r : Rescored) where
   pub rescored-joined : (y z : Ran) → RescoredAs y z r → r .sound ≡ true → joinedAs n a b y z ≡ returned (joinedFragment n a b (r .less) (r .plus) (numbersOf (r .end)))
   rescored-joined (ran ps bs u) (ran qs cs t) k e = rw (k .less-is, k .plus-is, k .end-is)
-  rescored-joined (ran ps bs u) (refusedAt j) k e = let z : _≡_ {A = Bool} true false = sym e ∙ k in let w : _≡_ {A = ℕ} 0 1 = cc in absurd (omega arith)
-  rescored-joined (refusedAt j) y k e = let z : _≡_ {A = Bool} true false = sym e ∙ k in let w : _≡_ {A = ℕ} 0 1 = cc in absurd (omega arith)
+  rescored-joined (ran ps bs u) (refusedAt j) k e = absurd (true≢false (sym e ∙ k))
+  rescored-joined (refusedAt j) y k e = absurd (true≢false (sym e ∙ k))
 
   pub rescored-refused : (y z : Ran) → RescoredAs y z r → r .sound ≡ false → joinedAs n a b y z ≡ refusedBy brokenNode 0
-  rescored-refused (ran ps bs u) (ran qs cs t) k e = let z : _≡_ {A = Bool} true false = sym (k .sound) ∙ e in let w : _≡_ {A = ℕ} 0 1 = cc in absurd (omega arith)
+  rescored-refused (ran ps bs u) (ran qs cs t) k e = absurd (true≢false (sym (k .sound) ∙ e))
   rescored-refused (ran ps bs u) (refusedAt j) k e = refl
   rescored-refused (refusedAt j) y k e = refl

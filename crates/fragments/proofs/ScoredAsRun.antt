@@ -7,7 +7,7 @@ use lib.ListN.{length}
 use lib.Dec.{eqb, ltb}
 use borrow.Author.Tests.{le-ltb}
 use Rattle.backoff.specs.Limits.{runLimit}
-use Rattle.backoff.specs.Refusal.{wordCount}
+use Rattle.backoff.specs.Refusal.{arrayHead, wordCount}
 use Rattle.backoff.specs.State.{empty}
 use Rattle.backoff.specs.Run.{Run, refusal, accepted, refusedRun, acceptedRun}
 use Rattle.backoff.specs.NineNumbers.{nineZeros}
@@ -36,7 +36,7 @@ module _ (r : Run) (points : length (r .words) ≤ length (r .points)) (lengths 
   -- "refuses by 11, 14 and 12 as a run does": number, place, total and end state, where the run's slices have room
   pub fragment-is-a-run : (o : Option Store) → SameResult (fragmentOutcome o (r .words)) (runOutcome o nineZeros r)
   unfolding fragmentOutcome runOutcome accepted
-  fragment-is-a-run none = refused-alike 11
+  fragment-is-a-run none = refused-alike arrayHead
   fragment-is-a-run (some S) = rw (zeros-ok (S .order), zeros-empty, refusal-is) (go (ltb runLimit (length (r .words))))
     where
       y : Ran

@@ -40,7 +40,7 @@ pub record Passed (n : ℕ) (a b : Fragment (List ℤ)) : Type 0 where
   pub second : fragmentOk n b ≡ true
   pub few : a .count + b .count ≤ runLimit
 
--- the same words scored from nothing, as p says, and after a state, as q says
+-- the same words scored from nothing, with the points ps, and after a state, with the points qs and the state in the nine numbers `end` left
 pub record BothScored (ps qs : List ℤ) (end : List ℤ) (r : Rescored) : Type 0 where
   pub sound : r .sound ≡ true
   pub less-is : r .less ≡ sum ps

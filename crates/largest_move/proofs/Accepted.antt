@@ -9,16 +9,16 @@ use native.Mathlib.Omega.{arith}
 use lib.Dec.{eqb}
 use lib.ListN.{length, take, getD}
 use lib.Seq.{length-take-le, getD-take}
-use lib.IntN.{ℤ, pos, natAbs}
+use lib.IntN.{ℤ, pos}
 use borrow.Author.Tests.{eqb-true}
 use Rattle.backoff.specs.OneWord.{distance}
 use Rattle.backoff.specs.Store.{Store}
 use Rattle.double_array.specs.DoubleArray.{opened}
-use Rattle.score.proofs.Sizes.{runTotal, run-total-small}
 use Rattle.sentences.specs.Sentences.{usableWords}
-use Rattle.sentences.specs.Listing.{Outcome, sizeRefusal, runFromStart, sentenceTotal, usableOver, sentencesOver, listingOutcome}
+use Rattle.sentences.specs.Listing.{Outcome, sizeRefusal, sentenceTotal, usableOver, sentencesOver, listingOutcome}
 use Rattle.sentences.specs.Meaning.{Listed}
 use Rattle.sentences.proofs.Sentences.{few-sentences, length-sentences}
+use Rattle.sentences.proofs.Calls.{total-small}
 use Rattle.sentences.proofs.Outcome.{Sized, sized}
 use Rattle.sentences.proofs.Meaning.{listing-means}
 use Rattle.largest_move.specs.declared.Pair.{Pair}
@@ -28,10 +28,6 @@ use Rattle.largest_move.specs.Meaning.{IsPair}
 use Rattle.largest_move.specs.Inner.{totalAt, apartIn, Small, Kept, nothing, something, IsListing, oneDigit}
 use Rattle.largest_move.proofs.Earliest.{first-kept, first-same}
 use Rattle.largest_move.proofs.Apart.{apart-by-digits}
-
-sentence-small : (base check : List ℤ) (s : List ℕ) → natAbs (sentenceTotal (opened base check) s) ≤ 4611686018427387903
-unfolding sentenceTotal runFromStart
-sentence-small base check s = let h : natAbs (sentenceTotal (opened base check) s) ≤ runTotal = run-total-small base check _ _ in omega arith
 
 pub accepted-sized : (o : Option Store) (k : ℕ) (words : List ℕ) (totals : List ℤ) → listingOutcome o k words totals .listing .number ≡ 0 → Sized k (length (usableOver o)) (length words) (length totals)
 unfolding listingOutcome
@@ -89,7 +85,7 @@ module _ (base check : List ℤ) (k : ℕ) (words : List ℕ) (totals : List ℤ
   all-sentences : length ss ≡ n
   all-sentences = length-sentences (usableOver o) k ∙ sym sentences-are
 
-  pub few : n ≤ 65536
+  few : n ≤ 65536
   few = omega (arith, sentences-are, few-sentences v k (sizes .few) (sizes .short))
 
   module _ (long : n ≤ length (x .totals)) where
@@ -104,7 +100,7 @@ module _ (base check : List ℤ) (k : ℕ) (words : List ℕ) (totals : List ℤ
         ∙ ap (λ (p : Option Store). sentenceTotal p (getD (sentencesOver p k) i [])) (sym (m .1 .0))
 
     pub totals-small : Small listed
-    totals-small = record { each = λ i h. rw (total-of i (omega (arith, length-listed))) (sentence-small base check (getD ss i [])) }
+    totals-small = record { each = λ i h. rw (total-of i (omega (arith, length-listed))) (omega (arith, total-small base check (getD ss i []))) }
 
     pub is-listing : (count : ℕ) → count ≡ v → 2 ≤ count → IsListing listed count k
     is-listing count e h = record { two = h; few = rw e (sizes .few); some = sizes .some; short = sizes .short; long = length-listed ∙ sentences-are ∙ ap (λ (c : ℕ). c ^ k) (sym e) }

@@ -1,4 +1,4 @@
--- The largest pair of a group, from the least and the largest total and where each first stands. Assumes nothing.
+-- The largest pair of a group, from the least and the largest total and where each first stands; and the groups that change nothing. Assumes nothing.
 use mathlib.Core.Path.{_≡_, refl, sym, ap, ap₂, _∙_}
 use mathlib.Core.Logic.{_⊎_, inl, inr}
 use mathlib.Core.Bool.{Bool, true, false}
@@ -18,7 +18,7 @@ use Rattle.integer.proofs.Ranges.{lt-or-ge}
 use Rattle.backoff.specs.OneWord.{distance}
 use Rattle.largest_move.specs.declared.Pair.{Pair}
 use Rattle.largest_move.specs.Meaning.{NotAfter, IsLargest}
-use Rattle.largest_move.specs.Inner.{totalAt, apartIn, Small, IsGroup, Has, NoneBefore, FirstWith, Spans, InGroup, GroupPair, noneYet, Kept, nothing, something}
+use Rattle.largest_move.specs.Inner.{totalAt, mostTotal, apartIn, Small, IsGroup, Has, NoneBefore, FirstWith, Spans, InGroup, GroupPair, noneYet, Kept, nothing, something}
 use Rattle.largest_move.proofs.Kept.{Beats, stays}
 
 -- ---- numbers between low and high
@@ -133,8 +133,8 @@ module _ (totals : List ℤ) (first weight count : ℕ) (group : IsGroup totals 
   span-fits f =
       let l = spans .low-has in
       let h = spans .high-has in
-      let a : natAbs low ≤ 4611686018427387903 = rw (l .total) at (f .each _ (group .inside (l .s) (l .inside))) in
-      let b : natAbs high ≤ 4611686018427387903 = rw (h .total) at (f .each _ (group .inside (h .s) (h .inside))) in
+      let a : natAbs low ≤ mostTotal = rw (l .total) at (f .each _ (group .inside (l .s) (l .inside))) in
+      let b : natAbs high ≤ mostTotal = rw (h .total) at (f .each _ (group .inside (h .s) (h .inside))) in
       omega (zarith, abs low, abs high)
 
   -- a pair's totals lie in the range
@@ -210,7 +210,7 @@ module _ (totals : List ℤ) (first weight count : ℕ) (group : IsGroup totals 
       earliest = λ a b q e. early a b q (both a b q (e ∙ ends-apart));
     }
 
-    pub ends-pair : (m : Pair) → m ≡ record { distance = high -ℤ low; first = suc x; second = suc y } → GroupPair totals first weight count m
+    ends-pair : (m : Pair) → m ≡ record { distance = high -ℤ low; first = suc x; second = suc y } → GroupPair totals first weight count m
     ends-pair m e = record {
       i = x;
       j = y;

@@ -79,14 +79,14 @@ module _ (distance : ℕ → ℕ → ℕ) where
   -- ---- the largest of the pairs that P holds of
 
   module _ {P : ℕ → ℕ → Type 0} {i j : ℕ} where
-    pub beats-all : IsLargest P distance i j → (a b : ℕ) → P a b → Beats distance i j a b
+    beats-all : IsLargest P distance i j → (a b : ℕ) → P a b → Beats distance i j a b
     beats-all f a b p = go (lt-or-ge (distance a b) (distance i j))
       where
         go : (distance a b < distance i j) ⊎ (distance i j ≤ distance a b) → Beats distance i j a b
         go (inl l) = inl l
         go (inr l) = let e : distance a b ≡ distance i j = omega (arith, f .largest a b p) in inr (e, f .earliest a b p e)
 
-    pub all-beaten : P i j → ((a b : ℕ) → P a b → Beats distance i j a b) → IsLargest P distance i j
+    all-beaten : P i j → ((a b : ℕ) → P a b → Beats distance i j a b) → IsLargest P distance i j
     all-beaten p f = record { pair = p; largest = λ a b q. far a b (f a b q); earliest = λ a b q e. early a b e (f a b q) }
       where
         far : (a b : ℕ) → Beats distance i j a b → distance a b ≤ distance i j

@@ -1,4 +1,4 @@
--- Sentences that differ at one place do so as two sequences of T-11 do. Assumes nothing.
+-- Two sentences of one length that are counted as differing at one place differ there alone. Assumes nothing.
 use mathlib.Core.Path.{_≡_, refl, ap}
 use mathlib.Core.Bool.{Bool, true, false}
 use mathlib.Core.List.{List, [], _∷_}

@@ -47,10 +47,10 @@ module _ (totals : List ℤ) (v weight f : ℕ) (g : IsGroupOf totals v weight f
   pub is-group : IsGroup totals f weight v
   is-group = record { two = g .block .two; apart = some-weight; inside = group-inside }
 
-  pub seen-before : (a b : ℕ) → Seen v n weight f a b → Seen v n weight (f + 1) a b
+  seen-before : (a b : ℕ) → Seen v n weight f a b → Seen v n weight (f + 1) a b
   seen-before = seen-wider v n weight f (f + 1) (omega arith)
 
-  pub seen-either : (a b : ℕ) → Seen v n weight (f + 1) a b → Seen v n weight f a b ⊎ InGroup f weight v a b
+  seen-either : (a b : ℕ) → Seen v n weight (f + 1) a b → Seen v n weight f a b ⊎ InGroup f weight v a b
   seen-either a b s = go (s .passed)
     where
       first : ℕ
@@ -64,7 +64,7 @@ module _ (totals : List ℤ) (v weight f : ℕ) (g : IsGroupOf totals v weight f
           decide (yes q) = inr (rw (q, e) at (s .pair))
           decide (no q) = inl (seen-at weight f s (inr (e, omega arith)))
 
-  pub seen-group : (a b : ℕ) → InGroup f weight v a b → Seen v n weight (f + 1) a b
+  seen-group : (a b : ℕ) → InGroup f weight v a b → Seen v n weight (f + 1) a b
   seen-group a b q =
       let w = g .block .weight-is in
       let e : f ≡ firstOf v (v ^ g .block .place) (g .block .block) (g .group) = g .first-is ∙ ap (λ (m : ℕ). m + g .group) (g .block .first-is ∙ ap (λ (m : ℕ). g .block .block * (m * v)) w) in

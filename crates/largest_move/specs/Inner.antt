@@ -25,9 +25,13 @@ totalAt totals i = getD totals i (pos 0)
 abbrev pub apartIn : List ℤ → ℕ → ℕ → ℕ
 apartIn totals i j = distance (totalAt totals i) (totalAt totals j)
 
--- no two totals lie too far apart for 64 bits
+-- the most that a total may be, from 0: no two lie too far apart for 64 bits
+abbrev pub mostTotal : ℕ
+mostTotal = 4611686018427387903
+
+-- none is more
 pub record Small (totals : List ℤ) : Type 0 where
-  pub each : (i : ℕ) → i < length totals → natAbs (totalAt totals i) ≤ 4611686018427387903
+  pub each : (i : ℕ) → i < length totals → natAbs (totalAt totals i) ≤ mostTotal
 
 -- ---- a group: so many sentences from the first on, each the weight of the place behind the one before
 

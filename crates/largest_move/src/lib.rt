@@ -1,7 +1,7 @@
 // The largest move: the largest distance between the totals of two small sentences that differ at one place. Sentences with the same words at all places but
 // one are a group; groups with the same words before that place are a block, and its sentences lie together.
 ghost use mathlib.Core.Path.{_≡_};
-ghost use Prim.Native.Nat.{ℕ, _+_, _*_};
+ghost use Prim.Native.Nat.{_+_, _*_};
 ghost use lib.ListN.{length};
 ghost use Rattle.double_array.specs.DoubleArray.{opened};
 ghost use Rattle.largest_move.specs.Pairs.{firstLargest};

@@ -9,12 +9,11 @@ use native.Mathlib.Numerals.{add-one}
 use native.Mathlib.Omega.{arith}
 use lib.Dec.{eqb, leb}
 use lib.IntN.{ℤ, pos, natAbs}
-use lib.Signed.{_≤ℤ_}
 use lib.ListN.{length, take}
 use borrow.Author.Tests.{eqb-true, eqb-false, eq-eqb, ne-eqb, leb-true, leb-false, le-leb, lt-leb, not-true, not-false}
 use Rattle.integer.specs.Integer.{eqZ, between, upTo}
 use Rattle.integer.proofs.Arithmetic.{zarith, abs}
-use Rattle.integer.proofs.Ranges.{lt-or-ge, and-left, and-right, and-both, between-low, between-high, between-yes, upTo-in, upTo-out, upTo-some}
+use Rattle.integer.proofs.Ranges.{lt-or-ge, and-left, and-right, and-both, false-unless, between-low, between-high, between-yes, upTo-in, upTo-out, upTo-some}
 use Rattle.backoff.specs.Limits.{rowLimit, orderLimit, unknownWord, startWord, endWord}
 use Rattle.backoff.specs.Model.{inProbability, inBackoff}
 use Rattle.backoff.specs.Refusal.{numberOf, placeOf, tableLength, rowLength, rowWords, rowProbability, rowBackoff, rowOrder, shorterRow, reservedWord}
@@ -59,9 +58,9 @@ cond-most : (b : Bool) (x r n : ℕ) → x ≤ n → r ≤ n → cond b x r ≤ 
 cond-most true x r n l m = l
 cond-most false x r n l m = m
 
-or-met : (a b n : ℕ) → a ≤ n → UpTo n b → UpTo n (orElse a b)
-or-met zero b n l h = h
-or-met (suc a) b n l h = (omega arith, l)
+or-later : (a b n : ℕ) → a ≤ n → UpTo n b → UpTo n (orElse a b)
+or-later zero b n l h = h
+or-later (suc a) b n l h = (omega arith, l)
 
 or-first : (a b n : ℕ) → UpTo n a → UpTo n (orElse a b)
 or-first zero b n h = absurd (not-suc-le-zero (h .0))
@@ -71,10 +70,6 @@ and-some : (a b : Bool) → (a && b) ≡ false → (a ≡ false) ⊎ (b ≡ fals
 and-some true b e = inr e
 and-some false b e = inl refl
 
-false-unless : (b : Bool) → (b ≡ true → ⊥) → b ≡ false
-false-unless true h = absurd (h refl)
-false-unless false h = refl
-
 -- a number outside 1 to h
 upTo-none : (h : ℕ) (z : ℤ) → between (pos 1) (pos h) z ≡ false → upTo (pos h) z ≡ 0
 upTo-none h z e = go (between (pos 0) (pos h) z) refl
@@ -82,14 +77,13 @@ upTo-none h z e = go (between (pos 0) (pos h) z) refl
     go : (b : Bool) → between (pos 0) (pos h) z ≡ b → upTo (pos h) z ≡ 0
     go false q = upTo-out (pos h) z q
     go true q =
-        let u = between-high (pos 0) (pos h) z q in
         let l = between-low (pos 0) (pos h) z q in
+        let u = between-high (pos 0) (pos h) z q in
         let f = upTo-in (pos h) z q in
-        go′ (natAbs z) refl f l u
-      where
-        go′ : (k : ℕ) → natAbs z ≡ k → upTo (pos h) z ≡ natAbs z → pos 0 ≤ℤ z → z ≤ℤ pos h → upTo (pos h) z ≡ 0
-        go′ zero s f l u = f ∙ s
-        go′ (suc k) s f l u = absurd (false-true e (between-yes (pos 1) (pos h) z (omega (zarith, abs z)) u))
+        ⊎-elim
+        (λ (k : 0 < natAbs z). absurd (false-true e (between-yes (pos 1) (pos h) z (omega (zarith, abs z)) u)))
+        (λ k. omega arith)
+        (lt-or-ge 0 (natAbs z))
 
 length-none : (t : List ℤ) (i : ℕ) → between (pos 1) (pos orderLimit) (field t i 0) ≡ false → lengthOf t i ≡ 0
 unfolding lengthOf
@@ -100,10 +94,10 @@ zero-told {z} e = omega zarith
 
 -- ---- rows that are there or not
 
-found-or-not : (t : List ℤ) (ws : List ℕ) (n j : ℕ) → j < n → words t j ≡ ws → isAt (findBelow t ws n) ≡ true
+row-found : (t : List ℤ) (ws : List ℕ) (n j : ℕ) → j < n → words t j ≡ ws → isAt (findBelow t ws n) ≡ true
 unfolding findBelow
-found-or-not t ws zero j l e = absurd (not-suc-le-zero l)
-found-or-not t ws (suc n) j l e = go (sameWords (words t n) ws) refl (λ m. found-or-not t ws n j m e)
+row-found t ws zero j l e = absurd (not-suc-le-zero l)
+row-found t ws (suc n) j l e = go (sameWords (words t n) ws) refl (λ m. row-found t ws n j m e)
   where
     go : (b : Bool) → sameWords (words t n) ws ≡ b → (j < n → isAt (findBelow t ws n) ≡ true) → isAt (cond b (At n) (findBelow t ws n)) ≡ true
     go true q ih = refl
@@ -114,9 +108,9 @@ found-or-not t ws (suc n) j l e = go (sameWords (words t n) ws) refl (λ m. foun
 
 pub no-row : (t : List ℤ) (ws : List ℕ) → isAt (findIn t ws) ≡ false → NoRowBelow t (rowsOf t) ws
 unfolding findIn
-no-row t ws e j l w = false-true e (found-or-not t ws (rowsOf t) j l w)
+no-row t ws e j l w = false-true e (row-found t ws (rowsOf t) j l w)
 
-pub not-found : (t : List ℤ) (ws : List ℕ) → NoRowBelow t (rowsOf t) ws → isAt (findIn t ws) ≡ false
+not-found : (t : List ℤ) (ws : List ℕ) → NoRowBelow t (rowsOf t) ws → isAt (findIn t ws) ≡ false
 not-found t ws h = false-unless (isAt (findIn t ws)) (λ e. let f = is-at (findIn t ws) e in let r = found-words t ws (f .0) (f .1) in h (f .0) (r .0) (r .1))
 
 module _ (filling : Bool) (t : List ℤ) where
@@ -252,7 +246,7 @@ module _ (filling : Bool) (t : List ℤ) where
 
     of-order : (n : ℕ) → rowBackoff ≤ n → UpTo n (orderFault filling t i) → FaultOf i n
     unfolding rowFault
-    of-order n l h = or-met (fieldFault t (orderOf t) i) (orderFault filling t i) n (let m = fields-most in omega arith) h
+    of-order n l h = or-later (fieldFault t (orderOf t) i) (orderFault filling t i) n (let m = fields-most in omega arith) h
 
     by-length : between (pos 1) (pos orderLimit) (field t i 0) ≡ false → FaultOf i rowLength
     unfolding fieldFault

@@ -12,7 +12,7 @@ use lib.ListN.{length, getD, take, drop, length-append, length-reverse}
 use lib.Seq.{getD-take, getD-drop}
 use Rattle.integer.specs.Integer.{between, half, odd}
 use Rattle.integer.proofs.Arithmetic.{zarith, abs, sub, shr}
-use Rattle.integer.proofs.Ranges.{lt-or-ge, between-low, between-high, between-yes, and-both}
+use Rattle.integer.proofs.Ranges.{lt-or-ge, between-low, between-high, between-yes, and-both, false-unless}
 use Rattle.backoff.specs.Limits.{leastProbability, largestBackoff}
 use Rattle.backoff.specs.Words.{sameWords, areWords}
 use Rattle.backoff.specs.Model.{inProbability, inBackoff, backoffOf, extendedOf, continuedOf, backoff, extended, continued, AcceptedModel}
@@ -35,7 +35,7 @@ use Rattle.double_array.specs.DoubleArray.{markerCheck}
 use Rattle.double_array.specs.declared.Marker.the-variants.{Sound, Broken}
 use Rattle.double_array.proofs.DoubleArray.{marker-sound, marker-round-trip}
 use Rattle.placing.specs.Trie.{Node, childOf, children, findNode, nodeAt, HasParent, Ready}
-use Rattle.placing.proofs.Members.{getD-in, in-getD}
+use Rattle.double_array.proofs.Items.{getD-in, in-getD}
 use Rattle.placing.proofs.Trie.{found-in, in-found}
 use Rattle.placing.proofs.Walk.{nodeMarker}
 use Rattle.first_fit.specs.Steps.{oldestFrom}
@@ -110,7 +110,7 @@ module _ (t : List ℤ) (a : verdict t ≡ Accepted) where
   good : Good t (rowsOf t)
   good = accepted-good t a
 
-  row-cons : (i : ℕ) → i < rowsOf t → words t i ≡ wordOf (field t i 1) ∷ withoutFirst t i
+  pub row-cons : (i : ℕ) → i < rowsOf t → words t i ≡ wordOf (field t i 1) ∷ withoutFirst t i
   row-cons i h = words-cons t i (row-in t i h) (good .row i h .some)
 
   pub more-words : (i : ℕ) → i < rowsOf t → 2 ≤ lengthOf t i → withoutFirst t i ≢ []
@@ -180,8 +180,8 @@ module _ (t : List ℤ) (a : verdict t ≡ Accepted) where
   unfolding modelOf backoff extended continued
   longest-bare i h e = (
     sym (ap backoffOf found) ∙ M .longest l long,
-    sym (ap extendedOf found) ∙ never (extended (modelOf t) l) (λ q. let y = M .extended-by l q in omega (arith, M .short (l ++ (y .0 ∷ [])) (y .1), length-append l (y .0 ∷ []), long)),
-    sym (ap continuedOf found) ∙ never (continued (modelOf t) l) (λ q. let x = M .continued-by l q in omega (arith, M .short (x .0 ∷ l) (x .1), long)),
+    sym (ap extendedOf found) ∙ false-unless (extended (modelOf t) l) (λ q. let y = M .extended-by l q in omega (arith, M .short (l ++ (y .0 ∷ [])) (y .1), length-append l (y .0 ∷ []), long)),
+    sym (ap continuedOf found) ∙ false-unless (continued (modelOf t) l) (λ q. let x = M .continued-by l q in omega (arith, M .short (x .0 ∷ l) (x .1), long)),
   )
     where
       M : AcceptedModel (modelOf t)
@@ -195,10 +195,6 @@ module _ (t : List ℤ) (a : verdict t ≡ Accepted) where
 
       found : modelOf t .find l ≡ entryAt t (words t i) (At i)
       found = rw (reverse-reverse (words t i)) (ap (entryAt t (words t i)) (finds t good i h))
-
-      never : (b : Bool) → (b ≡ true → ⊥) → b ≡ false
-      never true n = absurd (n refl)
-      never false n = refl
 
   node-bare : (i : ℕ) → i < length (nodesOf t) → length (nodeAt (nodesOf t) i .words) ≡ orderOf t → nodeAt (nodesOf t) i .load ≡ pos 0
   unfolding nodeOf modelOf
@@ -239,7 +235,7 @@ module _ (t : List ℤ) (a : verdict t ≡ Accepted) where
       rw (row-check i h)
       (marker-round-trip (probabilityAt t i) (backoffAt t i) (extendedIn t (words t i)) (continuedIn t (words t i)) (r .fields .probability) (backoff-in t (orderOf t) i (r .fields .backoff)))
 
-  pub root-marker : nodeMarker (rootOf t) ≡ Sound (pos 0) (half (half (pos (rowsOf t)))) (odd (half (pos (rowsOf t)))) (odd (pos (rowsOf t)))
+  root-marker : nodeMarker (rootOf t) ≡ Sound (pos 0) (half (half (pos (rowsOf t)))) (odd (half (pos (rowsOf t)))) (odd (pos (rowsOf t)))
   unfolding rootOf inProbability inBackoff
   root-marker =
       let z = accepted-size t a in

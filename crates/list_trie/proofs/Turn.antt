@@ -19,7 +19,7 @@ use Rattle.backoff.specs.Model.{inProbability}
 use Rattle.double_array.specs.DoubleArray.{markerCheck, markerBase, childSlot}
 use Rattle.rows.specs.Table.{rowsOf, field, probabilityAt, backoffAt, lengthOf, orderOf, wordOf, words, withoutFirst}
 use Rattle.rows.specs.Keys.{rowKey}
-use Rattle.rows.proofs.Table.{row-in, words-length, words-cons}
+use Rattle.rows.proofs.Table.{row-in, words-length}
 use Rattle.rows.proofs.Good.{ascend-key}
 use Rattle.list.specs.Check.{verdict}
 use Rattle.list.specs.ListModel.{extendedIn, continuedIn}
@@ -38,7 +38,7 @@ use Rattle.placing.proofs.NodeByNode.{place-longest, place-fewer, placedFirst-s
 use Rattle.list_trie.specs.ListTrie.{nodeOf, rootOf, nodesOf, RowsBelow}
 use Rattle.first_fit.specs.Steps.{oldestOf, Rising, fitOf, sideOf, Settles, Given, NodePlaced}
 use Rattle.list_trie.specs.Steps.{placedNodes, Filled, Tried}
-use Rattle.list_trie.proofs.ListTrie.{length-nodesOf, nodeAt-root, nodeAt-row, root-words, row-words, one-word, more-words, nodes-ready, row-check, children-stretch, children-root, middle-field}
+use Rattle.list_trie.proofs.ListTrie.{length-nodesOf, nodeAt-root, nodeAt-row, root-words, row-words, one-word, row-cons, more-words, nodes-ready, row-check, children-stretch, children-root, middle-field}
 use Rattle.first_fit.proofs.OldestWords.{oldest-in}
 use Rattle.list_trie.proofs.Parts.{partRows, count-rows, oldest-rows, back, length-back, back-inside, back-before, back-after}
 
@@ -123,8 +123,7 @@ module _ (t : List ℤ) (a : verdict t ≡ Accepted) {N n : ℕ} (h : n < length
         child-key : (j : ℕ) → j < rowsOf rows → rowKey t (from + j) ≡ wordOf (field rows j 1) + radix * key (m .words)
         child-key j l =
             let inside : from + j < rowsOf t = omega (arith, S .within) in
-            ap key (words-cons t (from + j) (row-in t (from + j) inside) (accepted-good t a .row (from + j) inside .some)
-            ∙ (λ i. wordOf (sym (fields j l) i) ∷ S .inside (from + j) (omega arith) (omega arith) i))
+            ap key (row-cons t a (from + j) inside ∙ (λ i. wordOf (sym (fields j l) i) ∷ S .inside (from + j) (omega arith) (omega arith) i))
 
     settles : {s : ℕ} {mark : ℤ} → s ≡ P .slot (m .words) → isLink mark ≡ false → Settles N (P .base) (P .check) B C rows s mark
     settles {s} e q = record {
@@ -182,9 +181,6 @@ module _ (t : List ℤ) (a : verdict t ≡ Accepted) {N n : ℕ} (h : n < length
       fits : from + k ≤ length W
       fits = omega (arith, S .within, F .each)
 
-      row : (j : ℕ) → j < rowsOf t → words t j ≡ wordOf (field t j 1) ∷ withoutFirst t j
-      row j l = words-cons t j (row-in t j l) (accepted-good t a .row j l .some)
-
       module _ (q : r ≤ N) where
         count : length I₀ ≡ k
         count = ap length part ∙ length-take-le k (drop from W) (omega (arith, length-drop from W, fits))
@@ -196,11 +192,11 @@ module _ (t : List ℤ) (a : verdict t ≡ Accepted) {N n : ℕ} (h : n < length
         child-item j l =
             let inside : from + j < rowsOf t = omega (arith, S .within) in
             let slot : P′ .slot (words t (from + j)) ≡ childSlot side d (wordOf (field t (from + j) 1)) =
-            ap (P′ .slot) (row (from + j) inside) ∙ slot-given m ws side d P (wordOf (field t (from + j) 1)) (withoutFirst t (from + j)) (S .inside (from + j) (omega arith) (omega arith)) in
+            ap (P′ .slot) (row-cons t a (from + j) inside) ∙ slot-given m ws side d P (wordOf (field t (from + j) 1)) (withoutFirst t (from + j)) (S .inside (from + j) (omega arith) (omega arith)) in
             back-inside from k W I′ fits same j l ∙ given-next q .item j (omega (arith, count)) ∙ ap (λ (z : ℤ). childSlot side d (wordOf z)) (fields j l) ∙ sym slot
 
         kept-item : (j : ℕ) → j < rowsOf t → withoutFirst t j ≢ m .words → getD W j 0 ≡ P′ .slot (words t j)
-        kept-item j l e = F .item j l ∙ sym (slot-kept m ws side d P (words t j) (λ w z. e (tail-eq-of-cons-eq (sym (row j l) ∙ z))))
+        kept-item j l e = F .item j l ∙ sym (slot-kept m ws side d P (words t j) (λ w z. e (tail-eq-of-cons-eq (sym (row-cons t a j l) ∙ z))))
 
         item-next : (j : ℕ) → j < rowsOf t → getD (back from k W I′) j 0 ≡ P′ .slot (words t j)
         item-next j l = go (lt-or-ge j from) (lt-or-ge j (from + k))
@@ -238,7 +234,7 @@ module _ (t : List ℤ) (a : verdict t ≡ Accepted) {N n : ℕ} (h : n < length
 
 -- ---- the root's turn
 
-pub first-top : (t : List ℤ) → placedNodes t 0 .top ≡ 1
+first-top : (t : List ℤ) → placedNodes t 0 .top ≡ 1
 unfolding placeAll unplaced
 first-top t = refl
 

@@ -7,7 +7,7 @@ ghost use lib.ListN.{length};
 ghost use Rattle.backoff.specs.Limits.{orderLimit};
 ghost use Rattle.backoff.specs.declared.Verdict.the-variants.{Accepted};
 ghost use Rattle.double_array.specs.DoubleArray.{markerCheck, markerBase};
-ghost use Rattle.rows.specs.Table.{rowsOf, field, probabilityAt, backoffAt, lengthOf, orderOf};
+ghost use Rattle.rows.specs.Table.{rowsOf, probabilityAt, backoffAt, lengthOf, orderOf};
 ghost use Rattle.list.specs.Check.{verdict};
 ghost use Rattle.extensions.specs.Stretch.{Stretch};
 ghost use Rattle.list_trie.specs.ListTrie.{RowsBelow, placedList};

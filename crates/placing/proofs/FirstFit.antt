@@ -77,7 +77,7 @@ module _ (c : Room) where
   open-none d w l = let e : childSlot true d w ≡ 0 = omega arith in rw e
 
   module _ (behind : Bool) (d : ℕ) where
-    pub all-open : (vs : List ℕ) → ((w : ℕ) → List·Memᴰ w vs → isOpen c (childSlot behind d w) ≡ true) → allOpen c behind d vs ≡ true
+    all-open : (vs : List ℕ) → ((w : ℕ) → List·Memᴰ w vs → isOpen c (childSlot behind d w) ≡ true) → allOpen c behind d vs ≡ true
     unfolding allOpen
     all-open [] h = refl
     all-open (v ∷ vs) h =
@@ -142,7 +142,7 @@ module _ (c : Room) (ws : List ℕ) where
         let d = firstFit c ws top in
         all-open-at c (sideAt d) d ws (fits-side d fit-fits) w m
 
-    pub fit-least : (e : ℕ) → 1 ≤ e → e < firstFit c ws top → fits c ws e ≡ false
+    fit-least : (e : ℕ) → 1 ≤ e → e < firstFit c ws top → fits c ws e ≡ false
     unfolding firstFit
     fit-least = search-first (fits c ws) top 1 (fits c ws 1) refl
 

@@ -1,5 +1,4 @@
 -- The laws of the placing rule.
-pub mod Members
 pub mod Trie
 pub mod FirstFit
 pub mod Rooms

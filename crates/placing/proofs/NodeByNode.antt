@@ -8,18 +8,32 @@ use native.Mathlib.Omega.{arith}
 use native.Mathlib.Decide.{ℕ-discrete}
 use borrow.Author.Tests.{eq-eqb, ne-eqb}
 use lib.IntN.{pos, negsuc, pos-ne-negsuc}
-use lib.ListN.{length, take, drop, take-append-drop}
-use lib.Seq.{take-suc, take-length}
+use lib.ListN.{length, getD, take, drop, length-take, take-append-drop}
+use lib.Seq.{take-suc, take-length, getD-take}
 use Rattle.double_array.specs.DoubleArray.{freeCheck, headCheck}
 use Rattle.placing.specs.Trie.{Node, children, nodeAt, Ready}
 use Rattle.placing.specs.Placing.{Room, Placed, update, settle, placeAt, withMarker, withoutMarker, place, firstFit, placeAll, unplaced, placing}
-use Rattle.placing.proofs.Members.{getD-in, getD-in-take, in-take-getD}
+use Rattle.double_array.proofs.Items.{getD-in, in-getD}
 use Rattle.placing.proofs.Trie.{in-child, root-in, child-positive, child-short}
 use Rattle.placing.proofs.FirstFit.{sideAt, open-told, past-top, fit-positive, fit-free, fit-children-open, fit-only}
 use Rattle.placing.proofs.Rooms.{update-same, update-other, reach-top}
 use Rattle.placing.proofs.Placing.{Slotted, Inv, Next, NextMarked, base-n, root-stays, settle-keeps, bare-root, bare-keeps}
 
-pub unplaced-inv : (order : ℕ) (all : List Node) → ((us : List ℕ) (w : ℕ) → List·Memᴰ w (children all us) → length us < order) → Inv order all [] (unplaced order)
+-- ---- the first items of a list, by their place
+
+module _ {A : Type 0} (l : List A) (i : ℕ) where
+  getD-in-take : (j : ℕ) (x : A) → j < i → j < length l → List·Memᴰ (getD l j x) (take i l)
+  getD-in-take j x h k = rw (getD-take i l j x h) at (getD-in (take i l) j x (omega (arith, length-take i l)))
+
+  in-take-getD : (x a : A) → List·Memᴰ a (take i l) → (j : ℕ) × (j < i) × (getD l j x ≡ a)
+  in-take-getD x a h =
+      let r = in-getD (take i l) x a h in
+      let k : r .0 < i = omega (arith, r .1, length-take i l) in
+      (r .0, k, sym (getD-take i l (r .0) x k) ∙ r .2)
+
+-- ---- node by node
+
+unplaced-inv : (order : ℕ) (all : List Node) → ((us : List ℕ) (w : ℕ) → List·Memᴰ w (children all us) → length us < order) → Inv order all [] (unplaced order)
 unfolding unplaced
 unplaced-inv order all short = record {
   head = update-same (λ t. freeCheck) 0 (headCheck order) 0 refl;
@@ -55,19 +69,19 @@ module _ (order : ℕ) (n : Node) (ws : List ℕ) (P : Placed) where
           rw (place-fewer e) (reach-top (P .top) (sideAt (P .check) ws d) d ws .0)
 
 -- the nodes in two lots
-pub placeAll-append : (order : ℕ) (all ms ns : List Node) (P : Placed) → placeAll order all (ms ++ ns) P ≡ placeAll order all ns (placeAll order all ms P)
+placeAll-append : (order : ℕ) (all ms ns : List Node) (P : Placed) → placeAll order all (ms ++ ns) P ≡ placeAll order all ns (placeAll order all ms P)
 unfolding placeAll
 placeAll-append order all [] ns P = refl
 placeAll-append order all (m ∷ ms) ns P = placeAll-append order all ms ns (place order m (children all (m .words)) P)
 
 -- the reach only grows
-pub top-grows : (order : ℕ) (all ns : List Node) (P : Placed) → P .top ≤ placeAll order all ns P .top
+top-grows : (order : ℕ) (all ns : List Node) (P : Placed) → P .top ≤ placeAll order all ns P .top
 unfolding placeAll
 top-grows order all [] P = omega arith
 top-grows order all (n ∷ ns) P = omega (arith, top-grows order all ns (place order n (children all (n .words)) P), place-grows order n (children all (n .words)) P)
 
 -- so a part of the nodes that passes slot N refuses the whole
-pub over-stays-over : (order : ℕ) (all ms ns : List Node) (P : Placed) (N : ℕ) → N < placeAll order all ms P .top → N < placeAll order all (ms ++ ns) P .top
+over-stays-over : (order : ℕ) (all ms ns : List Node) (P : Placed) (N : ℕ) → N < placeAll order all ms P .top → N < placeAll order all (ms ++ ns) P .top
 over-stays-over order all ms ns P N h = rw (placeAll-append order all ms ns P) (omega (arith, top-grows order all ns (placeAll order all ms P)))
 
 -- slots 0 and 1 of an array whose root is r

@@ -2,7 +2,7 @@
 -- Assumes nothing.
 use mathlib.Core.Path.{_≡_, refl, sym, ap, _∙_, subst}
 use mathlib.Core.Logic.{_⊎_, inl, inr, _≢_}
-use mathlib.Core.Bool.{Bool, true, false}
+use mathlib.Core.Bool.{Bool}
 use mathlib.Core.List.{List, [], _∷_, _++_, List·Memᴰ, List·Memᴰ·head, List·Memᴰ·append-cases, List·Memᴰ·eq-of-singleton, Memᴰ·append-left, Memᴰ·append-right}
 use Prim.Native.Nat.{ℕ, suc, _≤_, _<_}
 use native.Mathlib.Omega.{arith}
@@ -10,7 +10,7 @@ use native.Mathlib.Decide.{ℕ-discrete, decLt}
 use lib.IntN.{pos, negsuc, pos-ne-negsuc}
 use lib.ListN.{length}
 use Rattle.double_array.specs.DoubleArray.{freeCheck, headCheck, childSlot}
-use Rattle.double_array.proofs.DoubleArray.{slots-apart}
+use Rattle.double_array.proofs.DoubleArray.{slots-apart, marker-apart}
 use Rattle.placing.specs.Trie.{Node, children}
 use Rattle.placing.specs.Placing.{Placed, update, own, give, settle, withoutMarker}
 use Rattle.backoff.proofs.Words.{same-refl, same-ne}
@@ -84,7 +84,7 @@ module _ {order : ℕ} {all done : List Node} {P : Placed} (I : Inv order all do
   parent-lies : (m : Node) → List·Memᴰ m done → (w : ℕ) → List·Memᴰ w (children all (m .words)) → Lies all P m
   parent-lies m h w k = I .lies m h (λ e. absurd (omega (arith, I .short (m .words) w k)))
 
-  pub child-lies : (w : ℕ) (us : List ℕ) → Slotted all done (w ∷ us) → ChildLies all done P w us
+  child-lies : (w : ℕ) (us : List ℕ) → Slotted all done (w ∷ us) → ChildLies all done P w us
   child-lies w us t = subst (λ (vs : List ℕ). ChildLies all done P w vs) (t .2) (of-parent (t .0) (t .1) (rw (t .2) (t .3)))
     where
       of-parent : (m : Node) → List·Memᴰ m done → List·Memᴰ w (children all (m .words)) → ChildLies all done P w (m .words)
@@ -106,7 +106,7 @@ module _ {order : ℕ} {all done : List Node} {P : Placed} (I : Inv order all do
           slots-apart (a .behind) (a .behind) (a .d) u v (a .child-word u x) (a .child-word v y) (a .child-positive u x) (a .child-positive v y) (sym (a .child-slot u x) ∙ q ∙ a .child-slot v y) .1
 
   -- two nodes with a slot lie in different slots
-  pub slots-distinct : (us vs : List ℕ) → Slotted all done us → Slotted all done vs → P .slot us ≡ P .slot vs → us ≡ vs
+  slots-distinct : (us vs : List ℕ) → Slotted all done us → Slotted all done vs → P .slot us ≡ P .slot vs → us ≡ vs
   slots-distinct [] [] p q e = refl
   slots-distinct [] (v ∷ vs) p q e = absurd (omega (arith, I .root, child-lies v vs q .positive))
   slots-distinct (u ∷ us) [] p q e = absurd (omega (arith, I .root, child-lies u us p .positive))
@@ -217,19 +217,15 @@ module _ {order : ℕ} {all done : List Node} {P : Placed} (I : Inv order all do
   unfolding settle
   check-other t h = update-other (own behind d s ws (P .check)) d (negsuc (n .cost)) t h
 
-  pub check-stays : (t : ℕ) → P .check t ≢ freeCheck → P′ .check t ≡ P .check t
+  check-stays : (t : ℕ) → P .check t ≢ freeCheck → P′ .check t ≡ P .check t
   check-stays t h = check-other t (λ e. h (ap (P .check) e ∙ N .d-free)) ∙ go (own-cases behind d s ws (P .check) t)
     where
       go : Owned behind d s ws t (P .check t) (own behind d s ws (P .check) t) → own behind d s ws (P .check) t ≡ P .check t
       go (kept q r) = q
       go (given w m p q) = absurd (h (ap (P .check) p ∙ N .children-free w m))
 
-  child-off-d : (side : Bool) (w : ℕ) → 1 ≤ d → 1 ≤ w → childSlot side d w ≢ d
-  child-off-d true w k l e = absurd (omega arith)
-  child-off-d false w k l e = absurd (omega arith)
-
   check-child : (w : ℕ) → List·Memᴰ w ws → P′ .check (childSlot behind d w) ≡ pos s
-  check-child w h = check-other (childSlot behind d w) (λ e. child-off-d behind w (N .d-positive) (N .positive w h) e) ∙ go (own-cases behind d s ws (P .check) (childSlot behind d w))
+  check-child w h = check-other (childSlot behind d w) (λ e. marker-apart behind d w (N .d-positive) (N .positive w h) (sym e)) ∙ go (own-cases behind d s ws (P .check) (childSlot behind d w))
     where
       go : Owned behind d s ws (childSlot behind d w) (P .check (childSlot behind d w)) (own behind d s ws (P .check) (childSlot behind d w)) → own behind d s ws (P .check) (childSlot behind d w) ≡ pos s
       go (kept q r) = absurd (r w h refl)

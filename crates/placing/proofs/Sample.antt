@@ -23,7 +23,7 @@ use Rattle.backoff.proofs.Words.{same-eq, same-refl}
 abbrev row : List ℕ → ℕ → ℕ → Bool → Bool → Node
 row ws cost fall e f = record { words = ws; cost = cost; load = markerBase (negℤ (pos fall)) e f }
 
-abbrev pub sampleNodes : List Node
+abbrev sampleNodes : List Node
 sampleNodes =
     record { words = []; cost = 0; load = pos 9 }
     ∷ row (1 ∷ []) 20000 0 false false

@@ -15,10 +15,10 @@ use lib.Seq.{take-suc, take-length}
 use Rattle.backoff.specs.Words.{sameWords}
 use Rattle.backoff.proofs.Words.{same-eq, same-refl, same-ne}
 use Rattle.double_array.specs.DoubleArray.{freeCheck, headCheck, childSlot}
-use Rattle.double_array.proofs.DoubleArray.{slots-apart}
+use Rattle.double_array.proofs.DoubleArray.{slots-apart, marker-apart}
 use Rattle.placing.specs.Trie.{Node, childOf, children, longestNodes, nodeAt, Ready}
 use Rattle.placing.specs.Placing.{Room, Placed, isFree, update, firstFit, own, settle, placeAt, withMarker, withoutMarker, placeAll, unplaced, placing, slots, takenSlots}
-use Rattle.placing.proofs.Members.{getD-in, in-getD}
+use Rattle.double_array.proofs.Items.{getD-in, in-getD}
 use Rattle.placing.proofs.FirstFit.{isFree-yes, isFree-no, sideAt}
 use Rattle.placing.proofs.Rooms.{update-other, Owned, kept, given, own-cases, reach-top, reach-child}
 use Rattle.placing.proofs.Slots.{length-slots, getD-slots, set-slots}
@@ -79,16 +79,12 @@ module _ {order : ℕ} {all done : List Node} {P : Placed} {n : Node} {behind : 
   abbrev s : ℕ
   s = P .slot (n .words)
 
-  marker-off : (side : Bool) (w : ℕ) → 1 ≤ d → 1 ≤ w → d ≢ childSlot side d w
-  marker-off true w k l e = absurd (omega arith)
-  marker-off false w k l e = absurd (omega arith)
-
   marker-free : own behind d s ws (P .check) d ≡ freeCheck
   marker-free = go (own-cases behind d s ws (P .check) d)
     where
       go : Owned behind d s ws d (P .check d) (own behind d s ws (P .check) d) → own behind d s ws (P .check) d ≡ freeCheck
       go (kept q r) = q ∙ M .d-free
-      go (given w h p q) = absurd (marker-off behind w (M .d-positive) (M .positive w h) p)
+      go (given w h p q) = absurd (marker-apart behind d w (M .d-positive) (M .positive w h) p)
 
   taken-settle : takenIn N (settle n ws behind d P .check) ≡ suc (length ws) + takenIn N (P .check)
   unfolding settle

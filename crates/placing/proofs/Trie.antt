@@ -15,7 +15,7 @@ use Rattle.backoff.specs.Limits.{wordLimit}
 use Rattle.backoff.specs.Words.{sameWords, isWord, areWords}
 use Rattle.placing.specs.Trie.{Node, childOf, children, findNode, nodeAt, Ready}
 use Rattle.backoff.proofs.Words.{same-eq, same-refl}
-use Rattle.placing.proofs.Members.{getD-in, in-getD}
+use Rattle.double_array.proofs.Items.{getD-in, in-getD}
 
 -- ---- children and nodes found
 

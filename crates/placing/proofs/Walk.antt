@@ -55,7 +55,7 @@ past-sound Broken h rest = absurd (h refl)
 module _ {order : ℕ} {nodes : List Node} {slot : List ℕ → ℕ} {base check : List ℤ} (R : Ready order nodes) (L : LaidOut nodes slot base check)
     (sound : (m : Node) → List·Memᴰ m nodes → nodeMarker m ≢ Broken) where
   -- the walk from a node
-  pub look-from : (q us : List ℕ) (m : Node) → findNode nodes us ≡ some m → lookFrom base check (length us) (slot us) q ≡ lookNode (findNode nodes (reverseAux q us))
+  look-from : (q us : List ℕ) (m : Node) → findNode nodes us ≡ some m → lookFrom base check (length us) (slot us) q ≡ lookNode (findNode nodes (reverseAux q us))
   unfolding lookFrom
   look-from [] us m e = rw (L .marker us m e, e)
   look-from (w ∷ q) us m e =
@@ -72,7 +72,7 @@ module _ {order : ℕ} {nodes : List Node} {slot : List ℕ → ℕ} {base check
       go rec (some k) h = rw (L .child us m e w, h) (rec k h)
 
   -- a walk from the root over words, newest first, comes to the node of those words
-  pub look-laid-out : (l : List ℕ) → lookFrom base check 0 0 l ≡ lookNode (findNode nodes (reverse l))
+  look-laid-out : (l : List ℕ) → lookFrom base check 0 0 l ≡ lookNode (findNode nodes (reverse l))
   look-laid-out l =
       let r = root-found R in
       rw (L .root) at (look-from l [] (r .0) (r .1))

@@ -8,11 +8,12 @@ use lib.ListN.{length, getD, take, drop, length-drop, length-append, length-map}
 use lib.Seq.{take-all}
 use lib.IntN.{ℤ, pos}
 use Rattle.backoff.specs.Words.{areWords}
-use Rattle.backoff.proofs.Words.{words-rest, words-more, first-some, first-limit, areWords-snoc}
+use Rattle.backoff.proofs.Words.{words-more, first-some, first-limit, areWords-snoc}
 use Rattle.rows.specs.Table.{wordOf, wordsOf}
+use Rattle.rows.proofs.Table.{areWords-drop}
+use Rattle.rows.proofs.Rows.{wordOf-pos}
 use Rattle.plain.specs.declared.Recent.{Recent}
 use Rattle.plain.specs.Held.{IsRecent, inUse}
-use Rattle.plain.proofs.Words.{wordOf-pos}
 
 data Four : List ℤ → Type 0 where
   places : (a b c d : ℤ) → Four (a ∷ b ∷ c ∷ d ∷ [])
@@ -24,20 +25,6 @@ four-places (a ∷ b ∷ []) h = absurd (omega arith)
 four-places (a ∷ b ∷ c ∷ []) h = absurd (omega arith)
 four-places (a ∷ b ∷ c ∷ d ∷ []) h = places a b c d
 four-places (a ∷ b ∷ c ∷ d ∷ e ∷ l) h = absurd (omega arith)
-
--- a part of words is words
-pub areWords-drop : (j : ℕ) (zs : List ℤ) → areWords (wordsOf zs) ≡ true → areWords (wordsOf (drop j zs)) ≡ true
-unfolding wordsOf
-areWords-drop zero zs e = e
-areWords-drop (suc j) [] e = e
-areWords-drop (suc j) (z ∷ zs) e = areWords-drop j zs (words-rest (wordOf z) (wordsOf zs) e)
-
-pub areWords-take : (k : ℕ) (zs : List ℤ) → areWords (wordsOf zs) ≡ true → areWords (wordsOf (take k zs)) ≡ true
-unfolding wordsOf
-areWords-take zero zs e = unfold areWords in refl
-areWords-take (suc k) [] e = e
-areWords-take (suc k) (z ∷ zs) e =
-    words-more (wordOf z) (wordsOf (take k zs)) (first-some (wordOf z) (wordsOf zs) e) (first-limit (wordOf z) (wordsOf zs) e) (areWords-take k zs (words-rest (wordOf z) (wordsOf zs) e))
 
 module _ (r : Recent) (k : IsRecent r) where
   -- the history as the code hands it on

@@ -2,7 +2,7 @@
 -- get. Assumes nothing.
 use mathlib.Core.Path.{_≡_, refl, sym, ap, _∙_}
 use mathlib.Core.Bool.{Bool, true, false, cond, true≢false}
-use mathlib.Core.List.{List, [], _∷_, reverse}
+use mathlib.Core.List.{List, [], _∷_, _++_, reverse}
 use Prim.Native.Nat.{ℕ, suc, _+_, _*_, _-_, _<_, _≤_, min}
 use native.Mathlib.Numerals.{add-one}
 use native.Mathlib.Decide.{decLe}
@@ -13,17 +13,19 @@ use lib.IntN.{ℤ, pos, _+ℤ_}
 use mir.Syntax.{w32}
 use mir.Val.{SFits}
 use Rattle.integer.proofs.Arithmetic.{zarith, up, down, add}
-use Rattle.integer.proofs.Ranges.{between-low, between-high}
+use Rattle.integer.proofs.Ranges.{false-unless, between-low, between-high}
 use Rattle.backoff.specs.Limits.{orderLimit, leastProbability, largestBackoff}
 use Rattle.backoff.specs.Model.{Model, AcceptedModel, inProbability, listed, probability, backoff}
 use Rattle.backoff.specs.Rule.{addPoints, rowScore, textRule}
 use Rattle.backoff.proofs.Model.{dead-backoff, unlisted-dead}
 use Rattle.backoff.proofs.Sizes.{backoff-size}
 use Rattle.rows.specs.Table.{wordsOf}
+use Rattle.row_search.specs.Search.{findIn, foundRow}
+use Rattle.row_search.specs.declared.Row.{Row}
 use Rattle.list.specs.ListModel.{modelOf}
-use Rattle.plain.specs.declared.Row.{Row}
 use Rattle.plain.specs.declared.Score.{Score}
-use Rattle.plain.specs.Held.{IsRow, IsScore}
+use Rattle.plain.specs.Held.{IsScore}
+use Rattle.plain.proofs.Rows.{row-with-listed, row-with-probability, row-with-extended}
 
 module _ (M : Model) (v : ℕ) where
   pub text-here : (h : List ℕ) → listed M (v ∷ reverse h) ≡ true → textRule M h v ≡ rowScore M (v ∷ reverse h) (length h + 1)
@@ -36,7 +38,7 @@ module _ (M : Model) (v : ℕ) where
   history-some [] l e = absurd (true≢false (sym l ∙ e))
   history-some (o ∷ h) l e = omega arith
 
-  pub text-shorter : (h : List ℕ) → 0 < length h → listed M (v ∷ reverse h) ≡ false → textRule M h v ≡ addPoints (backoff M (reverse h)) (textRule M (drop 1 h) v)
+  text-shorter : (h : List ℕ) → 0 < length h → listed M (v ∷ reverse h) ≡ false → textRule M h v ≡ addPoints (backoff M (reverse h)) (textRule M (drop 1 h) v)
   unfolding textRule
   text-shorter [] l e = absurd (omega arith)
   text-shorter (o ∷ h) l e = rw e
@@ -54,14 +56,7 @@ module _ (M : Model) (v : ℕ) where
 -- a history of n words or more has no back-off
 module _ {M : Model} (A : AcceptedModel M) where
   long-unlisted : (l : List ℕ) → M .order < length l → listed M l ≡ false
-  long-unlisted l h = go (listed M l) refl
-    where
-      go : (b : Bool) → listed M l ≡ b → listed M l ≡ false
-      go true e = absurd (omega (arith, A .short l e))
-      go false e = e
-
-  pub long-row : (l : List ℕ) → orderLimit < length l → listed M l ≡ false
-  long-row l h = long-unlisted l (omega (arith, A .order-high))
+  long-unlisted l h = false-unless _ (λ e. omega (arith, A .short l e))
 
   long-backoff : (l : List ℕ) → orderLimit ≤ length l → backoff M l ≡ pos 0
   long-backoff l h = go (decLe (length l) (M .order))
@@ -83,7 +78,7 @@ module _ {M : Model} (A : AcceptedModel M) where
       let h = between-high leastProbability (pos 0) (probability M l) (A .in-probability l) in
       record { low = omega zarith; high = omega zarith }
 
-  pub text-small : (h : List ℕ) (v : ℕ) → Small (textRule M h v .points) (min 4 (length h))
+  text-small : (h : List ℕ) (v : ℕ) → Small (textRule M h v .points) (min 4 (length h))
   unfolding textRule addPoints
   text-small [] v = probability-small (v ∷ []) 0
   text-small (o ∷ h) v = go (listed M (v ∷ reverse (o ∷ h))) (text-small h v)
@@ -123,7 +118,7 @@ module _ {M : Model} (A : AcceptedModel M) where
       omega (zarith, z, s .low, s .high)
 
 -- the history without its oldest word, as the code hands it on
-abbrev pub shorterPart : List ℤ → List ℤ
+abbrev shorterPart : List ℤ → List ℤ
 shorterPart zs = take (length zs - 1) (drop 1 zs)
 
 pub shorter-length : (zs : List ℤ) → length (shorterPart zs) ≡ length zs - 1
@@ -136,11 +131,12 @@ shorter-words (z ∷ zs) = ap wordsOf (take-all (suc (length zs) - 1) zs (omega 
 
 -- the score of a call, by the row of history and word, and by the call for the shorter history
 module _ {t : List ℤ} (v : ℕ) (zs : List ℤ) where
-  pub score-here : {r : Row} {x : ℤ} → IsRow t (v ∷ reverse (wordsOf zs)) r → r .listed ≡ true → x ≡ r .p → IsScore t (textRule (modelOf t) (wordsOf zs) v) (record { points = x; matched = length zs + 1; row = r .at })
+  pub score-here : {r : Row} {x : ℤ} → r ≡ foundRow t (findIn t (wordsOf zs ++ (v ∷ []))) → r .listed ≡ true → x ≡ r .p → IsScore t (textRule (modelOf t) (wordsOf zs) v) (record { points = x; matched = length zs + 1; row = r .at })
   score-here k l e =
       let size : length zs ≡ length (wordsOf zs) = unfold wordsOf in sym (length-map zs _) in
-      rw (text-here (modelOf t) v (wordsOf zs) (sym (k .listed-is) ∙ l), size)
-      (record { points-are = e ∙ k .p-is; matched-is = refl; row-is = k .row-is l })
+      let is : foundRow t (findIn t (wordsOf zs ++ (v ∷ []))) .listed ≡ true = rw k at l in
+      rw (text-here (modelOf t) v (wordsOf zs) (sym (row-with-listed t (wordsOf zs) v) ∙ is), size, k)
+      (record { points-are = (rw k at e) ∙ row-with-probability t (wordsOf zs) v; matched-is = refl; row-is = row-with-extended t (wordsOf zs) v is })
 
   pub score-shorter : {s : Score} {x : ℤ} → 0 < length zs → listed (modelOf t) (v ∷ reverse (wordsOf zs)) ≡ false → x ≡ backoff (modelOf t) (reverse (wordsOf zs)) +ℤ textRule (modelOf t) (drop 1 (wordsOf zs)) v .points → IsScore t (textRule (modelOf t) (drop 1 (wordsOf zs)) v) s → IsScore t (textRule (modelOf t) (wordsOf zs) v) (record { points = x; matched = s .matched; row = s .row })
   score-shorter l u e k =

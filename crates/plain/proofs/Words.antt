@@ -7,7 +7,7 @@ use native.Mathlib.Omega.{arith}
 use lib.IntN.{ℤ, pos}
 use Rattle.integer.specs.Integer.{between}
 use Rattle.integer.proofs.Arithmetic.{zarith, abs}
-use Rattle.integer.proofs.Ranges.{between-low, between-yes, upTo-in, upTo-out}
+use Rattle.integer.proofs.Ranges.{false-unless, between-low, upTo-in, upTo-out}
 use Rattle.backoff.specs.Limits.{wordLimit, unknownWord}
 use Rattle.backoff.specs.Words.{areWords}
 use Rattle.backoff.specs.Model.{Model, AcceptedModel, listed}
@@ -15,9 +15,6 @@ use Rattle.backoff.specs.Rule.{replaced}
 use Rattle.backoff.proofs.Words.{first-some, first-limit}
 use Rattle.backoff.proofs.Rule.{replaced-listed}
 use Rattle.rows.specs.Table.{wordOf}
-
-pub wordOf-pos : (w : ℕ) → w ≤ wordLimit → wordOf (pos w) ≡ w
-wordOf-pos w h = upTo-in (pos wordLimit) (pos w) (between-yes (pos 0) (pos wordLimit) (pos w) (omega zarith) (omega zarith))
 
 -- a number that is some word is that word
 pub wordOf-some : (z : ℤ) (w : ℕ) → wordOf z ≡ suc w → z ≡ pos (suc w)
@@ -45,8 +42,5 @@ module _ (M : Model) (w : ℕ) where
 
     -- "one outside 1..65,535 is unlisted"
     pub replaced-outside : (0 < w → w ≤ wordLimit → ⊥) → replaced M w ≡ unknownWord
-    replaced-outside h = replaced-unknown (go (listed M (w ∷ [])) refl)
-      where
-        go : (b : Bool) → listed M (w ∷ []) ≡ b → b ≡ false
-        go true e = absurd (h (first-some w [] (A .in-words (w ∷ []) e)) (first-limit w [] (A .in-words (w ∷ []) e)))
-        go false e = refl
+    replaced-outside h =
+        replaced-unknown (false-unless _ (λ e. let a = A .in-words (w ∷ []) e in h (first-some w [] a) (first-limit w [] a)))

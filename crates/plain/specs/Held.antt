@@ -1,6 +1,6 @@
--- How the code holds a row, a score and the newest words. Only private contracts cite it. Assumes nothing.
+-- How the code holds a score and the newest words. Only private contracts cite it. Assumes nothing.
 use mathlib.Core.Path.{_≡_}
-use mathlib.Core.Bool.{Bool, true, false, cond}
+use mathlib.Core.Bool.{Bool, true, cond}
 use mathlib.Core.List.{List, [], _∷_, _++_}
 use Prim.Native.Nat.{ℕ, _+_, _-_, _<_, _≤_, min}
 use lib.ListN.{length, drop}
@@ -8,31 +8,19 @@ use lib.IntN.{ℤ, pos}
 use lib.Dec.{eqb}
 use Rattle.backoff.specs.Limits.{startWord, endWord}
 use Rattle.backoff.specs.Words.{areWords}
-use Rattle.backoff.specs.Model.{Model, listed, probability, backoff, extended}
+use Rattle.backoff.specs.Model.{Model}
 use Rattle.backoff.specs.Rule as rule
 use Rattle.rows.specs.Table.{rowsOf, wordsOf, words}
-use Rattle.list.specs.ListModel.{extendedIn, modelOf}
-use Rattle.plain.specs.declared.Row.{Row}
+use Rattle.list.specs.ListModel.{extendedIn}
 use Rattle.plain.specs.declared.Score.{Score}
 use Rattle.plain.specs.declared.Scored.{Scored}
 use Rattle.plain.specs.declared.Recent.{Recent}
 use Rattle.plain.specs.declared.Next.{Next}
 
--- an unlisted sequence
-abbrev pub noRow : Row
-noRow = record { listed = false; at = 0; p = pos 0; b = pos 0 }
-
 -- row i of the list t, of which e says whether it is extended
 pub record IsExtended (t : List ℤ) (i : ℕ) (e : Bool) : Type 0 where
   pub within : i < rowsOf t
   pub extended-is : extendedIn t (words t i) ≡ e
-
--- the sequence l, newest word first, in the list t
-pub record IsRow (t : List ℤ) (l : List ℕ) (r : Row) : Type 0 where
-  pub listed-is : r .listed ≡ listed (modelOf t) l
-  pub p-is : r .p ≡ probability (modelOf t) l
-  pub b-is : r .b ≡ backoff (modelOf t) l
-  pub row-is : r .listed ≡ true → IsExtended t (r .at) (extended (modelOf t) l)
 
 -- the score s in the list t
 pub record IsScore (t : List ℤ) (s : rule.Score) (r : Score) : Type 0 where

@@ -1,7 +1,7 @@
 // Plain scoring: the back-off rule over the lent list alone. The definitions that the contracts cite are in specs/.
 ghost use mathlib.Core.Path.{_≡_};
 ghost use mathlib.Core.Bool.{true};
-ghost use mathlib.Core.List.{[], _∷_, _++_, reverse};
+ghost use mathlib.Core.List.{[], _∷_, _++_};
 ghost use Prim.Native.Nat.{_+_, _<_, _≤_, min};
 ghost use lib.IntN.{pos};
 ghost use lib.ListN.{length, take, getD};
@@ -13,13 +13,14 @@ ghost use Rattle.backoff.specs.Rule.{replaced, textRule, lengthByte, rulePoints
 ghost use Rattle.backoff.specs.Run.{written, front};
 ghost use Rattle.backoff.specs.declared.Verdict.the-variants.{Accepted};
 ghost use Rattle.rows.specs.Table.{rowsOf, orderOf, wordOf, wordsOf, words};
+ghost use Rattle.row_search.specs.Search.{findIn, foundRow};
 ghost use Rattle.list.specs.Check.{verdict};
 ghost use Rattle.list.specs.ListModel.{extendedIn, modelOf};
 ghost use Rattle.plain.specs.Plain.{runOf, plainOutcome, Answers, PlainMeans};
-ghost use Rattle.plain.specs.Held.{noRow, IsRow, IsScore, IsScored, IsRecent, inUse, firstHistory, pushed, IsNext};
+ghost use Rattle.plain.specs.Held.{IsScore, IsScored, IsRecent, inUse, firstHistory, pushed, IsNext};
 use backoff::Verdict;
 use backoff::WORD_LIMIT;
-use row_search::Found;
+use row_search::Row;
 use row_search::Span;
 
 const UNKNOWN_WORD: i32 = backoff::UNKNOWN_WORD as i32;
@@ -27,25 +28,6 @@ const UNKNOWN_WORD: i32 = backoff::UNKNOWN_WORD as i32;
 const START_WORD: i32 = backoff::START_WORD as i32;
 
 const LONGEST_ROW: usize = backoff::ORDER_LIMIT as usize;
-
-// A sequence as the list has it: `at` is where its row stands. That, p and b are 0 if it is unlisted.
-struct Row {
-    listed: bool,
-    at: usize,
-    p: i32,
-    b: i32,
-}
-
-fn unlisted() -> Row
-    ensures { λ r. ⌜ r ≡ noRow ⌝ }
-{
-    Row {
-        listed: false,
-        at: 0,
-        p: 0,
-        b: 0,
-    }
-}
 
 // The smaller of the two.
 fn smaller(a: usize, b: usize) -> usize
@@ -126,21 +108,13 @@ fn likely_rows(starts: &[usize; 8], words: &[i32]) -> Span
 // The row of these words, oldest first.
 fn row_of(table: &[i32], starts: &[usize; 8], words: &[i32]) -> Row
     requires { ⌜ (verdict (now table) ≡ Accepted) × (areWords (wordsOf (now words)) ≡ true) ⌝ }
-    ensures { λ r. ⌜ IsRow (now (table .entry)) (reverse (wordsOf (now (words .entry)))) r ⌝ }
+    ensures { λ r. ⌜ r ≡ foundRow (now (table .entry)) (findIn (now (table .entry)) (wordsOf (now (words .entry)))) ⌝ }
 {
     if LONGEST_ROW < words.len() {
-        return unlisted();
+        return row_search::unlisted();
     }
     let found = row_search::find_among(table, words, likely_rows(starts, words));
-    let Found::At(i) = found else {
-        return unlisted();
-    };
-    Row {
-        listed: true,
-        at: i,
-        p: rows::field(table, i, 6),
-        b: rows::field(table, i, 7),
-    }
+    row_search::found_row(table, found)
 }
 
 // The word itself where it has a one-word row, else 1.
@@ -186,10 +160,10 @@ fn followed(history: &[i32], word: i32) -> [i32; 5]
 // The row of the history followed by the word.
 fn row_with(table: &[i32], starts: &[usize; 8], history: &[i32], word: i32) -> Row
     requires { ⌜ (verdict (now table) ≡ Accepted) × (areWords (wordsOf (now history)) ≡ true) × (areWords (wordOf word ∷ []) ≡ true) ⌝ }
-    ensures { λ r. ⌜ IsRow (now (table .entry)) (wordOf word ∷ reverse (wordsOf (now (history .entry)))) r ⌝ }
+    ensures { λ r. ⌜ r ≡ foundRow (now (table .entry)) (findIn (now (table .entry)) (wordsOf (now (history .entry)) ++ (wordOf word ∷ []))) ⌝ }
 {
     if LONGEST_ROW <= history.len() {
-        return unlisted();
+        return row_search::unlisted();
     }
     let words = followed(history, word);
     let end = history.len() + 1;

@@ -6,18 +6,20 @@ use Prim.Native.Nat.{ℕ, zero, suc, _<_}
 use native.Mathlib.Omega.{arith}
 use lib.IntN.{ℤ}
 use lib.ListN.{length, length-map}
+use Rattle.backoff.specs.Limits.{orderLimit}
 use Rattle.backoff.specs.Words.{sameWords, areWords, key}
 use Rattle.backoff.proofs.Words.{same-eq}
 use Rattle.rows.specs.Table.{rowsOf, wordsOf, words}
 use Rattle.rows.specs.Good.{GoodRow, Good}
 use Rattle.rows.specs.Keys.{rowKey}
 use Rattle.rows.proofs.Keys.{same-key}
-use Rattle.rows.proofs.Table.{row-in, words-length}
+use Rattle.rows.proofs.Table.{row-in, length-limit, words-length}
 use Rattle.rows.proofs.Good.{are-words}
-use Rattle.row_search.specs.Search.{findBelow, findIn, isAt}
+use Rattle.row_search.specs.Search.{findBelow, findIn, isAt, foundRow}
 use Rattle.row_search.specs.ByKey.{findKey}
 use Rattle.row_search.specs.declared.Found.{Found}
 use Rattle.row_search.specs.declared.Found.the-variants.{At, Nothing}
+use Rattle.row_search.specs.declared.Row.{Row}
 use Rattle.row_search.proofs.ByKey.{find-key-hit}
 
 -- the search by words is the search by key
@@ -50,6 +52,11 @@ pub is-at : (f : Found) → isAt f ≡ true → (j : ℕ) × (f ≡ At j)
 is-at (At j) e = (j, refl)
 is-at Nothing e = absurd (let z : _≡_ {A = ℕ} 0 1 = cc in omega arith)
 
+pub found-listed : (t : List ℤ) (f : Found) {r : Row} → r ≡ foundRow t f → r .listed ≡ isAt f
+unfolding foundRow
+found-listed t (At j) e = ap (λ (r : Row). r .listed) e
+found-listed t Nothing e = ap (λ (r : Row). r .listed) e
+
 -- no row has no words
 pub finds-nothing : (t zs : List ℤ) → Good t (rowsOf t) → length zs ≡ 0 → findIn t (wordsOf zs) ≡ Nothing
 unfolding wordsOf
@@ -61,6 +68,16 @@ finds-nothing t zs g e = go (findIn t (wordsOf zs)) refl
         let some = g .row j (w .0) .some in
         let same : length (words t j) ≡ length zs = ap length (w .1) ∙ length-map zs _ in
         absurd (omega (arith, words-length t j (row-in t j (w .0))))
+    go Nothing q = refl
+
+-- no row has more words than a row may have
+pub finds-no-longer : (t : List ℤ) (ws : List ℕ) → orderLimit < length ws → findIn t ws ≡ Nothing
+finds-no-longer t ws l = go (findIn t ws) refl
+  where
+    go : (f : Found) → findIn t ws ≡ f → f ≡ Nothing
+    go (At j) q =
+        let w = found-words t ws j q in
+        absurd (omega (arith, ap length (w .1), words-length t j (row-in t j (w .0)), length-limit t j))
     go Nothing q = refl
 
 -- a row of good rows is found at its own place, and nowhere else

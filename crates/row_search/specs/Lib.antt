@@ -1,3 +1,3 @@
--- What must be believed of the search for a row: where a row stands. How it is searched by its key is in ByKey.
+-- What must be believed of the search for a row: where it stands, and what it holds. How it is searched by its key is in ByKey.
 pub mod Search
 pub mod ByKey

@@ -1,14 +1,15 @@
 // The search for a row among rows in list order, by its key. The definitions that the contracts cite are in specs/.
 ghost use mathlib.Core.Path.{_≡_};
 ghost use mathlib.Core.Bool.{true};
-ghost use Prim.Native.Nat.{_+_, _*_, _<_, _≤_};
+ghost use Prim.Native.Nat.{ℕ, _+_, _*_, _<_, _≤_};
 ghost use lib.ListN.{length};
 ghost use Rattle.backoff.specs.Limits.{orderLimit};
 ghost use Rattle.backoff.specs.Words.{areWords, key};
 ghost use Rattle.rows.specs.Table.{rowsOf, wordsOf};
 ghost use Rattle.rows.specs.Good.{GoodRow, Good};
 ghost use Rattle.rows.specs.Keys.{rowKey, keyOf};
-ghost use Rattle.row_search.specs.Search.{findIn, isAt};
+ghost use Rattle.row_search.specs.Search.{findIn, isAt, noRow, foundRow};
+ghost use Rattle.row_search.specs.declared.Found.the-variants.{At};
 ghost use Rattle.row_search.specs.ByKey.{findKey, Bracket, Window};
 use rows::Key;
 
@@ -52,6 +53,41 @@ pub fn is_at(found: Found) -> bool
     match found {
         Found::At(_) => true,
         Found::Nothing => false,
+    }
+}
+
+// A sequence as the table has it: `at` is where its row stands. That, p and b are 0 if it is unlisted.
+pub struct Row {
+    pub listed: bool,
+    pub at: usize,
+    pub p: i32,
+    pub b: i32,
+}
+
+pub fn unlisted() -> Row
+    ensures { λ r. ⌜ r ≡ noRow ⌝ }
+{
+    Row {
+        listed: false,
+        at: 0,
+        p: 0,
+        b: 0,
+    }
+}
+
+// The row that was found, if any.
+pub fn found_row(table: &[i32], found: Found) -> Row
+    requires { ⌜ ((i : ℕ) → found ≡ At i → i < rowsOf (now table)) ⌝ }
+    ensures { λ r. ⌜ r ≡ foundRow (now (table .entry)) found ⌝ }
+{
+    let Found::At(i) = found else {
+        return unlisted();
+    };
+    Row {
+        listed: true,
+        at: i,
+        p: rows::field(table, i, 6),
+        b: rows::field(table, i, 7),
     }
 }
 

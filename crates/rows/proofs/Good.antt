@@ -1,12 +1,12 @@
 -- Laws of good rows: their words and keys, and the part ahead of a row. Assumes nothing.
-use mathlib.Core.Path.{_≡_, refl, sym, ap, ap₂, _∙_}
-use mathlib.Core.Bool.{Bool, true, cond, _&&_}
+use mathlib.Core.Path.{_≡_, refl, sym, ap, _∙_}
+use mathlib.Core.Bool.{true}
 use mathlib.Core.List.{List, [], _∷_}
 use mathlib.Core.Logic.{⊎-elim}
 use Prim.Native.Nat.{ℕ, zero, suc, _+_, _*_, _<_, _≤_, zero-le, suc-le-suc}
 use native.Mathlib.Nat.{not-suc-le-zero}
 use native.Mathlib.Omega.{arith}
-use lib.Dec.{ltb, leb, lit<, lit≤}
+use lib.Dec.{ltb, lit<, lit≤}
 use lib.IntN.{ℤ, pos}
 use lib.ListN.{length, getD, take, drop, length-take, drop-of-length-le, List·getD-eq-default}
 use lib.Seq.{drop-cons, getD-drop, getD-take}
@@ -16,14 +16,14 @@ use Rattle.integer.proofs.Arithmetic.{zarith}
 use Rattle.integer.proofs.Ranges.{lt-or-ge, between-low, between-high, between-yes, upTo-le, upTo-some}
 use Rattle.backoff.specs.Limits.{orderLimit, wordLimit}
 use Rattle.backoff.specs.Words.{areWords, radix, key}
-use Rattle.rows.specs.Table.{rowsOf, field, lengthOf, wordOf, wordsOf, words, withoutFirst, withoutLast, lastWord, placeFits, placesFit}
+use Rattle.rows.specs.Table.{rowsOf, field, lengthOf, wordOf, wordsOf, words, withoutFirst, withoutLast, lastWord, placeFits}
 use Rattle.rows.specs.Order.{precedes}
 use Rattle.rows.specs.Good.{GoodRow, Good}
 use Rattle.rows.specs.Keys.{lowLimit, rowKey}
 use Rattle.backoff.proofs.Words.{words-more, words-rest, first-some, first-limit, areWords-snoc}
 use Rattle.rows.proofs.Order.{precedes-length}
 use Rattle.rows.proofs.Keys.{precedes-key, key-places, key-limit}
-use Rattle.rows.proofs.Table.{row-in, words-length, length-limit, words-cons, words-snoc, last-word, part-rows, part-field, part-length, part-words, place-fits}
+use Rattle.rows.proofs.Table.{row-in, words-length, length-limit, words-cons, words-snoc, last-word, part-rows, part-field, part-length, part-words, same-places, place-fits}
 
 -- k numbers from place a on that are words
 words-from : (t : List ℤ) (a k : ℕ) → ((q : ℕ) → q < k → 0 < wordOf (getD t (a + q) (pos 0))) → areWords (wordsOf (take k (drop a t))) ≡ true
@@ -133,16 +133,8 @@ good-fewer t m n l g = record { row = λ i p. g .row i (omega arith); ascend = �
 
 -- the part ahead of row n
 module _ (t : List ℤ) (n : ℕ) where
-  part-places : (i j k : ℕ) → i < n → j + k ≤ 8 → placesFit (take (8 * n) t) i j k ≡ placesFit t i j k
-  unfolding placesFit placeFits
-  part-places i j zero l h = refl
-  part-places i j (suc k) l h =
-      ap₂ (λ (a b : Bool). a && b)
-      (ap₂ (λ (m : ℕ) (z : ℤ). cond (leb j m) (between (pos 1) (pos wordLimit) z) (eqZ z (pos 0))) (part-length t n i l) (part-field t n i l j (omega arith)))
-      (part-places i (suc j) k l (omega arith))
-
   pub part-row : (i : ℕ) → i < n → GoodRow t i → GoodRow (take (8 * n) t) i
-  part-row i l g = record { some = rw (part-length t n i l) (g .some); places = part-places i 1 orderLimit l (lit≤ tt) ∙ g .places }
+  part-row i l g = record { some = rw (part-length t n i l) (g .some); places = same-places (take (8 * n) t) t i i (λ j m. part-field t n i l j (omega arith)) 1 orderLimit (lit≤ tt) ∙ g .places }
 
   pub part-good : 8 * n ≤ length t → Good t n → Good (take (8 * n) t) (rowsOf (take (8 * n) t))
   part-good h g =

@@ -28,7 +28,8 @@ written-back high z e =
     ap pos (upTo-in (pos high) z e) ∙ omega (zarith, abs z)
 
 module _ (t : List ℤ) (i : ℕ) (g : GoodRow t i) where
-  length-place : pos (lengthOf t i) ≡ field t i 0
+  -- its first number is its length
+  pub length-place : pos (lengthOf t i) ≡ field t i 0
   unfolding lengthOf upTo
   length-place = go (between (pos 0) (pos orderLimit) (field t i 0)) refl
     where
@@ -66,12 +67,13 @@ module _ (t : List ℤ) (i : ℕ) (g : GoodRow t i) where
 
 -- ---- a row written of words reads back
 
+pub wordOf-pos : (w : ℕ) → w ≤ wordLimit → wordOf (pos w) ≡ w
+wordOf-pos w h = upTo-in (pos wordLimit) (pos w) (between-yes (pos 0) (pos wordLimit) (pos w) (omega zarith) (omega zarith))
+
 pub words-back : (ws : List ℕ) → areWords ws ≡ true → wordsOf (map pos ws) ≡ ws
 unfolding wordsOf
 words-back [] e = refl
-words-back (w ∷ ws) e =
-    let h = first-limit w ws e in
-    ap₂ _∷_ (upTo-in (pos wordLimit) (pos w) (between-yes (pos 0) (pos wordLimit) (pos w) (omega zarith) (omega zarith))) (words-back ws (words-rest w ws e))
+words-back (w ∷ ws) e = ap₂ _∷_ (wordOf-pos w (first-limit w ws e)) (words-back ws (words-rest w ws e))
 
 pub row-words : (ws : List ℕ) (p b : ℤ) (t : List ℤ) → length ws ≤ orderLimit → words (row ws p b ++ t) 0 ≡ wordsOf (map pos ws)
 unfolding words wordsOf lengthOf field upTo between

@@ -1,26 +1,32 @@
--- Laws of a table's rows: their words one by one, the words without the first and without the last, a number stored, the part ahead of a row, and the word
--- places that fit. Assumes nothing.
-use mathlib.Core.Path.{_≡_, refl, ap, _∙_}
-use mathlib.Core.Bool.{Bool, true, false}
+-- Laws of a table's rows: their words one by one, parts of words, the words without the first and without the last, a number stored, the part ahead of a
+-- row, and the word places that fit. Assumes nothing.
+use mathlib.Core.Path.{_≡_, refl, ap, ap₂, _∙_}
+use mathlib.Core.Bool.{Bool, true, false, cond, _&&_}
 use mathlib.Core.List.{List, [], _∷_, _++_, map-append}
 use mathlib.Core.Logic.{⊎-elim}
 use Prim.Native.Nat.{ℕ, zero, suc, _+_, _*_, _-_, _<_, _≤_}
 use native.Mathlib.Nat.{not-suc-le-zero}
 use native.Mathlib.Omega.{arith}
+use lib.Dec.{leb}
 use lib.IntN.{ℤ, pos}
 use lib.ListN.{length, getD, set, take, drop, length-map, length-take, length-drop}
-use lib.Seq.{getD-set-same, getD-set-other, drop-cons, take-suc, take-take, take-nil, getD-drop, getD-take, length-take-le}
+use lib.Seq.{getD-set-same, getD-set-other, drop-cons, take-suc, getD-drop, getD-take, length-take-le}
 use borrow.Author.Tests.{le-leb, lt-leb}
 use Rattle.integer.specs.Integer.{eqZ, between, upTo}
+use Rattle.integer.proofs.Parts.{front-part}
 use Rattle.integer.proofs.Ranges.{lt-or-ge, and-left, and-right, upTo-out, upTo-le}
 use Rattle.backoff.specs.Limits.{orderLimit, wordLimit}
 use Rattle.backoff.specs.Words.{areWords}
-use Rattle.rows.specs.Table.{rowsOf, field, lengthOf, wordOf, wordsOf, words, withoutFirst, withoutLast, lastWord, placeFits, placesFit}
-use Rattle.backoff.proofs.Words.{first-some, words-rest}
+use Rattle.rows.specs.Table.{rowsOf, field, lengthOf, orderOf, wordOf, wordsOf, words, withoutFirst, withoutLast, lastWord, placeFits, placesFit}
+use Rattle.backoff.proofs.Words.{first-some, first-limit, words-rest, words-more}
 
 pub length-limit : (t : List ℤ) (i : ℕ) → lengthOf t i ≤ orderLimit
 unfolding lengthOf
 length-limit t i = upTo-le orderLimit (field t i 0)
+
+pub order-limit : (t : List ℤ) → orderOf t ≤ orderLimit
+unfolding orderOf
+order-limit t = length-limit t (rowsOf t - 1)
 
 -- of words, each number is in range
 pub word-range : (zs : List ℤ) (j : ℕ) → areWords (wordsOf zs) ≡ true → j < length zs → between (pos 0) (pos wordLimit) (getD zs j (pos 0)) ≡ true
@@ -32,6 +38,20 @@ word-range (z ∷ zs) zero a l = go (between (pos 0) (pos wordLimit) z) refl
     go true e = refl
     go false e = absurd (omega (arith, upTo-out (pos wordLimit) z e, first-some (wordOf z) (wordsOf zs) a))
 word-range (z ∷ zs) (suc j) a l = word-range zs j (words-rest (wordOf z) (wordsOf zs) a) (omega arith)
+
+-- a part of words is words
+pub areWords-drop : (j : ℕ) (zs : List ℤ) → areWords (wordsOf zs) ≡ true → areWords (wordsOf (drop j zs)) ≡ true
+unfolding wordsOf
+areWords-drop zero zs e = e
+areWords-drop (suc j) [] e = e
+areWords-drop (suc j) (z ∷ zs) e = areWords-drop j zs (words-rest (wordOf z) (wordsOf zs) e)
+
+pub areWords-take : (k : ℕ) (zs : List ℤ) → areWords (wordsOf zs) ≡ true → areWords (wordsOf (take k zs)) ≡ true
+unfolding wordsOf
+areWords-take zero zs e = unfold areWords in refl
+areWords-take (suc k) [] e = e
+areWords-take (suc k) (z ∷ zs) e =
+    words-more (wordOf z) (wordsOf (take k zs)) (first-some (wordOf z) (wordsOf zs) e) (first-limit (wordOf z) (wordsOf zs) e) (areWords-take k zs (words-rest (wordOf z) (wordsOf zs) e))
 
 -- a row among the rows of a table lies in it
 pub row-in : (t : List ℤ) (i : ℕ) → i < rowsOf t → 8 * i + 8 ≤ length t
@@ -107,13 +127,7 @@ module _ (t : List ℤ) (n : ℕ) where
     unfolding words
     part-words =
         let m = length-limit t i in
-        rw (part-length) (ap wordsOf (inner t (8 * n) (8 * i + 1) (lengthOf t i) (omega arith)))
-      where
-        inner : (t : List ℤ) (b a k : ℕ) → a + k ≤ b → take k (drop a (take b t)) ≡ take k (drop a t)
-        inner t b zero k h = take-take k b t (omega arith)
-        inner [] b (suc a) k h = rw (take-nil b)
-        inner (x ∷ t) zero (suc a) k h = absurd (omega arith)
-        inner (x ∷ t) (suc b) (suc a) k h = inner t b a k (omega arith)
+        rw (part-length) (ap wordsOf (front-part t (8 * n) (8 * i + 1) (lengthOf t i) (omega arith)))
 
 -- ---- the word places of a row
 
@@ -124,6 +138,15 @@ place-used t i j l = rw (le-leb j (lengthOf t i) l)
 pub place-unused : (t : List ℤ) (i j : ℕ) → lengthOf t i < j → placeFits t i j ≡ eqZ (field t i j) (pos 0)
 unfolding placeFits
 place-unused t i j l = rw (lt-leb j (lengthOf t i) l)
+
+-- rows with the same numbers in these places
+pub same-places : (t u : List ℤ) (i k : ℕ) → ((j : ℕ) → j < 6 → field t i j ≡ field u k j) → (j n : ℕ) → j + n ≤ 6 → placesFit t i j n ≡ placesFit u k j n
+unfolding placesFit placeFits lengthOf
+same-places t u i k same j zero h = refl
+same-places t u i k same j (suc n) h =
+    ap₂ _&&_
+    (ap₂ (λ (m z : ℤ). cond (leb j (upTo (pos orderLimit) m)) (between (pos 1) (pos wordLimit) z) (eqZ z (pos 0))) (same 0 (omega arith)) (same j (omega arith)))
+    (same-places t u i k same (suc j) n (omega arith))
 
 -- one place of several that fit
 pub place-fits : (t : List ℤ) (i j k q : ℕ) → placesFit t i j k ≡ true → j ≤ q → q < j + k → placeFits t i q ≡ true

@@ -27,7 +27,7 @@ use Rattle.double_array.proofs.DoubleArray.{opened-some, opened-none}
 use Rattle.word_step.specs.Rows.{arrayModel}
 use Rattle.score.specs.Inner.{earlyRefusal}
 use Rattle.score.specs.Meaning.{startRefusals, StartMeans, runRefusals, RunMeans}
-use Rattle.score.proofs.Refusals.{start-told, start-scored, Told, first-stuck, none-stuck, told}
+use Rattle.score.proofs.Refusals.{start-told, start-scored, Told, first-stuck, none-stuck, first-stuck-or-none}
 
 -- ---- the outcome of a run, by what meets it before its words are scored
 
@@ -189,4 +189,4 @@ module _ (base check : List ℤ) where
 
         nine-or-not : (t : Bool) → eqb (length l) 9 ≡ t → RunMeans base check l r (cond t (runIn (opened base check) l r) (refusedRun badState 0 l r))
         nine-or-not false e = refused-run badState (λ z. omega arith) (inl (met-when (eqb-false _ _ e)))
-        nine-or-not true e = go (eqb-true _ _ e) (isArray base check) refl (stateOk (orderIn check) l) refl (accepted r) refl (told base check (r .words) (stateIn l) 1)
+        nine-or-not true e = go (eqb-true _ _ e) (isArray base check) refl (stateOk (orderIn check) l) refl (accepted r) refl (first-stuck-or-none base check (r .words) (stateIn l) 1)

@@ -84,9 +84,9 @@ module _ (base check : List ℤ) where
 
   -- ---- a word
 
-  pub unwalkable : (s : State) (w : ℕ) → wordStuck S s w ≡ true → Unwalkable S s w
+  refused-unwalkable : (s : State) (w : ℕ) → wordStuck S s w ≡ true → Unwalkable S s w
   unfolding wordStuck replaced listed modelIn
-  unwalkable s w = go (S .look (w ∷ [])) refl (S .look (unknownWord ∷ [])) refl
+  refused-unwalkable s w = go (S .look (w ∷ [])) refl (S .look (unknownWord ∷ [])) refl
     where
       go : (a : Look) → S .look (w ∷ []) ≡ a → (b : Look) → S .look (unknownWord ∷ []) ≡ b → ((isBroken a || (not (isSome (entryOf a)) && not (isSome (entryOf b)))) || endsBroken S (s .words) (cond (isSome (entryOf a)) w unknownWord)) ≡ true → Unwalkable S s w
       go broken p b q h = broken-walk (look-stays w 0 (s .words) broken refl p)
@@ -95,7 +95,7 @@ module _ (base check : List ℤ) where
       go absent p (here x) q h = broken-unknown p (ends-broken unknownWord (s .words) h)
       go (here x) p b q h = broken-walk (ends-broken w (s .words) h)
 
-  pub walk-refused : (s : State) (w : ℕ) → Unwalkable S s w → wordStuck S s w ≡ true
+  walk-refused : (s : State) (w : ℕ) → Unwalkable S s w → wordStuck S s w ≡ true
   unfolding wordStuck replaced listed modelIn
   walk-refused s w = go (S .look (w ∷ [])) refl (S .look (unknownWord ∷ [])) refl
     where
@@ -118,8 +118,8 @@ module _ (base check : List ℤ) where
   stuck-told s w = go (wordStuck S s w) refl (eqb w endWord) refl
     where
       go : (a : Bool) → wordStuck S s w ≡ a → (b : Bool) → eqb w endWord ≡ b → (a || (b && wordStuck S empty startWord)) ≡ true → Stuck S s w
-      go true p b q h = at-the-word (unwalkable s w p)
-      go false p true q h = at-start (eqb-true w endWord q) (unwalkable empty startWord h)
+      go true p b q h = at-the-word (refused-unwalkable s w p)
+      go false p true q h = at-start (eqb-true w endWord q) (refused-unwalkable empty startWord h)
       go false p false q h = absurd (false≢true h)
 
   stuck-refused : (s : State) (w : ℕ) → Stuck S s w → stuckAt S s w ≡ true
@@ -155,10 +155,10 @@ module _ (base check : List ℤ) where
     not-first e i n zero l t = true≢false (sym (stuck-refused s w (t .1)) ∙ e)
     not-first e i n (suc j) l t = n j (omega arith) (later j t)
 
-  pub told : (ws : List ℕ) (s : State) (k : ℕ) → Told ws s k
+  pub first-stuck-or-none : (ws : List ℕ) (s : State) (k : ℕ) → Told ws s k
   unfolding runOver runPoints runBytes runEnd
-  told [] s k = none-stuck refl (λ i t. let h = t .0 in omega arith)
-  told (w ∷ ws) s k = go (stuckAt S s w) refl (told ws (stepNext (modelIn S) s w) (suc k))
+  first-stuck-or-none [] s k = none-stuck refl (λ i t. let h = t .0 in omega arith)
+  first-stuck-or-none (w ∷ ws) s k = go (stuckAt S s w) refl (first-stuck-or-none ws (stepNext (modelIn S) s w) (suc k))
     where
       go : (b : Bool) → stuckAt S s w ≡ b → Told ws (stepNext (modelIn S) s w) (suc k) → Told (w ∷ ws) s k
       go true e ih = first-stuck 0 (ap (onward (λ (t : State). runOver S ws t (suc k)) k) (step-stuck S s w e) ∙ ap refusedAt (sym (add-zero k))) (omega arith, stuck-told s w e) (λ j l. absurd (omega arith))

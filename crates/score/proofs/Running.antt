@@ -1,8 +1,9 @@
--- The words of a run, as the code's loop has them: those before the i-th are scored, and what is left is the run of the others from the state that
--- is carried. Assumes nothing.
+-- A word's step, and the words of a run as the code's loop has them: those before the i-th are scored, and what is left is the run of the others from
+-- the state that is carried. Assumes nothing.
 use mathlib.Core.Path.{_≡_, refl, sym, ap, ap₂, _∙_}
 use mathlib.Core.Bool.{Bool, true, false, cond}
 use mathlib.Core.List.{List, [], _∷_, _++_, append-assoc, append-nil}
+use mathlib.Core.Option.{Option, none, some}
 use Prim.Native.Nat.{ℕ, suc, _+_, _*_, _≤_, _<_}
 use native.Mathlib.Numerals.{add-one}
 use native.Mathlib.Omega.{arith}
@@ -12,20 +13,16 @@ use lib.Seq.{drop-cons, take-suc-set, drop-set-lt, length-take-le}
 use lib.IntN.{ℤ, pos, natAbs, _+ℤ_, +ℤ-idr}
 use Rattle.integer.specs.Integer.{sum}
 use Rattle.integer.proofs.Arithmetic.{abs, add}
+use Rattle.integer.proofs.Parts.{drop-more}
 use Rattle.integer.proofs.Sums.{sum-append}
-use Rattle.backoff.specs.Limits.{unknownWord, orderLimit, largestBackoff}
+use Rattle.backoff.specs.Limits.{startWord, endWord, orderLimit, largestBackoff}
 use Rattle.backoff.specs.Refusal.{brokenNode}
-use Rattle.backoff.specs.Model.{inProbability, probability}
-use Rattle.backoff.specs.Rule.{lengthByte, replaced}
-use Rattle.backoff.specs.State.{State as Carried, pointsFrom, matchedFrom, extendedFrom, nextFrom}
+use Rattle.backoff.specs.State.{State as Carried, empty}
 use Rattle.backoff.specs.Run.{written, acceptedRun}
 use Rattle.backoff.specs.NineNumbers.{nine}
-use Rattle.backoff.specs.Store.{Store, modelIn, scored, stuck, wordStep, step, Ran, ran, refusedAt, before, onward, runOver, brokenRun, ranAnswer}
-use Rattle.backoff.proofs.State.{walk-le}
-use Rattle.backoff.proofs.NineNumbers.{Bounded}
-use Rattle.backoff.proofs.Store.{wordStuck, wordStep-is}
-use Rattle.backoff.proofs.Sizes.{points-size}
-use Rattle.word_step.proofs.Written.{drop-more}
+use Rattle.backoff.specs.Store.{Store, Step, scored, stuck, restarted, wordStep, step, Ran, ran, refusedAt, before, onward, runOver, brokenRun, ranAnswer}
+use Rattle.score.specs.Inner.{leftBy, nextState}
+use Rattle.score.proofs.Sizes.{SmallTotal}
 
 -- scored words in front of those that are left
 abbrev pub beforeAll : List ℤ → List ℕ → Ran → Ran
@@ -40,37 +37,32 @@ before-one : (ps : List ℤ) (bs : List ℕ) (x : ℤ) (y : ℕ) (r : Ran) → b
 before-one ps bs x y (ran qs cs t) = ap₂ (λ (p : List ℤ) (b : List ℕ). ran p b t) (sym (append-assoc ps (x ∷ []) qs)) (sym (append-assoc bs (y ∷ []) cs))
 before-one ps bs x y (refusedAt k) = refl
 
--- ---- how large one word's points and length byte get
+-- ---- a word's step, by what its walk came to
 
-module _ (S : Store) (in-probability : (l : List ℕ) → inProbability (probability (modelIn S) l) ≡ true) (n : ℕ) (few : n ≤ 4) (s : Carried) (b : Bounded n s) (w : ℕ) where
-  pub scored-sizes : (x : ℤ) (y : ℕ) (t : Carried) → wordStep S s w ≡ scored x y t → (natAbs x ≤ orderLimit * largestBackoff) × (y < 256)
-  scored-sizes x y t e = go (wordStuck S s w) (sym (wordStep-is S s w) ∙ e)
+-- its points and its byte, and the state that the next word is scored from
+abbrev pub stepTo : ℤ → ℕ → Option Carried → Step
+stepTo x y (some next) = scored x y next
+stepTo x y none = stuck
+
+module _ (S : Store) (s : Carried) (w : ℕ) where
+  pub step-refused : wordStep S s w ≡ stuck → step S s w ≡ stuck
+  unfolding step
+  step-refused e = rw e (go (eqb w endWord))
     where
-      v : ℕ
-      v = replaced (modelIn S) w
+      go : (t : Bool) → cond t (restarted stuck (wordStep S empty startWord)) stuck ≡ stuck
+      go true = refl
+      go false = refl
 
-      points : natAbs (pointsFrom (modelIn S) s v) ≤ orderLimit * largestBackoff
-      points = omega (arith, points-size (modelIn S) in-probability b v, b .few)
-
-      at-most : (n : ℕ) (u : Bool) → cond u n 0 ≤ n
-      at-most n true = omega arith
-      at-most n false = omega arith
-
-      byte : lengthByte (matchedFrom (modelIn S) s v) v (extendedFrom (modelIn S) s v) < 256
-      byte = unfold lengthByte matchedFrom in omega (arith, walk-le (modelIn S) v (s .words), b .few, at-most 8 (eqb v unknownWord), at-most 16 (extendedFrom (modelIn S) s v))
-
-      go : (u : Bool) → cond u stuck (scored (pointsFrom (modelIn S) s v) (lengthByte (matchedFrom (modelIn S) s v) v (extendedFrom (modelIn S) s v)) (nextFrom (modelIn S) s v)) ≡ scored x y t → (natAbs x ≤ orderLimit * largestBackoff) × (y < 256)
-      go true q = let z : _≡_ {A = ℕ} 0 1 = cc in absurd (omega arith)
-      go false q =
-          let f : pointsFrom (modelIn S) s v ≡ x = cc in
-          let g : lengthByte (matchedFrom (modelIn S) s v) v (extendedFrom (modelIn S) s v) ≡ y = cc in
-          (rw f at points, rw g at byte)
+  pub step-next : (x : ℤ) (y : ℕ) (left : Carried) → wordStep S s w ≡ scored x y left → step S s w ≡ stepTo x y (nextState S w left)
+  unfolding step
+  step-next x y left e = rw e (go (eqb w endWord) (wordStep S empty startWord))
+    where
+      go : (t : Bool) (first : Step) → cond t (restarted (scored x y left) first) (scored x y left) ≡ stepTo x y (cond t (leftBy first) (some left))
+      go true (scored p b begun) = refl
+      go true stuck = refl
+      go false first = refl
 
 -- ---- the loop
-
--- the total of i words is no larger than so many words can make it
-abbrev pub SmallTotal : ℕ → ℤ → Type 0
-SmallTotal i total = natAbs total ≤ i * (orderLimit * largestBackoff)
 
 -- the words before the i-th are scored: `points` and `lengths` are the slices now, `carried` and `total` what they leave
 pub record Running (S : Store) (s : Carried) (ws : List ℕ) (points₀ : List ℤ) (lengths₀ : List ℕ) (carried : Carried) (total : ℤ) (i : ℕ) (points : List ℤ) (lengths : List ℕ) : Type 0 where
@@ -135,8 +127,8 @@ module _ (S : Store) (s : Carried) (ws : List ℕ) (points₀ : List ℤ) (lengt
         answered = unfold brokenRun written in rw (p, b, length-replicate (length ws) (pos 0), length-replicate {A = ℕ} (length ws) 0, drop-more i (length ws) points points₀ (r .at) (r .points-past), drop-more i (length ws) lengths lengths₀ (r .at) (r .lengths-past))
 
     -- no word is left
-    pub running-ends : length ws ≤ i → length ws ≤ length points₀ → length ws ≤ length lengths₀ → (end : List ℤ) → end ≡ nine carried → (l : List ℤ) → record { number = 0; place = 0; total = total; end = end; points = points; lengths = lengths } ≡ ranAnswer l (record { words = ws; points = points₀; lengths = lengths₀ }) (runOver S ws s 1)
-    running-ends h k m end e l = sym (ap (ranAnswer l (record { words = ws; points = points₀; lengths = lengths₀ })) all-scored ∙ answered)
+    pub running-ends : length ws ≤ i → length ws ≤ length points₀ → length ws ≤ length lengths₀ → (l : List ℤ) → record { number = 0; place = 0; total = total; end = nine carried; points = points; lengths = lengths } ≡ ranAnswer l (record { words = ws; points = points₀; lengths = lengths₀ }) (runOver S ws s 1)
+    running-ends h k m l = sym (ap (ranAnswer l (record { words = ws; points = points₀; lengths = lengths₀ })) all-scored ∙ answered)
       where
         none-left : runOver S (drop i ws) carried (suc i) ≡ ran [] [] carried
         none-left = unfold runOver in rw (drop-of-length-le ws h)
@@ -144,5 +136,5 @@ module _ (S : Store) (s : Carried) (ws : List ℕ) (points₀ : List ℤ) (lengt
         all-scored : runOver S ws s 1 ≡ ran (take i points) (take i lengths) carried
         all-scored = r .rest ∙ ap (beforeAll (take i points) (take i lengths)) none-left ∙ ap₂ (λ (p : List ℤ) (b : List ℕ). ran p b carried) (append-nil (take i points)) (append-nil (take i lengths))
 
-        answered : acceptedRun (nine carried) (take i points) (take i lengths) (record { words = ws; points = points₀; lengths = lengths₀ }) ≡ record { number = 0; place = 0; total = total; end = end; points = points; lengths = lengths }
-        answered = unfold acceptedRun written in rw (e, length-take-le i points (omega (arith, r .points-long, r .at)), length-take-le i lengths (omega (arith, r .lengths-long, r .at)), sym (r .points-past), sym (r .lengths-past), take-append-drop i points, take-append-drop i lengths, sym (r .total-is))
+        answered : acceptedRun (nine carried) (take i points) (take i lengths) (record { words = ws; points = points₀; lengths = lengths₀ }) ≡ record { number = 0; place = 0; total = total; end = nine carried; points = points; lengths = lengths }
+        answered = unfold acceptedRun written in rw (length-take-le i points (omega (arith, r .points-long, r .at)), length-take-le i lengths (omega (arith, r .lengths-long, r .at)), sym (r .points-past), sym (r .lengths-past), take-append-drop i points, take-append-drop i lengths, sym (r .total-is))

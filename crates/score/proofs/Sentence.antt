@@ -22,7 +22,7 @@ use Rattle.carried_state.proofs.Carried.{zeros-ok, zeros-empty}
 use Rattle.word_step.specs.Rows.{arrayModel}
 use Rattle.word_step.proofs.Rows.{rows-in-backoff, rows-in-words}
 use Rattle.score.specs.Meaning.{Unwalkable, StuckWords}
-use Rattle.score.proofs.Refusals.{start-told, start-scored, Told, first-stuck, none-stuck, told}
+use Rattle.score.proofs.Refusals.{start-told, start-scored, Told, first-stuck, none-stuck, first-stuck-or-none}
 use Rattle.score.proofs.Outcomes.{start-means, run-means}
 
 -- the number is 12 where A holds, and else 0
@@ -75,7 +75,7 @@ module _ (base check : List ℤ) (array : isArray base check ≡ true) where
 
     pub run-twelve : refusal r ≡ 0 → Twelve (StuckWords S (runEnd M (start M) us) (r .words)) (runOutcome o l r .number)
     unfolding runOutcome acceptedRun brokenRun
-    run-twelve f = rw (eq-eqb _ 9 (length-nine (runEnd M (start M) us)), opened-some base check array, state-ok us, fits, state-in us) (go (told base check (r .words) (runEnd M (start M) us) 1))
+    run-twelve f = rw (eq-eqb _ 9 (length-nine (runEnd M (start M) us)), opened-some base check array, state-ok us, fits, state-in us) (go (first-stuck-or-none base check (r .words) (runEnd M (start M) us) 1))
       where
         fits : accepted r ≡ true
         fits = unfold accepted in eq-eqb (refusal r) 0 f

@@ -1,26 +1,29 @@
 // Scoring with a carried state over any lent double array: start and run.
+use carried_state::Packed;
 use carried_state::State;
 use word_step::Kind;
-use word_step::Word;
+use word_step::Score;
+use word_step::Stepped;
 ghost use mathlib.Core.Path.{_≡_};
 ghost use mathlib.Core.Bool.{true};
-ghost use Prim.Native.Nat.{_+_, _≤_, _<_};
-ghost use lib.Dec.{eqb};
+ghost use mathlib.Core.List.{List};
+ghost use Prim.Native.Nat.{ℕ, _+_, _≤_, _<_};
 ghost use lib.ListN.{length, getD, set, replicate};
-ghost use lib.IntN.{pos, negsuc};
-ghost use Rattle.backoff.specs.Limits.{startWord, endWord, runLimit};
+ghost use lib.IntN.{ℤ, pos, negsuc};
+ghost use Rattle.backoff.specs.Limits.{startWord, runLimit};
 ghost use Rattle.backoff.specs.Refusal.{brokenNode};
 ghost use Rattle.backoff.specs.State.{empty as emptyState};
 ghost use Rattle.backoff.specs.Run.{written, sizeRefusal};
-ghost use Rattle.backoff.specs.NineNumbers.{nineZeros, stateIn, stateOk};
+ghost use Rattle.backoff.specs.NineNumbers.{nine, nineZeros, stateIn, stateOk};
 ghost use Rattle.backoff.specs.Store.{wordStep, runOver, ranAnswer, runOutcome, refusedStart, startStep, startOutcome};
 ghost use Rattle.double_array.specs.DoubleArray.{freeCheck, isArray, orderIn, storeIn, opened};
 ghost use Rattle.carried_state.specs.Numbers.{numbersOf};
+ghost use Rattle.carried_state.specs.Packed.{heldIn, Carries};
 ghost use Rattle.word_step.specs.Answers.{kindByte, byteOf};
 ghost use Rattle.word_step.specs.Inner.{replaced};
 ghost use Rattle.score.specs.Answers.{answerOf, startedOf};
 ghost use Rattle.score.specs.Meaning.{StartMeans, RunMeans};
-ghost use Rattle.score.specs.Inner.{earlyRefusal};
+ghost use Rattle.score.specs.Inner.{earlyRefusal, nextState, NextIs};
 
 // What start returns.
 pub struct Started {
@@ -35,6 +38,12 @@ pub struct Ran {
     pub place: u32,
     pub total: i64,
     pub end: State,
+}
+
+// The state that the next word of a run is scored from; behind a 3, 12 may refuse it.
+enum NextState {
+    Carried(Packed),
+    Refused,
 }
 
 // The paper's length byte without its 16.
@@ -65,22 +74,16 @@ fn write_points(points: &mut [i32], i: usize, scored: i32)
     points[i] = scored;
 }
 
-// A scored word's points and length byte, at its place in the run's slices.
-fn write_word(
-    points: &mut [i32],
-    lengths: &mut [u8],
-    i: usize,
-    kind: Kind,
-    scored: i32,
-    extended: bool,
-)
+// A word's score, at its place in the run's slices.
+fn write_word(points: &mut [i32], lengths: &mut [u8], i: usize, score: Score)
     requires { ⌜ (i < length (now points)) × (i < length (now lengths)) ⌝ }
-    requires { ⌜ byteOf kind extended < 256 ⌝ }
-    ensures points { λ _. ⌜ now (points .exit) ≡ set (now (points .entry)) i scored ⌝ }
-    ensures lengths { λ _. ⌜ now (lengths .exit) ≡ set (now (lengths .entry)) i (byteOf kind extended) ⌝ }
+    requires { ⌜ byteOf (score .kind) (score .extended) < 256 ⌝ }
+    ensures points { λ _. ⌜ now (points .exit) ≡ set (now (points .entry)) i (score .points) ⌝ }
+    ensures lengths { λ _. ⌜ now (lengths .exit) ≡ set (now (lengths .entry)) i (byteOf (score .kind) (score .extended)) ⌝ }
 {
-    write_points(points, i, scored);
-    lengths[i] = length_byte(kind, extended);
+    write_points(points, i, score.points);
+    let kind = score.kind;
+    lengths[i] = length_byte(kind, score.extended);
 }
 
 // The first `count` points and lengths after refusal 12.
@@ -95,14 +98,6 @@ pub fn clear(points: &mut [i32], lengths: &mut [u8], count: usize)
         lengths[i] = 0;
         i += 1;
     }
-}
-
-// Whether word i ends its sentence: it is given as 3, whatever it is scored as.
-fn ends_sentence(words: &[u32], i: usize) -> bool
-    requires { ⌜ i < length (now words) ⌝ }
-    ensures { λ r. ⌜ r ≡ eqb (getD (now (words .entry)) i 0) endWord ⌝ }
-{
-    words[i] == backoff::END_WORD
 }
 
 // What a run of `count` words from this state returns where 12 meets word i, or start behind it.
@@ -122,6 +117,20 @@ fn refuse_word(points: &mut [i32], lengths: &mut [u8], count: usize, i: usize, s
     }
 }
 
+// What a run returns whose words are all scored.
+fn all_scored(total: i64, carried: Packed, backoffs: [i32; 5]) -> Ran
+    requires { ⌜ carried .count ≤ 4 ⌝ }
+    ensures { λ r. ⌜ ((ps : List ℤ) (bs : List ℕ) → answerOf r ps bs ≡ record { number = 0; place = 0; total = total; end = nine (heldIn carried backoffs); points = ps; lengths = bs }) ⌝ }
+{
+    let end = carried_state::unpack(carried, backoffs);
+    Ran {
+        number: 0,
+        place: 0,
+        total,
+        end,
+    }
+}
+
 // What word i is scored as, word 1 where there is none.
 fn next_word(check: &[i32], words: &[u32], i: usize) -> u32
     requires { ⌜ getD (now check) 1 freeCheck ≡ negsuc 0 ⌝ }
@@ -131,6 +140,30 @@ fn next_word(check: &[i32], words: &[u32], i: usize) -> u32
         return word_step::replaced(check, words[i]);
     }
     backoff::UNKNOWN_WORD
+}
+
+// The state that the next word is scored from, where a word given as this one has left `left`: behind a 3, whatever it is scored as, that of start.
+fn next_state(
+    base: &[i32],
+    check: &[i32],
+    order: usize,
+    given: u32,
+    left: Packed,
+    backoffs: &mut [i32; 5],
+) -> NextState
+    requires { ⌜ isArray (now base) (now check) ≡ true ⌝ }
+    requires { ⌜ order ≡ orderIn (now check) ⌝ }
+    requires { ⌜ Carries order left (now backoffs) ⌝ }
+    ensures { λ r. ⌜ NextIs order (nextState (storeIn (now (base .entry)) (now (check .entry))) given (heldIn left (now (backoffs .entry)))) r (now (backoffs .exit)) ⌝ }
+{
+    if given != backoff::END_WORD {
+        return NextState::Carried(left);
+    }
+    let begun = word_step::begin(base, check, order, backoffs);
+    let Stepped::Scored { next, .. } = begun else {
+        return NextState::Refused;
+    };
+    NextState::Carried(next)
 }
 
 // The words of a run that no earlier check refuses. What a word is scored as is read while the word before it is scored, so that no walk waits for it.
@@ -156,40 +189,22 @@ pub fn score_words(
     let mut ahead = next_word(check, words, 0);
     let mut i = 0;
     while i < words.len() {
-        let w = ahead;
+        let word = ahead;
         ahead = next_word(check, words, i + 1);
-        let stepped = word_step::step(base, check, order, carried, &mut backoffs, w);
-        let word = stepped.word;
-        let Word::Scored {
-            kind,
-            points: scored,
-            extended,
-        } = word
-        else {
+        let stepped = word_step::step(base, check, order, carried, &mut backoffs, word);
+        let Stepped::Scored { score, next } = stepped else {
             return refuse_word(points, lengths, words.len(), i, state);
         };
-        write_word(points, lengths, i, kind, scored, extended);
-        total += scored as i64;
-        let next = stepped.next;
+        total += score.points as i64;
+        write_word(points, lengths, i, score);
+        let onward = next_state(base, check, order, words[i], next, &mut backoffs);
+        let NextState::Carried(next) = onward else {
+            return refuse_word(points, lengths, words.len(), i, state);
+        };
         carried = next;
-        if ends_sentence(words, i) {
-            let begun = word_step::begin(base, check, order, &mut backoffs);
-            let first = begun.word;
-            if let Word::Refused = first {
-                return refuse_word(points, lengths, words.len(), i, state);
-            }
-            let begins = begun.next;
-            carried = begins;
-        }
         i += 1;
     }
-    let end = carried_state::unpack(carried, backoffs);
-    Ran {
-        number: 0,
-        place: 0,
-        total,
-        end,
-    }
+    all_scored(total, carried, backoffs)
 }
 
 // The number of the refusal that meets a run before its words are scored, 0 if none does.
@@ -233,11 +248,9 @@ fn start_in(base: &[i32], check: &[i32]) -> Started
     let order = double_array::order_of(check);
     let mut backoffs = [0i32; 5];
     let begun = word_step::begin(base, check, order, &mut backoffs);
-    let word = begun.word;
-    if let Word::Refused = word {
+    let Stepped::Scored { next, .. } = begun else {
         return refused_start(backoff::BROKEN_NODE);
-    }
-    let next = begun.next;
+    };
     let state = carried_state::unpack(next, backoffs);
     Started {
         number: 0,

@@ -1,5 +1,5 @@
 -- The listing group by group: the sentences of a group begin with the same words, and the last of them is each usable word in turn. Assumes nothing.
-use mathlib.Core.Path.{_≡_, refl, sym, ap, _∙_, subst}
+use mathlib.Core.Path.{_≡_, sym, ap, _∙_, subst}
 use mathlib.Core.Bool.{Bool, true, false, false≢true}
 use mathlib.Core.List.{List, [], _∷_, _++_, map, append-assoc}
 use mathlib.Core.Option.{Option}
@@ -7,7 +7,7 @@ use Prim.Native.Nat.{ℕ, zero, suc, _+_, _*_, _-_, _^_, _≤_, _<_}
 use native.Mathlib.Nat.{pow-suc, one-le-pow, mul-add, mul-le-mul-left, mul-le-mul-right}
 use native.Mathlib.Numerals.{add-one}
 use native.Mathlib.Omega.{arith}
-use lib.ListN.{length, take, drop, getD, set, length-append, length-map, take-append-drop}
+use lib.ListN.{length, take, drop, getD, set, length-append, length-map, take-append-drop, drop-of-length-le}
 use lib.Seq.{take-suc, take-all, take-at, drop-cons, length-take-le}
 use lib.IntN.{ℤ}
 use borrow.Rule.Slice.PartMut.{midOf, putMid}
@@ -86,10 +86,6 @@ module _ (o : Option Store) (us p : List ℕ) (k : ℕ) (long : length p + 1 ≡
           (subst (λ (a : ℕ). AllWritten o (take j group ++ (s ∷ [])) words₀ totals₀ (take a words ++ (s ++ drop n words)) (set totals (length (take j group)) x)) items
           (written-one o words₀ totals₀ (take j group) words totals f s x n e t (omega (arith, items, ended-long us p k long (getD us j 0))) (omega (arith, sentences, group-totals-long)))))
 
-  -- nothing is written yet
-  pub group-none : AllWritten o (take 0 group) words₀ totals₀ words₀ totals₀
-  group-none = written-none o words₀ totals₀
-
 -- ---- all groups
 
 -- the sentences of the first g groups
@@ -124,9 +120,6 @@ module _ (o : Option Store) (us : List ℕ) (k : ℕ) (some : 1 ≤ k) (words₀
 
   abbrev done : ℕ → List (List ℕ)
   done = inGroups us k
-
-  pub none-done : AllWritten o (done 0) words₀ totals₀ words₀ totals₀
-  none-done = unfold flat in written-none o words₀ totals₀
 
   module _ (g : ℕ) (within : g ≤ length us ^ (k - 1)) where
     sentences-done : length (done g) ≡ g * length us
@@ -223,14 +216,10 @@ module _ (o : Option Store) (us : List ℕ) (k : ℕ) (some : 1 ≤ k) (words₀
   -- ---- where nothing is written
 
   pub no-words : length us ≡ 0 → AllWritten o ss words₀ totals₀ words₀ totals₀
-  no-words e = rw (nothing ss none) (written-none o words₀ totals₀)
+  no-words e = rw none (written-none o words₀ totals₀)
     where
-      none : length ss ≡ 0
-      none = length-sentences us k ∙ power-less us k some ∙ ap (λ (n : ℕ). length us ^ (k - 1) * n) e ∙ omega arith
-
-      nothing : (l : List (List ℕ)) → length l ≡ 0 → l ≡ []
-      nothing [] z = refl
-      nothing (x ∷ l) z = absurd (omega arith)
+      none : ss ≡ []
+      none = drop-of-length-le ss {i = 0} (omega (arith, length-sentences us k, power-less us k some, ap (λ (n : ℕ). length us ^ (k - 1) * n) e))
 
   pub none-scored : 0 < length us → ((s : List ℕ) → isScored o s ≡ false) → OneRefused o ss words₀ totals₀ words₀ totals₀
   none-scored h e = refused-here o words₀ totals₀ [] words₀ totals₀ (written-none o words₀ totals₀) (unfold flat in omega arith) (omega arith) ss (first ss (omega (arith, length-sentences us k, one-le-pow k (length us) h))) (unfold flat in omega arith) (omega arith)

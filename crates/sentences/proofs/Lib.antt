@@ -4,7 +4,6 @@ pub mod UsableWords
 pub mod Sentences
 pub mod NthSentence
 pub mod Calls
-pub mod InRuns
 pub mod Written
 pub mod Groups
 pub mod Outcome

@@ -22,7 +22,7 @@ use Rattle.sentences.proofs.Sentences.{some-word, length-sentences, sen
 
 -- ---- the order
 
-pub precedes-itself : (s : List ℕ) → precedes s s ≡ false
+precedes-itself : (s : List ℕ) → precedes s s ≡ false
 unfolding precedes
 precedes-itself [] = refl
 precedes-itself (u ∷ s) = rw (le-ltb u u (omega arith), eq-eqb u u refl) (precedes-itself s)

@@ -23,10 +23,11 @@ use Rattle.backoff.specs.Store.{Store, modelIn}
 use Rattle.backoff.proofs.FirstMet.{met-when, not-when, not-false}
 use Rattle.double_array.specs.DoubleArray.{isArray, storeIn, opened}
 use Rattle.double_array.proofs.DoubleArray.{opened-some, opened-none}
+use Rattle.score.specs.Answers.{startedOver}
 use Rattle.score.specs.Meaning.{Unwalkable, StuckWords, StuckSentence}
 use Rattle.score.proofs.Sentence.{Twelve, not-met, met, start-twelve, start-state, run-twelve}
 use Rattle.sentences.specs.Sentences.{usableWords}
-use Rattle.sentences.specs.Listing.{begun, closedRun, runFromStart, runsThrough, sentenceTotal, isScored, allScored, sizeRefusal, refusedListing, fullListing, brokenListing, listed, sentencesOver, listingOutcome}
+use Rattle.sentences.specs.Listing.{closed, ownRun, runFromStart, runsThrough, sentenceTotal, isScored, allScored, sizeRefusal, refusedListing, fullListing, brokenListing, listed, sentencesOver, listingOutcome}
 use Rattle.sentences.specs.Meaning.{IsSentence, Listed, listingRefusals, ListingMeans}
 use Rattle.sentences.proofs.Sentences.{getD-map-in, length-sentences, each-long, length-flat}
 use Rattle.sentences.proofs.Outcome.{Sized, sized}
@@ -95,30 +96,27 @@ module _ (base check : List ℤ) (array : isArray base check ≡ true) (s : List
   abbrev T : Store
   T = storeIn base check
 
-  abbrev three : List ℕ
-  three = s ++ (endWord ∷ [])
-
-  fits : refusal (closedRun three) ≡ 0
+  fits : refusal (ownRun (closed s)) ≡ 0
   unfolding refusal
-  fits = let n = length-append s (endWord ∷ []) in rw (le-ltb runLimit (length three) (omega arith), le-ltb 5 (length three) (omega arith))
+  fits = let n = length-append s (endWord ∷ []) in rw (le-ltb runLimit (length (closed s)) (omega arith), le-ltb 5 (length (closed s)) (omega arith))
 
-  ran-twelve : begun (opened base check) .number ≡ 0 → Twelve (StuckWords T (start (modelIn T)) three) (runFromStart (opened base check) three .number)
+  ran-twelve : startedOver (opened base check) .number ≡ 0 → Twelve (StuckWords T (start (modelIn T)) (closed s)) (runFromStart (opened base check) (closed s) .number)
   unfolding runFromStart runEnd
-  ran-twelve z = rw (start-state base check array z) (run-twelve base check array [] (closedRun three) fits)
+  ran-twelve z = rw (start-state base check array z) (run-twelve base check array [] (ownRun (closed s)) fits)
 
   judged : Judged base check s
   unfolding isScored runsThrough
   judged = first (start-twelve base check array)
     where
-      none : (Unwalkable T empty startWord → ⊥) → (StuckWords T (start (modelIn T)) three → ⊥) → StuckSentence T s → ⊥
+      none : (Unwalkable T empty startWord → ⊥) → (StuckWords T (start (modelIn T)) (closed s) → ⊥) → StuckSentence T s → ⊥
       none m n (inl u) = m u
       none m n (inr t) = n t
 
-      second : begun (opened base check) .number ≡ 0 → (Unwalkable T empty startWord → ⊥) → Twelve (StuckWords T (start (modelIn T)) three) (runFromStart (opened base check) three .number) → Judged base check s
+      second : startedOver (opened base check) .number ≡ 0 → (Unwalkable T empty startWord → ⊥) → Twelve (StuckWords T (start (modelIn T)) (closed s)) (runFromStart (opened base check) (closed s) .number) → Judged base check s
       second x m (not-met y n) = scored (rw (x, y)) (none m n)
       second x m (met y t) = unscored (rw (x, y)) (inr t)
 
-      first : Twelve (Unwalkable T empty startWord) (begun (opened base check) .number) → Judged base check s
+      first : Twelve (Unwalkable T empty startWord) (startedOver (opened base check) .number) → Judged base check s
       first (not-met x m) = second x m (ran-twelve x)
       first (met x u) = unscored (rw x) (inl u)
 

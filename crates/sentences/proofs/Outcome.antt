@@ -64,7 +64,7 @@ module _ (o : Option Store) (us : List ℕ) (k : ℕ) (words₀ : List ℕ) (tot
 -- ---- the sizes
 
 -- a count of more than sixteen refuses as any larger number does
-pub size-same : (us : List ℕ) (r : Usable) → length (r .words) ≡ usableLimit → Holds us r → (k words totals : ℕ) → sizeRefusal k (r .count) words totals ≡ sizeRefusal k (length us) words totals
+size-same : (us : List ℕ) (r : Usable) → length (r .words) ≡ usableLimit → Holds us r → (k words totals : ℕ) → sizeRefusal k (r .count) words totals ≡ sizeRefusal k (length us) words totals
 size-same us r long h k words totals = go (lt-or-ge usableLimit (r .count))
   where
     many : (v : ℕ) → usableLimit < v → sizeRefusal k v words totals ≡ cond ((ltb k 1 || ltb sentenceLimit k) || true) listingSize 0
@@ -120,7 +120,7 @@ module _ (base check : List ℤ) (k : ℕ) (words : List ℕ) (totals : List ℤ
       pub sizes : number ≡ 0 → Sized k (r .count) (length words) (length totals)
       sizes z = sized k (r .count) (length words) (length totals) (sym is ∙ z)
 
-      pub words-held : number ≡ 0 → usableOver (opened base check) ≡ take (r .count) (r .words)
+      words-held : number ≡ 0 → usableOver (opened base check) ≡ take (r .count) (r .words)
       words-held z = usable-over ∙ holds .few (sizes z .few)
 
       pub no-end : number ≡ 0 → NoEnd (take (r .count) (r .words))

@@ -73,15 +73,18 @@ module _ (P : ℕ → Bool) where
   passing-every zero w a = absurd (omega (arith, a .low, a .high))
   passing-every (suc n) w a = go (P (suc n)) refl (ℕ-discrete w (suc n)) (passing-every n w)
     where
+      below : (w ≡ suc n → ⊥) → Among P n w
+      below q = record { low = a .low; high = omega (arith, a .high); passes = a .passes }
+
       Found : List ℕ → Type 0
       Found l = (i : ℕ) × ((i < length l) × (getD l i 0 ≡ w))
 
       go : (b : Bool) → P (suc n) ≡ b → Dec (w ≡ suc n) → (Among P n w → Found (passing P n)) → Found (passing P (suc n))
       go false e (yes q) ih = absurd (false≢true (sym e ∙ ap P (sym q) ∙ a .passes))
-      go false e (no q) ih = rw (passing-skip P n e) (ih (record { low = a .low; high = omega (arith, a .high); passes = a .passes }))
+      go false e (no q) ih = rw (passing-skip P n e) (ih (below q))
       go true e (yes q) ih = rw (passing-more P n e) (length (passing P n), (omega (arith, length-append (passing P n) (suc n ∷ [])), getD-append-seam (passing P n) (suc n) [] 0 ∙ sym q))
       go true e (no q) ih =
-          let f = ih (record { low = a .low; high = omega (arith, a .high); passes = a .passes }) in
+          let f = ih (below q) in
           rw (passing-more P n e) (f .0, (omega (arith, f .1 .0, length-append (passing P n) (suc n ∷ [])), List·getD-append (passing P n) (suc n ∷ []) 0 (f .0) (f .1 .0) ∙ f .1 .1))
 
   pub passing-ascends : (n i j : ℕ) → i < j → j < length (passing P n) → getD (passing P n) i 0 < getD (passing P n) j 0

@@ -10,6 +10,7 @@ use lib.Seq.{take-all, take-at, drop-at, drop-drop, drop-append-add, set-split, 
 use lib.IntN.{ℤ}
 use borrow.Rule.Slice.PartMut.{midOf, putMid}
 use Rattle.integer.proofs.Arithmetic.{and-no}
+use Rattle.integer.proofs.Parts.{drop-more}
 use Rattle.integer.proofs.Ranges.{and-both}
 use Rattle.backoff.specs.NineNumbers.{all}
 use Rattle.backoff.specs.Run.{written}
@@ -17,7 +18,6 @@ use Rattle.backoff.specs.Runs.{flat}
 use Rattle.backoff.specs.Store.{Store}
 use Rattle.backoff.proofs.Runs.{flat-append}
 use Rattle.backoff.proofs.Slices.{length-written}
-use Rattle.word_step.proofs.Written.{drop-more}
 use Rattle.sentences.specs.Listing.{sentenceTotal, isScored, allScored}
 use Rattle.sentences.specs.Inner.{AllWritten, Past, OneRefused}
 

@@ -15,9 +15,10 @@ use Rattle.double_array.specs.declared.Child.the-variants.{At, Nothing}
 use Rattle.double_array.specs.DoubleArray.{rootChild, isArray, opened}
 use Rattle.carried_state.specs.declared.State.{State}
 use Rattle.carried_state.specs.Numbers.{numbersOf}
+use Rattle.score.specs.Answers.{startedOver}
 use Rattle.sentences.specs.declared.Usable.{Usable}
 use Rattle.sentences.specs.Sentences.{isOther}
-use Rattle.sentences.specs.Listing.{begun, sentenceTotal, allScored}
+use Rattle.sentences.specs.Listing.{sentenceTotal, allScored}
 
 abbrev pub isChild : Child → Bool
 isChild (At t) = true
@@ -44,8 +45,8 @@ NoEnd us = (j : ℕ) → j < length us → getD us j 0 ≡ endWord → ⊥
 -- the state is start's over these arrays, which 11 and 12 let pass
 pub record Begins (base check : List ℤ) (state : State) : Type 0 where
   pub array : isArray base check ≡ true
-  pub started : begun (opened base check) .number ≡ 0
-  pub numbers : numbersOf state ≡ begun (opened base check) .state
+  pub started : startedOver (opened base check) .number ≡ 0
+  pub numbers : numbersOf state ≡ startedOver (opened base check) .state
 
 -- the sentences ss are written in front
 pub record AllWritten (o : Option Store) (ss : List (List ℕ)) (words₀ : List ℕ) (totals₀ : List ℤ) (words : List ℕ) (totals : List ℤ) : Type 0 where

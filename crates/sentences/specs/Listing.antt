@@ -11,32 +11,30 @@ use Rattle.backoff.specs.Limits.{endWord, sentenceLimit, usableLimit}
 use Rattle.backoff.specs.Refusal.{arrayHead, brokenNode, shortSlice, listingSize}
 use Rattle.backoff.specs.Run.{Run, Answer, written}
 use Rattle.backoff.specs.Runs.{flat}
-use Rattle.backoff.specs.NineNumbers.{nineZeros, all}
-use Rattle.backoff.specs.Store.{Store, Started, startOutcome, runOutcome}
+use Rattle.backoff.specs.NineNumbers.{all}
+use Rattle.backoff.specs.Store.{Store, runOutcome}
+use Rattle.score.specs.Answers.{startedOver}
 use Rattle.sentences.specs.declared.Listing.{Listing}
 use Rattle.sentences.specs.Sentences.{usableWords, sentencesOf}
 
 -- ---- one sentence
 
+-- a sentence with its 3
+abbrev pub closed : List ℕ → List ℕ
+closed s = s ++ (endWord ∷ [])
+
 -- the words ws as a run of their own, with slices that are long enough for a sentence and its 3
-abbrev pub closedRun : List ℕ → Run
-closedRun ws = record { words = ws; points = replicate 5 (pos 0); lengths = replicate 5 0 }
+abbrev pub ownRun : List ℕ → Run
+ownRun ws = record { words = ws; points = replicate 5 (pos 0); lengths = replicate 5 0 }
 
 module _ (o : Option Store) where
-  abbrev pub begun : Started
-  begun = startOutcome o nineZeros
-
   -- "with its total from `<s>` including the closing 3": one run over the words ws from start's state
   unfoldable pub runFromStart : List ℕ → Answer (List ℤ)
-  runFromStart ws = runOutcome o (begun .state) (closedRun ws)
+  runFromStart ws = runOutcome o (startedOver o .state) (ownRun ws)
 
   -- start and that run are accepted
   unfoldable pub runsThrough : List ℕ → Bool
-  runsThrough ws = eqb (begun .number) 0 && eqb (runFromStart ws .number) 0
-
-  -- a sentence with its 3
-  abbrev pub closed : List ℕ → List ℕ
-  closed s = s ++ (endWord ∷ [])
+  runsThrough ws = eqb (startedOver o .number) 0 && eqb (runFromStart ws .number) 0
 
   unfoldable pub sentenceTotal : List ℕ → ℤ
   sentenceTotal s = runFromStart (closed s) .total

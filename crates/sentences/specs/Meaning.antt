@@ -15,9 +15,10 @@ use Rattle.backoff.specs.FirstMet.{Line, _when_, FirstMet}
 use Rattle.backoff.specs.Run.{Answer}
 use Rattle.backoff.specs.Store.{Store, runOutcome}
 use Rattle.double_array.specs.DoubleArray.{isArray, storeIn, opened}
+use Rattle.score.specs.Answers.{startedOver}
 use Rattle.score.specs.Meaning.{StuckSentence}
 use Rattle.sentences.specs.Sentences.{usable, usableWords}
-use Rattle.sentences.specs.Listing.{Outcome, begun, closedRun, isScored, sentenceTotal, usableOver, sentencesOver}
+use Rattle.sentences.specs.Listing.{Outcome, ownRun, isScored, sentenceTotal, usableOver, sentencesOver}
 
 -- "ascending order, the first word weighing most": at the first place where the two differ the word of the first is the smaller
 unfoldable pub precedes : List ℕ → List ℕ → Bool
@@ -42,16 +43,16 @@ pub record ListsAll (S : Store) (k : ℕ) (ss : List (List ℕ)) : Type 0 where
   pub ascending : Ascending ss
   pub once : (i j : ℕ) → i < length ss → j < length ss → getD ss i [] ≡ getD ss j [] → i ≡ j
 
--- the same by start, a run over the sentence's words and a run of the 3 behind it
+-- a sentence by start, a run over its words and a run of the 3 behind them
 module _ (o : Option Store) (s : List ℕ) where
   abbrev pub wordsRun : Answer (List ℤ)
-  wordsRun = runOutcome o (begun o .state) (closedRun s)
+  wordsRun = runOutcome o (startedOver o .state) (ownRun s)
 
   abbrev pub threeRun : Answer (List ℤ)
-  threeRun = runOutcome o (wordsRun .end) (closedRun (endWord ∷ []))
+  threeRun = runOutcome o (wordsRun .end) (ownRun (endWord ∷ []))
 
   pub record InRuns : Type 0 where
-    pub scored : isScored o s ≡ (eqb (begun o .number) 0 && (eqb (wordsRun .number) 0 && eqb (threeRun .number) 0))
+    pub scored : isScored o s ≡ (eqb (startedOver o .number) 0 && (eqb (wordsRun .number) 0 && eqb (threeRun .number) 0))
     pub total : isScored o s ≡ true → sentenceTotal o s ≡ wordsRun .total +ℤ threeRun .total
 
 -- an accepted listing over a store
@@ -68,7 +69,7 @@ pub record Listed (S : Store) (k : ℕ) (words : List ℕ) (totals : List ℤ) (
   pub totals-past : drop (r .listing .sentences) (r .totals) ≡ drop (r .listing .sentences) totals
 
 -- how many usable words the array has
-abbrev pub usableIn : List ℤ → List ℤ → ℕ
+abbrev usableIn : List ℤ → List ℤ → ℕ
 usableIn base check = length (usableWords (storeIn base check))
 
 -- "22, with 0, for k outside 1 to 4 or more than 16 such words, tried after 11; a short slice gives 15 after it", and "12, with 0, comes last where a sentence

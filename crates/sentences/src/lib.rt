@@ -5,7 +5,7 @@ use sums::Closed;
 ghost use mathlib.Core.Path.{_≡_};
 ghost use mathlib.Core.Bool.{true};
 ghost use mathlib.Core.List.{[], _∷_, _++_};
-ghost use Prim.Native.Nat.{ℕ, _+_, _-_, _*_, _^_, _≤_, _<_, min};
+ghost use Prim.Native.Nat.{_+_, _-_, _*_, _^_, _≤_, _<_, min};
 ghost use lib.ListN.{length, take, drop, getD, replicate};
 ghost use lib.IntN.{pos, negsuc};
 ghost use Rattle.backoff.specs.Limits.{wordLimit, sentenceLimit, usableLimit};
@@ -237,7 +237,7 @@ fn zero_totals(totals: &mut [i64])
     }
 }
 
-// The listing's items after refusal 12.
+// Writes 0 over the listing's items, as refusal 12 leaves them.
 fn clear(words: &mut [u32], totals: &mut [i64], items: usize, sentences: usize)
     requires { ⌜ (items ≤ length (now words)) × (sentences ≤ length (now totals)) ⌝ }
     ensures words { λ _. ⌜ now (words .exit) ≡ replicate items 0 ++ drop items (now (words .entry)) ⌝ }

@@ -3,15 +3,15 @@ use mathlib.Core.Path.{_≡_, refl, sym, ap, ap₂, _∙_}
 use mathlib.Core.Bool.{true}
 use mathlib.Core.Logic.{_⊎_, inl, inr}
 use mathlib.Core.List.{List, [], _∷_, _++_}
-use Prim.Native.Nat.{ℕ, suc, _+_, _*_, _-_, _≤_, _<_}
+use Prim.Native.Nat.{ℕ, suc, _+_, _-_, _≤_, _<_}
 use native.Mathlib.Omega.{arith}
 use lib.ListN.{length, take, drop, length-drop, drop-of-length-le, take-append-drop}
 use lib.Seq.{drop-drop, length-take-le}
-use lib.IntN.{ℤ, pos, natAbs, _+ℤ_, +ℤ-idl, +ℤ-idr}
+use lib.IntN.{ℤ, pos, _+ℤ_, +ℤ-idl, +ℤ-idr}
 use Rattle.integer.specs.Integer.{sum}
 use Rattle.integer.proofs.Arithmetic.{zarith, add, abs}
 use Rattle.integer.proofs.Sums.{sum-append}
-use Rattle.backoff.specs.Limits.{orderLimit, largestBackoff}
+use Rattle.backoff.specs.Limits.{orderLimit}
 use Rattle.backoff.specs.Refusal.{brokenNode}
 use Rattle.backoff.specs.Words.{areWords}
 use Rattle.backoff.specs.Model.{Model, inProbability, inBackoff, listed, probability, backoff, reach}
@@ -22,25 +22,26 @@ use Rattle.backoff.specs.Store.{Store, Step, scored, stuck, step, Ran, ran, ref
 use Rattle.backoff.proofs.NineNumbers.{stateOk-bounded, nine-stateIn, runEnd-ok, stateIn-runEnd, length-nine}
 use Rattle.backoff.proofs.Sizes.{runPoints-size}
 use Rattle.backoff.proofs.Store.{modelRan, runOver-cases}
+use Rattle.score.proofs.Sizes.{SmallTotal}
 use Rattle.score.proofs.Running.{beforeAll, before-none}
 use Rattle.sums.specs.Sums.{Summed, summed}
 
 -- the same words, numbered from a further on
-abbrev pub shifted : ℕ → Ran → Ran
-shifted a (ran ps bs t) = ran ps bs t
-shifted a (refusedAt k) = refusedAt (a + k)
+abbrev pub renumbered : ℕ → Ran → Ran
+renumbered a (ran ps bs t) = ran ps bs t
+renumbered a (refusedAt k) = refusedAt (a + k)
 
 module _ (S : Store) where
-  pub run-shifted : (a : ℕ) (ws : List ℕ) (s : Carried) (k : ℕ) → runOver S ws s (a + k) ≡ shifted a (runOver S ws s k)
+  pub run-renumbered : (a : ℕ) (ws : List ℕ) (s : Carried) (k : ℕ) → runOver S ws s (a + k) ≡ renumbered a (runOver S ws s k)
   unfolding runOver
-  run-shifted a [] s k = refl
-  run-shifted a (w ∷ ws) s k = go (λ t. run-shifted a ws t (suc k)) (step S s w)
+  run-renumbered a [] s k = refl
+  run-renumbered a (w ∷ ws) s k = go (λ t. run-renumbered a ws t (suc k)) (step S s w)
     where
-      later : (x : ℤ) (y : ℕ) (r : Ran) → before x y (shifted a r) ≡ shifted a (before x y r)
+      later : (x : ℤ) (y : ℕ) (r : Ran) → before x y (renumbered a r) ≡ renumbered a (before x y r)
       later x y (ran ps bs t) = refl
       later x y (refusedAt j) = refl
 
-      go : ((t : Carried) → runOver S ws t (a + suc k) ≡ shifted a (runOver S ws t (suc k))) → (x : Step) → onward (λ (t : Carried). runOver S ws t (suc (a + k))) (a + k) x ≡ shifted a (onward (λ (t : Carried). runOver S ws t (suc k)) k x)
+      go : ((t : Carried) → runOver S ws t (a + suc k) ≡ renumbered a (runOver S ws t (suc k))) → (x : Step) → onward (λ (t : Carried). runOver S ws t (suc (a + k))) (a + k) x ≡ renumbered a (onward (λ (t : Carried). runOver S ws t (suc k)) k x)
       go ih (scored x y t) =
           let n : suc (a + k) ≡ a + suc k = omega arith in
           ap (before x y) (ap (runOver S ws t) n ∙ ih t) ∙ later x y (runOver S ws t (suc k))
@@ -85,7 +86,7 @@ module _ (S : Store) where
       go ih stuck = refl
 
 -- what words come to, with the total of those before them; l are the numbers of the first state
-abbrev pub sumOn : ℤ → List ℤ → Ran → Summed
+abbrev sumOn : ℤ → List ℤ → Ran → Summed
 sumOn total l (ran ps bs s) = record { number = 0; place = 0; total = total +ℤ sum ps; end = nine s }
 sumOn total l (refusedAt k) = record { number = brokenNode; place = k; total = pos 0; end = l }
 
@@ -105,17 +106,24 @@ pub record Pieced (S : Store) (l : List ℤ) (ws : List ℕ) (end : List ℤ) (t
   pub nine-long : length end ≡ 9
   pub ok : stateOk (S .order) end ≡ true
   pub rest : summed l (runOver S ws (stateIn l) 1) ≡ sumOn total l (runOver S (drop a ws) (stateIn end) (a + 1))
-  pub small : natAbs total ≤ a * (orderLimit * largestBackoff)
+  pub small : SmallTotal a total
+
+-- what the answer x to the run of the next piece, up to the e-th word, says of all the words
+pub record PieceTold (S : Store) (l : List ℤ) (ws : List ℕ) (total : ℤ) (a e : ℕ) (x : Answer (List ℤ)) : Type 0 where
+  pub refused : (x .number ≡ 0 → ⊥) → summed l (runOver S ws (stateIn l) 1) ≡ record { number = x .number; place = a + x .place; total = pos 0; end = l }
+  pub place : (x .number ≡ 0 → ⊥) → x .place ≤ e - a
+  pub small : x .number ≡ 0 → SmallTotal (e - a) (x .total)
+  pub on : x .number ≡ 0 → Pieced S l ws (x .end) (total +ℤ x .total) e
 
 module _ (S : Store) (l : List ℤ) (ws : List ℕ) where
   pub pieced-begins : length l ≡ 9 → stateOk (S .order) l ≡ true → Pieced S l ws l (pos 0) 0
   pieced-begins n ok = record { at = omega arith; nine-long = n; ok = ok; rest = sum-all l (runOver S ws (stateIn l) 1); small = omega arith }
 
-  module _ (in-probability : (k : List ℕ) → inProbability (probability (modelIn S) k) ≡ true) (in-backoff : (k : List ℕ) → inBackoff (backoff (modelIn S) k) ≡ true) (in-words : (k : List ℕ) → listed (modelIn S) k ≡ true → areWords k ≡ true) (high : S .order ≤ orderLimit) (end : List ℤ) (total : ℤ) (a : ℕ) (p : Pieced S l ws end total a) where
-    pub pieced-ends : length ws ≤ a → summed l (runOver S ws (stateIn l) 1) ≡ record { number = 0; place = 0; total = total; end = end }
-    unfolding runOver
-    pieced-ends h = p .rest ∙ rw (drop-of-length-le ws h) (ap₂ (λ (z : ℤ) (e : List ℤ). record { number = 0; place = 0; total = z; end = e }) (+ℤ-idr total) (nine-stateIn (S .order) end (p .nine-long) high (p .ok)))
+  pub pieced-ends : S .order ≤ orderLimit → (end : List ℤ) (total : ℤ) (a : ℕ) → Pieced S l ws end total a → length ws ≤ a → summed l (runOver S ws (stateIn l) 1) ≡ record { number = 0; place = 0; total = total; end = end }
+  unfolding runOver
+  pieced-ends high end total a p h = p .rest ∙ rw (drop-of-length-le ws h) (ap₂ (λ (z : ℤ) (e : List ℤ). record { number = 0; place = 0; total = z; end = e }) (+ℤ-idr total) (nine-stateIn (S .order) end (p .nine-long) high (p .ok)))
 
+  module _ (in-probability : (k : List ℕ) → inProbability (probability (modelIn S) k) ≡ true) (in-backoff : (k : List ℕ) → inBackoff (backoff (modelIn S) k) ≡ true) (in-words : (k : List ℕ) → listed (modelIn S) k ≡ true → areWords k ≡ true) (high : S .order ≤ orderLimit) (end : List ℤ) (total : ℤ) (a : ℕ) (p : Pieced S l ws end total a) where
     -- the next piece, up to the e-th word
     module _ (e : ℕ) (above : a ≤ e) (within : e ≤ length ws) where
       abbrev piece : List ℕ
@@ -129,41 +137,33 @@ module _ (S : Store) (l : List ℤ) (ws : List ℕ) where
           let n : a + (e - a) ≡ e = omega arith in
           sym (take-append-drop (e - a) (drop a ws)) ∙ ap (λ (v : List ℕ). piece ++ v) (drop-drop (e - a) a ws ∙ ap (λ (k : ℕ). drop k ws) n)
 
-      piece-first : runOver S (drop a ws) (stateIn end) (a + 1) ≡ followedBy S (shifted a (runOver S piece (stateIn end) 1)) (λ (t : Carried). runOver S (drop e ws) t (e + 1))
+      piece-first : runOver S (drop a ws) (stateIn end) (a + 1) ≡ followedBy S (renumbered a (runOver S piece (stateIn end) 1)) (λ (t : Carried). runOver S (drop e ws) t (e + 1))
       piece-first =
           let n : length piece + (a + 1) ≡ e + 1 = omega (arith, length-piece) in
           ap (λ (v : List ℕ). runOver S v (stateIn end) (a + 1)) parted
           ∙ run-append S piece (drop e ws) (stateIn end) (a + 1)
-          ∙ ap₂ (λ (r : Ran) (k : ℕ). followedBy S r (λ (t : Carried). runOver S (drop e ws) t k)) (run-shifted S a piece (stateIn end) 1) n
+          ∙ ap₂ (λ (r : Ran) (k : ℕ). followedBy S r (λ (t : Carried). runOver S (drop e ws) t k)) (run-renumbered S a piece (stateIn end) 1) n
 
       -- by what the run of the piece answered
       module _ (r : Run) (x : Answer (List ℤ)) (answer : x ≡ ranAnswer end r (runOver S piece (stateIn end) 1)) where
-        pub pieced-refused : (x .number ≡ 0 → ⊥) → summed l (runOver S ws (stateIn l) 1) ≡ record { number = x .number; place = a + x .place; total = pos 0; end = l }
-        pieced-refused n = p .rest ∙ ap (sumOn total l) piece-first ∙ go (runOver S piece (stateIn end) 1) refl
+        -- a piece that is refused
+        refused-at : (x .number ≡ 0 → ⊥) → (j : ℕ) × (runOver S piece (stateIn end) 1 ≡ refusedAt j)
+        refused-at n = go (runOver S piece (stateIn end) 1) refl
           where
-            go : (y : Ran) → runOver S piece (stateIn end) 1 ≡ y → sumOn total l (followedBy S (shifted a y) (λ (t : Carried). runOver S (drop e ws) t (e + 1))) ≡ record { number = x .number; place = a + x .place; total = pos 0; end = l }
+            go : (y : Ran) → runOver S piece (stateIn end) 1 ≡ y → (j : ℕ) × (runOver S piece (stateIn end) 1 ≡ refusedAt j)
             go (ran ps bs t) q = absurd (n (ap (λ (z : Answer (List ℤ)). z .number) (answer ∙ ap (ranAnswer end r) q) ∙ (unfold acceptedRun in refl)))
-            go (refusedAt j) q =
-                let s : x ≡ brokenRun j end r = answer ∙ ap (ranAnswer end r) q in
-                rw s (unfold brokenRun in refl)
+            go (refusedAt j) q = (j, q)
 
-        pub refused-place : (x .number ≡ 0 → ⊥) → x .place ≤ e - a
-        refused-place n = go (runOver S piece (stateIn end) 1) refl
-          where
-            go : (y : Ran) → runOver S piece (stateIn end) 1 ≡ y → x .place ≤ e - a
-            go (ran ps bs t) q = absurd (n (ap (λ (z : Answer (List ℤ)). z .number) (answer ∙ ap (ranAnswer end r) q) ∙ (unfold acceptedRun in refl)))
-            go (refusedAt j) q =
-                let s : x ≡ brokenRun j end r = answer ∙ ap (ranAnswer end r) q in
-                let f : x .place ≡ j = ap (λ (z : Answer (List ℤ)). z .place) s ∙ (unfold brokenRun in refl) in
-                omega (arith, refused-within S piece (stateIn end) 1 j q, length-piece)
+        broken-is : (j : ℕ) → runOver S piece (stateIn end) 1 ≡ refusedAt j → x ≡ brokenRun j end r
+        broken-is j q = answer ∙ ap (ranAnswer end r) q
 
+        -- one that is not
         model-ran : x .number ≡ 0 → runOver S piece (stateIn end) 1 ≡ modelRan (modelIn S) (stateIn end) piece
         model-ran n = go (runOver-cases S piece (stateIn end) 1)
           where
             go : ((j : ℕ) × (runOver S piece (stateIn end) 1 ≡ refusedAt j)) ⊎ (runOver S piece (stateIn end) 1 ≡ modelRan (modelIn S) (stateIn end) piece) → runOver S piece (stateIn end) 1 ≡ modelRan (modelIn S) (stateIn end) piece
             go (inl (j, q)) =
-                let s : x ≡ brokenRun j end r = answer ∙ ap (ranAnswer end r) q in
-                let z : brokenNode ≡ 0 = sym (ap (λ (y : Answer (List ℤ)). y .number) s ∙ (unfold brokenRun in refl)) ∙ n in
+                let z : brokenNode ≡ 0 = sym (ap (λ (y : Answer (List ℤ)). y .number) (broken-is j q) ∙ (unfold brokenRun in refl)) ∙ n in
                 absurd (omega arith)
             go (inr q) = q
 
@@ -194,18 +194,18 @@ module _ (S : Store) (l : List ℤ) (ws : List ℕ) where
           unfolding modelIn
           comes-back = stateIn-runEnd M in-backoff in-words high end (p .nine-long) (p .ok) piece
 
-          pub piece-small : natAbs (x .total) ≤ (e - a) * (orderLimit * largestBackoff)
+          piece-small : SmallTotal (e - a) (x .total)
           piece-small = rw total-is (omega (arith, size, length-piece))
             where
-              size : natAbs (sum (runPoints M (stateIn end) piece)) ≤ length piece * (orderLimit * largestBackoff)
+              size : SmallTotal (length piece) (sum (runPoints M (stateIn end) piece))
               size = runPoints-size M in-probability in-backoff orderLimit (unfold modelIn reach in omega arith) piece (stateIn end) (unfold modelIn reach in stateOk-bounded (S .order) end (p .nine-long) high (p .ok))
 
           on : sumOn total l (runOver S (drop a ws) (stateIn end) (a + 1)) ≡ sumOn (total +ℤ sum (runPoints M (stateIn end) piece)) l (runOver S (drop e ws) left (e + 1))
           on =
-              ap (sumOn total l) (piece-first ∙ ap (λ (y : Ran). followedBy S (shifted a y) (λ (t : Carried). runOver S (drop e ws) t (e + 1))) (model-ran n))
+              ap (sumOn total l) (piece-first ∙ ap (λ (y : Ran). followedBy S (renumbered a y) (λ (t : Carried). runOver S (drop e ws) t (e + 1))) (model-ran n))
               ∙ sum-more total l (runPoints M (stateIn end) piece) (runBytes M (stateIn end) piece) (runOver S (drop e ws) left (e + 1))
 
-          pub pieced-on : Pieced S l ws (x .end) (total +ℤ x .total) e
+          pieced-on : Pieced S l ws (x .end) (total +ℤ x .total) e
           pieced-on = record {
             at = within;
             nine-long = ap length end-is ∙ length-nine left;
@@ -213,3 +213,18 @@ module _ (S : Store) (l : List ℤ) (ws : List ℕ) where
             rest = p .rest ∙ on ∙ ap₂ (λ (z : ℤ) (t : Carried). sumOn (total +ℤ z) l (runOver S (drop e ws) t (e + 1))) (sym total-is) (sym (ap stateIn end-is ∙ comes-back));
             small = omega (arith, add total (x .total), abs total, abs (x .total), abs (total +ℤ x .total), p .small, piece-small);
           }
+
+        pub piece-told : PieceTold S l ws total a e x
+        piece-told = record {
+          refused = λ n.
+              let (j, q) = refused-at n in
+              p .rest
+              ∙ ap (sumOn total l) (piece-first ∙ ap (λ (y : Ran). followedBy S (renumbered a y) (λ (t : Carried). runOver S (drop e ws) t (e + 1))) q)
+              ∙ sym (ap {B = Summed} (λ (z : Answer (List ℤ)). record { number = z .number; place = a + z .place; total = pos 0; end = l }) (broken-is j q) ∙ (unfold brokenRun in refl));
+          place = λ n.
+              let (j, q) = refused-at n in
+              let f : x .place ≡ j = ap (λ (z : Answer (List ℤ)). z .place) (broken-is j q) ∙ (unfold brokenRun in refl) in
+              omega (arith, refused-within S piece (stateIn end) 1 j q, length-piece);
+          small = piece-small;
+          on = pieced-on;
+        }

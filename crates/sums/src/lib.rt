@@ -1,8 +1,8 @@
 // Sums of points over any lent double array, without the slices of a run: the words of a run, and a sentence's last word with its 3.
 use carried_state::State;
+use double_array::Child;
 use score::Ran;
-use word_step::First;
-use word_step::Walked;
+use word_step::Stepped;
 ghost use mathlib.Core.Path.{_≡_};
 ghost use mathlib.Core.Bool.{true};
 ghost use mathlib.Core.List.{[], _∷_};
@@ -94,30 +94,18 @@ pub fn sum_closed(base: &[i32], check: &[i32], order: usize, state: State, last:
     let mut total: i64 = 0;
     let mut i = 0;
     while i < 2 {
-        let First::From { slot, word } = word_step::first_node(check, words[i]) else {
+        let word = word_step::replaced(check, words[i]);
+        let Child::At(slot) = double_array::root_child(check, word) else {
             return Closed::Refused;
         };
         let reached = word_step::walk(base, check, slot, carried, &mut backoffs);
-        let walked = word_step::last_node(
-            base,
-            check,
-            order,
-            carried.count,
-            reached,
-            &mut backoffs,
-        );
-        let Walked::Whole {
-            points,
-            passed,
-            kept,
-            extended,
-        } = walked
-        else {
+        let count = carried.count;
+        let walked = word_step::last_node(base, check, order, count, reached, &mut backoffs);
+        let stepped = word_step::answered(carried.words, word, walked);
+        let Stepped::Scored { score, next } = stepped else {
             return Closed::Refused;
         };
-        let stepped = word_step::scored(carried.words, word, points, passed, kept, extended);
-        total += points as i64;
-        let next = stepped.next;
+        total += score.points as i64;
         carried = next;
         i += 1;
     }

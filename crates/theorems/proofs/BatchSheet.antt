@@ -14,22 +14,22 @@ use Rattle.backoff.specs.Limits.{runLimit}
 use Rattle.backoff.specs.Refusal.{sentenceEnd}
 use Rattle.backoff.specs.Model.{Model}
 use Rattle.backoff.specs.Rule.{rulePoints, ruleBytes}
+use Rattle.backoff.specs.Counts.{hasMatched, saysUnknown, count}
 use Rattle.backoff.specs.Run.{Run, refusal, accepted, front}
 use Rattle.backoff.specs.Runs.{standing, flat, added, joined, answers, standingPoints, standingLengths, totals}
 use Rattle.backoff.specs.NineNumbers.{nineZeros}
 use Rattle.backoff.specs.Store.{Store}
 use Rattle.backoff.specs.declared.Verdict.the-variants.{Accepted}
+use Rattle.backoff.proofs.Counts.{count-both}
 use Rattle.list.specs.ListModel.{modelOf}
 use Rattle.double_array.specs.DoubleArray.{storeIn, opened}
 use Rattle.double_array.proofs.DoubleArray.{opened-some}
 use Rattle.build.specs.Build.{Built, buildOutcome}
 use Rattle.build.proofs.Built.{build-holds}
 use Rattle.plain.specs.Plain.{plainOutcome}
-use Rattle.batch.specs.Counts.{hasMatched, saysUnknown, count}
 use Rattle.batch.specs.Sheet.{sentence, sentences, lastEnd, badEnd, sheetSize, met, closingRun, wordsRun, closed, isScored, sentenceTotal, wordPoints, wordBytes, closingBytes, totalOf, unknownOf, matchedOf, firstRefused, acceptedSheet, scoredSheet, sheetOutcome, earlyRefusal}
 use Rattle.batch.specs.Meaning.{FullRun}
 use Rattle.batch.proofs.Ends.{good-end, good-last, lastEnd-next}
-use Rattle.batch.proofs.Counts.{count-both}
 use Rattle.batch.proofs.Stretches.{length-stretch, map-sentences}
 use Rattle.batch.proofs.Calls.{words-keep, none-refuses, closed-long}
 use Rattle.batch.proofs.Outcome.{Passed, passed}
@@ -82,7 +82,7 @@ module _ (table base check : List ℤ) (work : List ℕ) (built : buildOutcome t
     unfolding closed wordsRun firstState answers
     closed-number = ap (λ (l : List ℕ). getD l 1 0) (two .scored .refusals) ∙ (unfold refusal in refl)
 
-    pub sentence-scored : isScored array q ≡ true
+    sentence-scored : isScored array q ≡ true
     sentence-scored = none-refuses array q (one .scored .start) words-number closed-number
 
     points-standing : standing (wordsRun array q .number) q (wordsRun array q .points) ≡ wordsRun array q .points
@@ -94,19 +94,19 @@ module _ (table base check : List ℤ) (work : List ℕ) (built : buildOutcome t
     closing-standing : standing (closed array q .number) closingRun (closed array q .lengths) ≡ closed array q .lengths
     closing-standing = standing-whole closingRun _ closed-number (closed-long array q)
 
-    pub sentence-points : wordsRun array q .points ≡ sentencePoints M q
+    sentence-points : wordsRun array q .points ≡ sentencePoints M q
     unfolding wordsRun firstState standingPoints flat
     sentence-points = sym (append-nil _ ∙ points-standing) ∙ one .scored .points ∙ ap (rulePoints M (front true)) joined-one
 
-    pub sentence-bytes : wordsRun array q .lengths ≡ sentenceBytes M q
+    sentence-bytes : wordsRun array q .lengths ≡ sentenceBytes M q
     unfolding wordsRun firstState standingLengths flat
     sentence-bytes = sym (append-nil _ ∙ lengths-standing) ∙ one .lengths ∙ ap (ruleBytes M (front true)) joined-one
 
-    pub closed-bytes : wordsRun array q .lengths ++ closed array q .lengths ≡ closedBytes M q
+    closed-bytes : wordsRun array q .lengths ++ closed array q .lengths ≡ closedBytes M q
     unfolding wordsRun closed firstState standingLengths flat
     closed-bytes = sym (ap₂ (λ (x y : List ℕ). x ++ y) lengths-standing (append-nil _ ∙ closing-standing)) ∙ two .lengths ∙ ap (ruleBytes M (front true)) joined-two
 
-    pub closed-total : sentenceTotal array q ≡ closedTotal M q
+    closed-total : sentenceTotal array q ≡ closedTotal M q
     unfolding sentenceTotal wordsRun closed firstState answers totals
     closed-total = sym (ap (λ (z : ℤ). wordsRun array q .total +ℤ z) (+ℤ-idr (closed array q .total))) ∙ two .scored .total ∙ ap (λ (ws : List ℕ). sum (rulePoints M (front true) ws)) joined-two
 

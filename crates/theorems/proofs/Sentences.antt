@@ -25,9 +25,10 @@ use Rattle.double_array.specs.DoubleArray.{storeIn, opened}
 use Rattle.double_array.proofs.DoubleArray.{opened-some}
 use Rattle.build.specs.Build.{Built, buildOutcome}
 use Rattle.build.proofs.Built.{build-holds}
+use Rattle.score.specs.Answers.{startedOver}
 use Rattle.plain.specs.Plain.{plainOutcome}
 use Rattle.sentences.specs.Sentences.{isThere, isOther, usable, usableWords, sentencesOf}
-use Rattle.sentences.specs.Listing.{closedRun, begun, runFromStart, runsThrough, closed, sentenceTotal, isScored, allScored, sizeRefusal, earlyRefusal, fullListing, listed as listedOutcome, usableOver, sentencesOver, listingOutcome}
+use Rattle.sentences.specs.Listing.{ownRun, runFromStart, runsThrough, closed, sentenceTotal, isScored, allScored, sizeRefusal, earlyRefusal, fullListing, listed as listedOutcome, usableOver, sentencesOver, listingOutcome}
 use Rattle.sentences.proofs.Passing.{passing-same}
 use Rattle.sentences.proofs.Sentences.{length-sentences, each-long}
 use Rattle.sentences.proofs.Outcome.{sized}
@@ -85,17 +86,17 @@ module _ (table base check : List ℤ) (work : List ℕ) (built : buildOutcome t
 
   module _ (s : List ℕ) (short : length s ≤ sentenceLimit) where
     abbrev r : Run
-    r = closedRun (closed array s)
+    r = ownRun (closed s)
 
     one : RunsInARow array M true nineZeros (r ∷ []) (plainOutcome table true)
     one = unfold arrayOf in runs-in-a-row table base check work built true nineZeros refl (r ∷ [])
 
-    five : length (closed array s) ≤ 5
+    five : length (closed s) ≤ 5
     five = omega (arith, length-append s (endWord ∷ []))
 
     none : refusal r ≡ 0
     unfolding refusal
-    none = rw (le-ltb 65535 (length (closed array s)) (omega (arith, five)), le-ltb 5 (length (closed array s)) five)
+    none = rw (le-ltb 65535 (length (closed s)) (omega (arith, five)), le-ltb 5 (length (closed s)) five)
 
     added-is : added r ≡ s ++ (endWord ∷ [])
     unfolding added accepted
@@ -105,13 +106,13 @@ module _ (table base check : List ℤ) (work : List ℕ) (built : buildOutcome t
     unfolding joined flat
     joined-is = append-nil (added r) ∙ added-is
 
-    number-is : runFromStart array (closed array s) .number ≡ 0
+    number-is : runFromStart array (closed s) .number ≡ 0
     unfolding runFromStart firstState answers
     number-is = ap (λ (l : List ℕ). getD l 0 0) (one .scored .refusals) ∙ none
 
-    pub sentence-scored : isScored array s ≡ true
+    sentence-scored : isScored array s ≡ true
     unfolding isScored runsThrough
-    sentence-scored = rw (eq-eqb (begun array .number) 0 (one .scored .start), eq-eqb (runFromStart array (closed array s) .number) 0 number-is)
+    sentence-scored = rw (eq-eqb (startedOver array .number) 0 (one .scored .start), eq-eqb (runFromStart array (closed s) .number) 0 number-is)
 
     pub sentence-rule : sentenceTotal array s ≡ ruleTotal M s
     unfolding sentenceTotal runFromStart firstState answers totals ruleTotal
@@ -130,7 +131,7 @@ module _ (table base check : List ℤ) (work : List ℕ) (built : buildOutcome t
     unfolding allScored
     all-scored = all-true (isScored array) [] ss (λ i h. sentence-scored (getD ss i []) (each-short i h))
 
-    pub totals-rule : map (sentenceTotal array) ss ≡ map (ruleTotal M) (listedSentences M k)
+    totals-rule : map (sentenceTotal array) ss ≡ map (ruleTotal M) (listedSentences M k)
     totals-rule = map-each (sentenceTotal array) (ruleTotal M) [] ss (λ i h. sentence-rule (getD ss i []) (each-short i h)) ∙ ap (λ (us : List ℕ). map (ruleTotal M) (sentencesOf k us)) words-same
 
   module _ (k : ℕ) (words : List ℕ) (totals : List ℤ) where

@@ -13,10 +13,10 @@ use Rattle.backoff.specs.Limits.{endWord}
 use Rattle.backoff.specs.Refusal.{sentenceEnd}
 use Rattle.backoff.specs.Model.{Model}
 use Rattle.backoff.specs.Rule.{rulePoints, ruleBytes}
+use Rattle.backoff.specs.Counts.{hasMatched, saysUnknown, count}
 use Rattle.backoff.specs.Run.{Run, front}
 use Rattle.backoff.specs.Runs.{flat}
 use Rattle.backoff.specs.Store.{Store}
-use Rattle.batch.specs.Counts.{hasMatched, saysUnknown, count}
 use Rattle.batch.specs.Sheet.{sentences, lastEnd, badEnd, sheetSize, Outcome, sheetOutcome}
 
 -- the rule over a sentence's words, "scored from `<s>`", and over these "closed with a 3"

@@ -1,3 +1,2 @@
--- What the program prints, and what its inner functions are held to.
+-- What the program prints.
 pub mod Totals
-pub mod Steps

@@ -78,10 +78,13 @@ if-held : (z : ℤ) → leastNumber ≤ℤ z → z ≤ℤ greatestNumber → ifH
 unfolding ifHeld
 if-held z l h = rw (between-yes leastNumber greatestNumber z l h) refl
 
+no-number : (z : ℤ) → NotInForm ≡ Number z → ⊥
+no-number z e = let n : _≡_ {A = ℕ} 0 1 = cc in omega arith
+
 -- an answer by cases is a number only where the test held
 picked : (t : Bool) (y z : ℤ) → cond t (Number y) NotInForm ≡ Number z → (t ≡ true) × (y ≡ z)
 picked true y z e = (refl, cc)
-picked false y z e = let n : _≡_ {A = ℕ} 0 1 = cc in absurd (omega arith)
+picked false y z e = absurd (no-number z e)
 
 -- and 32 bits hold the number
 picked-held : (t : Bool) (y z : ℤ) → cond t (ifHeld y) NotInForm ≡ Number z → (t ≡ true) × ((y ≡ z) × In32 z)
@@ -89,7 +92,7 @@ unfolding ifHeld
 picked-held true y z e =
     let p = picked (between leastNumber greatestNumber y) y z e in
     (refl, (p .1, subst In32 (p .1) (between-low leastNumber greatestNumber y (p .0), between-high leastNumber greatestNumber y (p .0))))
-picked-held false y z e = let n : _≡_ {A = ℕ} 0 1 = cc in absurd (omega arith)
+picked-held false y z e = absurd (no-number z e)
 
 natural-read : (text : List ℕ) (z : ℤ) → readNatural text ≡ Number z → (text ≡ numeral z) × In32 z
 unfolding readNatural numeral signed
@@ -112,7 +115,7 @@ negative-read text z e =
 
 numeral-read : (text : List ℕ) (z : ℤ) → readNumeral text ≡ Number z → (text ≡ numeral z) × In32 z
 unfolding readNumeral
-numeral-read [] z e = let n : _≡_ {A = ℕ} 0 1 = cc in absurd (omega arith)
+numeral-read [] z e = absurd (no-number z e)
 numeral-read (c ∷ text) z e = go (eqb c 45) refl
   where
     go : (t : Bool) → eqb c 45 ≡ t → (c ∷ text ≡ numeral z) × In32 z
@@ -154,7 +157,7 @@ printed-read width text z e = go (eqb (length text) width) refl
         let r = numeral-read (withoutSpaces text) z (rw f at e) in
         let p : text ≡ column width z = spaces-back text ∙ rw (n, r .0) refl in
         (p, record { least = r .1 .0; greatest = r .1 .1; wide = ap length (sym p) ∙ n })
-    go false f = let b : NotInForm ≡ Number z = rw f at e in let n : _≡_ {A = ℕ} 0 1 = cc in absurd (omega arith)
+    go false f = absurd (no-number z (rw f at e))
 
 -- a column is read as z exactly where it is z as it is printed
 pub column-means : (width : ℕ) (text : List ℕ) → ColumnMeans width text (readColumn width text)

@@ -10,6 +10,7 @@ use lib.Dec.{eqb, leb}
 use lib.ListN.{length, length-append}
 use lib.Seq.{append-snoc}
 use borrow.Author.Tests.{lt-ltb, le-ltb, le-leb, leb-true, eqb-true, eqb-false, ne-eqb}
+use Rattle.integer.proofs.Parts.{no-items}
 use Rattle.integer.proofs.Ranges.{lt-or-ge, and-left, and-right, and-both}
 use Rattle.totals_text.specs.Columns.{digitsWithin, digits, allDigits, isNatural, valueFrom}
 
@@ -149,10 +150,6 @@ digits-value v (c ∷ text) h e =
     ∙ ap (λ (l : List ℕ). l ++ text) (digits-snoc v (c - 48) h (omega arith) ∙ ap (λ (d : ℕ). digits v ++ (d ∷ [])) k)
     ∙ append-snoc (digits v) c text
 
-none : (text : List ℕ) → length text ≡ 0 → text ≡ []
-none [] e = refl
-none (c ∷ text) e = absurd (omega arith)
-
 pub natural-digits : (text : List ℕ) → isNatural text ≡ true → digits (valueFrom 0 text) ≡ text
 unfolding isNatural valueFrom
 natural-digits [] e = absurd (false≢true e)
@@ -160,7 +157,7 @@ natural-digits (c ∷ text) e = go (eqb c 48) refl
   where
     go : (t : Bool) → eqb c 48 ≡ t → digits (valueFrom 0 (c ∷ text)) ≡ c ∷ text
     go true f =
-        let n = none text (eqb-true (length text) 0 (rw f at e)) in
+        let n = no-items text (eqb-true (length text) 0 (rw f at e)) in
         rw (n, eqb-true c 48 f) (digits-one 0 (omega arith))
     go false f =
         let a : allDigits (c ∷ text) ≡ true = rw f at e in
@@ -176,5 +173,5 @@ natural-all [] e = absurd (false≢true e)
 natural-all (c ∷ text) e = go (eqb c 48) refl
   where
     go : (t : Bool) → eqb c 48 ≡ t → allDigits (c ∷ text) ≡ true
-    go true f = let n = none text (eqb-true (length text) 0 (rw f at e)) in rw (n, eqb-true c 48 f) (one-digit 0 (omega arith))
+    go true f = let n = no-items text (eqb-true (length text) 0 (rw f at e)) in rw (n, eqb-true c 48 f) (one-digit 0 (omega arith))
     go false f = rw f at e

@@ -1,7 +1,7 @@
 -- Laws of specs/Lines.antt: a line that is accepted is its numbers printed, and only such a line is. Assumes nothing.
 use mathlib.Core.Path.{_≡_, refl, sym, ap, ap₂, subst, _∙_}
 use mathlib.Core.Bool.{Bool, true, false, cond, _&&_, false≢true}
-use mathlib.Core.List.{List, [], _∷_, _++_, map, append-nil}
+use mathlib.Core.List.{List, [], _∷_, _++_, map}
 use Prim.Native.Nat.{ℕ, zero, suc, _+_, _*_, _-_, _/_, _%_, _^_, _≤_, _<_, max}
 use native.Mathlib.Omega.{arith}
 use native.Mathlib.Nat.{mul-le-mul-left}
@@ -10,7 +10,7 @@ use lib.Dec.{eqb, leb}
 use lib.IntN.{ℤ, pos, negsuc, natAbs}
 use lib.Signed.{leZ, ltZ}
 use lib.ListN.{length, take, drop, set, length-append, length-set, length-map, take-append-drop, drop-of-length-le, length-drop}
-use lib.Seq.{sets, sets-eq, take-at, drop-at, drop-drop}
+use lib.Seq.{sets, take-at, drop-at, drop-drop}
 use borrow.Author.Tests.{le-ltb, le-leb, leb-true, eqb-true, eq-eqb}
 use mir.Syntax.{w64}
 use mir.Val.{SFits}
@@ -53,18 +53,6 @@ length-sentence number words unknown total = rw (length-append, length-append) r
 pub length-refused : (number place : ℕ) → length (refusedLine number place) ≡ length refusedWord + (length (column 8 (pos number)) + (length (column 8 (pos place)) + 1))
 unfolding refusedLine
 length-refused number place = rw (length-append, length-append, length-append) refl
-
--- stores from the front on
-pub sets-written : {A : Type 0} (old new : List A) → length new ≤ length old → sets old 0 new ≡ written new old
-unfolding written
-sets-written old new h =
-    let e : 0 + length new ≡ length new = omega arith in
-    sets-eq new old 0 (omega arith) ∙ rw e refl
-
--- a whole buffer
-pub sets-whole : {A : Type 0} (old new : List A) → length new ≡ length old → sets old 0 new ≡ new
-unfolding written
-sets-whole old new h = sets-written old new (omega arith) ∙ rw (drop-of-length-le old {i = length new} (omega arith)) (append-nil new)
 
 -- ---- the word of a column
 

@@ -6,8 +6,8 @@ use Prim.Native.Nat.{ℕ, _+_, _*_, _-_, _≤_, _<_}
 use native.Mathlib.Omega.{arith}
 use native.Mathlib.Numerals.{add-one}
 use lib.Dec.{eqb, eqb·suc-suc}
-use lib.ListN.{length, getD, take, drop, length-drop, drop-of-length-le}
-use lib.Seq.{drop-cons, take-all}
+use lib.ListN.{length, getD, drop, drop-of-length-le}
+use lib.Seq.{drop-cons}
 use borrow.Author.Tests.{eq-eqb, ne-eqb, le-leb, lt-leb}
 use Rattle.totals_text.specs.declared.Column.the-variants.{NotInForm}
 use Rattle.totals_text.specs.Columns.{withoutSpaces, allDigits, isNatural, valueFrom, readNatural, readNegative, readNumeral}
@@ -88,7 +88,3 @@ pub numeral-other : (text : List ℕ) → (length text ≡ 0 → ⊥) → (getD 
 unfolding readNumeral
 numeral-other [] h e = absurd (h refl)
 numeral-other (c ∷ text) h e = rw (ne-eqb c 45 e) refl
-
--- the rest from k on, as it is handed on
-pub rest-is : (text : List ℕ) (k : ℕ) → take (length text - k) (drop k text) ≡ drop k text
-rest-is text k = take-all (length text - k) (drop k text) (rw length-drop (omega arith))

@@ -1,11 +1,12 @@
--- Laws of a run of stores, `sets`: runs that follow each other, and a store that stands aside. Assumes nothing.
+-- Laws of a run of stores, `sets`: runs that follow each other, a store that stands aside, and what is written from the front on. Assumes nothing.
 use mathlib.Core.Path.{_≡_, refl, sym, ap, _∙_}
-use mathlib.Core.List.{List, [], _∷_, _++_}
+use mathlib.Core.List.{List, [], _∷_, _++_, append-nil}
 use Prim.Native.Nat.{ℕ, suc, _+_, _-_, _≤_, _<_}
 use native.Mathlib.Omega.{arith}
 use native.Mathlib.Numerals.{add-one}
-use lib.ListN.{length, set, replicate}
-use lib.Seq.{sets, set-comm}
+use lib.ListN.{length, set, replicate, drop-of-length-le}
+use lib.Seq.{sets, sets-eq, set-comm}
+use Rattle.backoff.specs.Run.{written}
 
 module _ {A : Type 0} where
   pub sets-append : (l : List A) (i : ℕ) (s t : List A) → sets l i (s ++ t) ≡ sets (sets l i s) (i + length s) t
@@ -47,3 +48,15 @@ module _ {A : Type 0} where
 
   pub sets-none : (l : List A) (i : ℕ) (u w : ℕ) (a : A) → w ≤ u → sets l i (replicate (w - u) a) ≡ l
   sets-none l i u w a h = let e : w - u ≡ 0 = omega arith in rw e refl
+
+  -- stores from the front on
+  pub sets-written : (old new : List A) → length new ≤ length old → sets old 0 new ≡ written new old
+  unfolding written
+  sets-written old new h =
+      let e : 0 + length new ≡ length new = omega arith in
+      sets-eq new old 0 (omega arith) ∙ rw e refl
+
+  -- a whole buffer
+  pub sets-whole : (old new : List A) → length new ≡ length old → sets old 0 new ≡ new
+  unfolding written
+  sets-whole old new h = sets-written old new (omega arith) ∙ rw (drop-of-length-le old {i = length new} (omega arith)) (append-nil new)

@@ -4,21 +4,22 @@ use mathlib.Core.Path.{_≡_, refl, sym, ap, _∙_}
 use mathlib.Core.Logic.{_⊎_, inl, inr}
 use mathlib.Core.Bool.{Bool, true, false, _&&_, false≢true}
 use mathlib.Core.List.{List, [], _∷_, map, reverse, reverseAux, reverse-reverse}
-use mathlib.Core.Option.{some}
 use Prim.Native.Nat.{ℕ, _*_, _≤_, _<_}
 use native.Mathlib.Omega.{arith}
-use borrow.Author.Tests.{eqb-true, leb-false, le-leb}
+use borrow.Author.Tests.{eqb-true, leb-true, leb-false, le-leb}
 use lib.Dec.{eqb, leb}
-use lib.ListN.{length, getD, length-reverse, List·getD-append}
+use lib.ListN.{length, getD, drop, length-reverse, List·getD-append}
 use lib.Seq.{take-at}
 use lib.IntN.{ℤ}
 use Rattle.integer.proofs.Ranges.{and-left, and-right, and-both}
 use Rattle.backoff.specs.Refusal.{numberOf, placeOf, arrayHead, brokenNode, shortSlice}
+use Rattle.backoff.specs.FirstMet.{Line, FirstMet}
 use Rattle.backoff.specs.Run.{Run, written, run, first}
 use Rattle.backoff.specs.Runs.{answers}
 use Rattle.backoff.specs.Store.{absent, entryOf, isBroken, lookEntry, modelIn, runOutcome}
 use Rattle.backoff.specs.NineNumbers.{nine}
 use Rattle.backoff.specs.declared.Verdict.the-variants.{Accepted, Refused}
+use Rattle.backoff.proofs.FirstMet.{met-when, not-when, not-false}
 use Rattle.backoff.proofs.Store.{entryOf-lookEntry, lookEntry-sound, packed}
 use Rattle.rows.specs.Table.{rowsOf, orderOf, words}
 use Rattle.row_search.specs.Search.{findIn}
@@ -32,10 +33,10 @@ use Rattle.double_array.specs.DoubleArray.{markerAt, childAt, lookFrom, lookRow
 use Rattle.double_array.specs.declared.Marker.the-variants.{Sound}
 use Rattle.double_array.specs.declared.Child.{Child}
 use Rattle.double_array.specs.declared.Child.the-variants.{At, Nothing}
-use Rattle.double_array.proofs.DoubleArray.{opened-none, root-sound, look-here, look-down}
+use Rattle.double_array.proofs.DoubleArray.{root-sound, look-here, look-down}
 use Rattle.array_nodes.specs.Nodes.{Reached, walkTo, reached, slotsOf}
 use Rattle.unload.specs.Unload.{tableOf, allRight, rowsIn, isList, Unloaded, untouched, emptied, filled, unloadOutcome}
-use Rattle.unload.specs.Meaning.{Holds, Says, RefusedBy, no-array, too-short, no-list, rowsPart, UnloadMeans}
+use Rattle.unload.specs.Meaning.{Holds, Says, unloadRefusals, rowsPart, UnloadMeans}
 use Rattle.array_nodes.proofs.Reached.{reached-told, reached-shown, walk-child, walk-slot}
 use Rattle.array_nodes.proofs.Gathering.{length-slotsOf, readable}
 use Rattle.unload.proofs.Rows.{length-tableOf, rows-tableOf, row-node, node-row, all-sound}
@@ -166,6 +167,9 @@ module _ (base check table : List ℤ) (work : List ℕ) where
   abbrev OutcomeMeans : Type 0
   OutcomeMeans = UnloadMeans base check table work (numberOf (outcome .answer)) (placeOf (outcome .answer)) (outcome .table) (outcome .work)
 
+  abbrev lines : List Line
+  lines = unloadRefusals base check table work
+
   too-short-told : longEnough ≡ false → (length table < 8 * rowsIn base) ⊎ (length work < rowsIn base)
   too-short-told e = go (leb (8 * rowsIn base) (length table)) (leb (rowsIn base) (length work)) refl refl e
     where
@@ -173,6 +177,14 @@ module _ (base check table : List ℤ) (work : List ℕ) where
       go false b p q e = inl (leb-false (8 * rowsIn base) (length table) p)
       go true false p q e = inr (leb-false (rowsIn base) (length work) q)
       go true true p q e = absurd (false≢true (sym e))
+
+  -- 11 and 15 are passed
+  past-sizes : isArray base check ≡ true → longEnough ≡ true → (number : ℕ) → FirstMet (drop 2 lines) number 0 → FirstMet lines number 0
+  past-sizes array long number v = inr (not-false array, inr (not-when too-short, v))
+    where
+      too-short : (length table < 8 * rowsIn base) ⊎ (length work < rowsIn base) → ⊥
+      too-short (inl h) = let l = leb-true (8 * rowsIn base) (length table) (and-left (leb (8 * rowsIn base) (length table)) (leb (rowsIn base) (length work)) long) in omega arith
+      too-short (inr h) = let l = leb-true (rowsIn base) (length work) (and-right (leb (8 * rowsIn base) (length table)) (leb (rowsIn base) (length work)) long) in omega arith
 
   -- accepted
   module _ (array : isArray base check ≡ true) (long : longEnough ≡ true) (ok : isList base check nodes ≡ true) where
@@ -194,21 +206,18 @@ module _ (base check table : List ℤ) (work : List ℕ) where
 
     filled-means : OutcomeMeans
     filled-means = record {
+      verdict = rw answer-accepted (past-sizes array long 0 (inr (not-when (λ none-held. none-held _ (list-held base check array ok)), (refl, refl))));
       holds = λ e. rw rows-left (list-held base check array ok);
       only = λ e u H. rows-left ∙ held-table base check u H;
       slots = λ e i h. rw (rows-left, slot-left i h) (row-slot base check array ok i (omega (arith, rows base check array ok)));
-      refused = λ n. absurd (n (ap numberOf answer-accepted));
-      no-place = ap placeOf answer-accepted;
     }
 
-  -- refused by a number, with what it says
-  refused-means : (k : ℕ) → (k ≡ 0 → ⊥) → outcome .answer ≡ Refused k 0 → RefusedBy base check table work k → OutcomeMeans
-  refused-means k n q r = record {
+  refused-means : (k : ℕ) → (k ≡ 0 → ⊥) → outcome .answer ≡ Refused k 0 → FirstMet lines k 0 → OutcomeMeans
+  refused-means k n q v = record {
+    verdict = rw q v;
     holds = λ e. absurd (never e);
     only = λ e. absurd (never e);
     slots = λ e. absurd (never e);
-    refused = λ z. rw q r;
-    no-place = ap placeOf q;
   }
     where
       never : numberOf (outcome .answer) ≡ 0 → ⊥
@@ -218,10 +227,10 @@ module _ (base check table : List ℤ) (work : List ℕ) where
   unload-means = go (isArray base check) refl longEnough refl (isList base check nodes) refl
     where
       go : (a : Bool) → isArray base check ≡ a → (b : Bool) → longEnough ≡ b → (c : Bool) → isList base check nodes ≡ c → OutcomeMeans
-      go false e b f c g = refused-means arrayHead (λ z. omega arith) (unfold unloadOutcome untouched in rw e) (no-array (opened-none base check e))
-      go true e false f c g = refused-means shortSlice (λ z. omega arith) (unfold unloadOutcome untouched in rw (e, f)) (too-short e (too-short-told f))
+      go false e b f c g = refused-means arrayHead (λ z. omega arith) (unfold unloadOutcome untouched in rw e) (inl (met-when e))
+      go true e false f c g = refused-means shortSlice (λ z. omega arith) (unfold unloadOutcome untouched in rw (e, f)) (inr (not-false e, inl (met-when (too-short-told f))))
       go true e true f false g =
-          refused-means brokenNode (λ z. omega arith) (unfold unloadOutcome emptied in rw (e, f, g)) (no-list e (λ u H. false≢true (sym g ∙ held-is-list base check u H)))
+          refused-means brokenNode (λ z. omega arith) (unfold unloadOutcome emptied in rw (e, f, g)) (past-sizes e f brokenNode (inl (met-when (λ u H. false≢true (sym g ∙ held-is-list base check u H)))))
       go true e true f true g = filled-means e f g
 
 -- Where unload accepts an array, every lookup, start and run over it is what the unloaded list says.

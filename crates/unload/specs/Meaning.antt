@@ -2,12 +2,13 @@
 use mathlib.Core.Path.{_≡_}
 use mathlib.Core.Logic.{_⊎_}
 use mathlib.Core.Bool.{true, false}
-use mathlib.Core.List.{List}
-use mathlib.Core.Option.{none, some}
+use mathlib.Core.List.{List, [], _∷_}
+use mathlib.Core.Option.{some}
 use Prim.Native.Nat.{ℕ, _*_, _≤_, _<_}
 use lib.ListN.{length, getD, take}
 use lib.IntN.{ℤ}
 use Rattle.backoff.specs.Refusal.{arrayHead, brokenNode, shortSlice}
+use Rattle.backoff.specs.FirstMet.{Line, _when_, FirstMet}
 use Rattle.backoff.specs.Run.{Run}
 use Rattle.backoff.specs.Store.{isBroken, storeOf, modelIn, runOutcome, startOutcome}
 use Rattle.backoff.specs.declared.Verdict.the-variants.{Accepted}
@@ -36,11 +37,14 @@ pub record Says (base check t : List ℤ) : Type 0 where
   pub starts : (l : List ℤ) → startOutcome (opened base check) l ≡ startOutcome (some (storeOf (modelOf t))) l
   pub runs : (l : List ℤ) (r : Run) → runOutcome (opened base check) l r ≡ runOutcome (some (storeOf (modelOf t))) l r
 
--- The three numbers by which unload refuses, each with its condition.
-pub data RefusedBy (base check table : List ℤ) (work : List ℕ) : ℕ → Type 0 where
-  no-array : opened base check ≡ none → RefusedBy base check table work arrayHead
-  too-short : isArray base check ≡ true → (length table < 8 * rowsIn base) ⊎ (length work < rowsIn base) → RefusedBy base check table work shortSlice
-  no-list : isArray base check ≡ true → ((t : List ℤ) → Holds base check t → ⊥) → RefusedBy base check table work brokenNode
+-- "unload 11, 15, 12": 12 where the array holds no list, so also "if the sequences of up to n words found by walking are not an accepted list of order n and
+-- BASE[1] rows, or some f is wrong"
+abbrev pub unloadRefusals : List ℤ → List ℤ → List ℤ → List ℕ → List Line
+unloadRefusals base check table work =
+    arrayHead when (isArray base check ≡ false)
+    ∷ shortSlice when ((length table < 8 * rowsIn base) ⊎ (length work < rowsIn base))
+    ∷ brokenNode when ((t : List ℤ) → Holds base check t → ⊥)
+    ∷ []
 
 -- "the rows' part of table"
 abbrev pub rowsPart : List ℤ → List ℤ → List ℤ
@@ -48,9 +52,8 @@ rowsPart base table = take (8 * rowsIn base) table
 
 -- The number and the place that were returned, and table and work as they are left.
 pub record UnloadMeans (base check table : List ℤ) (work : List ℕ) (number place : ℕ) (table′ : List ℤ) (work′ : List ℕ) : Type 0 where
+  pub verdict : FirstMet (unloadRefusals base check table work) number place
   -- accepted: the rows' part of table is the one list that the array holds, and work has the slots of its nodes
   pub holds : number ≡ 0 → Holds base check (rowsPart base table′)
   pub only : number ≡ 0 → (t : List ℤ) → Holds base check t → rowsPart base table′ ≡ t
   pub slots : number ≡ 0 → (i : ℕ) → i < rowsIn base → walkTo base check (words (rowsPart base table′) i) ≡ At (getD work′ i 0)
-  pub refused : (number ≡ 0 → ⊥) → RefusedBy base check table work number
-  pub no-place : place ≡ 0

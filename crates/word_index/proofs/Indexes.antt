@@ -2,7 +2,7 @@
 use mathlib.Core.Path.{_≡_, refl, sym, ap, ap₂, _∙_}
 use mathlib.Core.Logic.{⊎-elim}
 use mathlib.Core.Bool.{Bool, true, false, cond}
-use mathlib.Core.List.{List, [], _∷_, _++_}
+use mathlib.Core.List.{List}
 use Prim.Native.Nat.{ℕ, zero, suc, _+_, _*_, _-_, _<_, _≤_}
 use native.Mathlib.Nat.{mod-lt}
 use native.Mathlib.Omega.{arith}
@@ -16,10 +16,10 @@ use Rattle.integer.proofs.Ranges.{between-yes, lt-or-ge}
 use Rattle.rows.specs.Table.{field}
 use Rattle.rows.proofs.Table.{field-stored, field-kept}
 use Rattle.row_search.specs.declared.Found.the-variants.{At, Nothing}
-use Rattle.word_index.specs.Texts.{textOf, textsOf, recorded, recordWith}
+use Rattle.word_index.specs.Texts.{textOf, recorded, recordWith}
 use Rattle.backoff.specs.Limits.{textLimit}
 use Rattle.word_index.specs.Index.{linkLimit, hash, bucketOf, latest, Indexed, Room, linked, cleared, SameRows}
-use Rattle.word_index.proofs.Texts.{number-none, number-at, number-absent, texts-same, texts-snoc}
+use Rattle.word_index.proofs.Texts.{number-none, number-at, number-absent}
 use Rattle.word_index.proofs.Records.{record-length, byte-new, byte-kept, text-new, text-kept}
 use Rattle.word_index.proofs.Chains.{latest-le, latest-some, latest-only, latest-same, latest-next}
 
@@ -168,19 +168,6 @@ module _ (t : List ℤ) (s : List ℕ) (b w : ℕ) (text : List ℕ) (x : Indexe
   unfolding linked
   linked-length = simp length-set refl
 
-  linked-other : (k j : ℕ) → j < 8 → (j ≡ 2 → ⊥) → (j ≡ 3 → ⊥) → field (linked t (bucketOf b text) w) k j ≡ field t k j
-  unfolding linked
-  linked-other k j l a c =
-      field-kept (set t (8 * (w - 4) + 3) (field t (bucketOf b text) 2)) (bucketOf b text) 2 (pos w) k j (λ z. a (omega arith))
-      ∙ field-kept t (w - 4) 3 (field t (bucketOf b text) 2) k j (λ z. c (omega arith))
-
-  pub linked-rows : SameRows t (linked t (bucketOf b text) w)
-  linked-rows = record {
-    long = linked-length;
-    before = λ k j l. linked-other k j (omega arith) (λ z. absurd (omega arith)) (λ z. absurd (omega arith));
-    behind = λ k j l m. linked-other k j m (λ z. absurd (omega arith)) (λ z. absurd (omega arith));
-  }
-
   head-added : (g : ℕ) → g < b → field (linked t (bucketOf b text) w) g 2 ≡ pos (latest (recorded s w text) b g (w + 1))
   unfolding linked
   head-added g l = go (eqb (bucketOf b text) g) refl ∙ ap pos (sym (latest-added g))
@@ -242,7 +229,7 @@ module _ (t : List ℤ) (s : List ℕ) (b w : ℕ) (text : List ℕ) (x : Indexe
         (sym (text-old j a (omega arith)) ∙ e ∙ ap (textOf (recorded s w text)) f ∙ text-new s w text (r .record-room) short))
         (lt-or-ge k w)
 
-    pub indexed-added : Indexed (linked t (bucketOf b text) w) (recorded s w text) b (w + 1)
+    indexed-added : Indexed (linked t (bucketOf b text) w) (recorded s w text) b (w + 1)
     indexed-added =
         let e = linked-length in
         let f = record-length s w text (r .record-room) short in
@@ -258,17 +245,6 @@ module _ (t : List ℤ) (s : List ℕ) (b w : ℕ) (text : List ℕ) (x : Indexe
           head = head-added;
           link = link-added;
         }
-
-    pub texts-added : textsOf (recorded s w text) (w + 1) ≡ textsOf s w ++ (text ∷ [])
-    unfolding textsOf
-    texts-added =
-        let a = x .start in
-        let e : w + 1 - 4 ≡ w - 4 + 1 = omega arith in
-        let f : 4 + (w - 4) ≡ w = omega arith in
-        rw e
-        (texts-snoc (recorded s w text) 4 (w - 4)
-        ∙ ap₂ (λ (l : List (List ℕ)) (y : List ℕ). l ++ (y ∷ [])) (texts-same s (recorded s w text) 4 (w - 4) (λ j p q. text-old j p (omega arith)))
-        (ap (textOf (recorded s w text)) f ∙ text-new s w text (r .record-room) short))
 
     pub word-added : {h : ℕ} {t′ : List ℤ} {s′ : List ℕ} → h ≡ bucketOf b text → t′ ≡ linked t h w → s′ ≡ recorded s w text → (s′ ≡ recorded s w text) × (t′ ≡ linked t (bucketOf b text) w) × Indexed t′ s′ b (w + 1)
     word-added d e f = (f, e ∙ ap (λ (x : ℕ). linked t x w) d, rw (e, d, f) indexed-added)

@@ -1,11 +1,12 @@
 -- Laws of a store in which one record is written. Assumes nothing.
 use mathlib.Core.Path.{_≡_, refl, sym, ap, _∙_}
-use mathlib.Core.List.{List, [], _∷_, _++_, append-assoc}
-use Prim.Native.Nat.{ℕ, zero, suc, _+_, _*_, _<_, _≤_}
+use mathlib.Core.List.{List, _∷_, _++_, append-assoc}
+use Prim.Native.Nat.{ℕ, suc, _+_, _*_, _<_, _≤_}
 use native.Mathlib.Omega.{arith}
 use native.Mathlib.Numerals.{add-one}
 use lib.ListN.{length, getD, take, drop, set}
-use lib.Seq.{length-take-le, drop-cons, getD-take, sets, sets-eq, length-sets, take-at, drop-at, getD-at, drop-drop, take-append-seam, take-nil, take-take}
+use lib.Seq.{length-take-le, drop-cons, getD-take, sets, sets-eq, length-sets, take-at, drop-at, getD-at, drop-drop, take-append-seam}
+use Rattle.integer.proofs.Parts.{front-part}
 use Rattle.word_index.specs.Texts.{textOf, recorded}
 use Rattle.backoff.specs.Limits.{textLimit}
 
@@ -17,14 +18,6 @@ sets-step s a text i h =
     let e : a + (i + 1) ≡ suc (a + i) = omega arith in
     let f : i + 1 ≡ suc i = omega arith in
     rw (e, f) (ap (λ (l : List ℕ). sets s (a + i) l) (drop-cons text i 0 h))
-
--- a part that lies within the first b items
-pub front-part : (l : List ℕ) (b a k : ℕ) → a + k ≤ b → take k (drop a (take b l)) ≡ take k (drop a l)
-front-part l b a zero h = refl
-front-part [] b a (suc k) h = rw (take-nil b) refl
-front-part (x ∷ l) zero a (suc k) h = absurd (omega arith)
-front-part (x ∷ l) (suc b) zero (suc k) h = ap (λ (r : List ℕ). x ∷ r) (take-take k b l (omega arith))
-front-part (x ∷ l) (suc b) (suc a) (suc k) h = front-part l b a (suc k) (omega arith)
 
 module _ (s : List ℕ) (k : ℕ) (text : List ℕ) (room : 64 * k + 64 ≤ length s) (short : length text ≤ textLimit) where
   fits : 64 * k + length (length text ∷ text) ≤ length s

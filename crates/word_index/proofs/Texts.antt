@@ -1,27 +1,26 @@
 -- Laws of the texts of a store, of their comparison, and of the linear search. Assumes nothing.
-use mathlib.Core.Path.{_≡_, refl, sym, ap, ap₂, _∙_}
+use mathlib.Core.Path.{_≡_, refl, sym, ap, _∙_}
 use mathlib.Core.Logic.{⊎-elim}
 use mathlib.Core.Bool.{Bool, true, false, cond, _&&_, true≢false}
-use mathlib.Core.List.{List, [], _∷_, _++_}
+use mathlib.Core.List.{List}
 use Prim.Native.Nat.{ℕ, zero, suc, _+_, _*_, _-_, _<_, _≤_}
 use native.Mathlib.Omega.{arith}
 use native.Mathlib.Numerals.{add-one}
 use lib.Dec.{eqb}
 use lib.ListN.{length, getD, drop, length-drop}
-use lib.Seq.{length-take-le, drop-cons, getD-take, getD-drop}
+use lib.Seq.{length-take-le, getD-take, getD-drop}
 use Rattle.integer.proofs.Ranges.{lt-or-ge}
 use Rattle.backoff.specs.Words.{sameWords}
 use Rattle.backoff.proofs.Words.{same-refl, same-ne, same-step}
-use Rattle.row_search.specs.declared.Found.{Found}
 use Rattle.row_search.specs.declared.Found.the-variants.{At, Nothing}
-use Rattle.word_index.specs.Texts.{textOf, textsFrom, textsOf, searchFrom, recordWith, givenBy}
+use Rattle.word_index.specs.Texts.{textOf, textsFrom, textsOf, searchFrom, recordWith}
 use Rattle.backoff.specs.Limits.{textLimit}
 
 pub text-length : (s : List ℕ) (k : ℕ) → 64 * k + 64 ≤ length s → getD s (64 * k) 0 ≤ textLimit → length (textOf s k) ≡ getD s (64 * k) 0
 unfolding textOf
 text-length s k r h = length-take-le (getD s (64 * k) 0) (drop (64 * k + 1) s) (rw length-drop (omega arith))
 
-pub text-byte : (s : List ℕ) (k i : ℕ) → i < getD s (64 * k) 0 → getD (textOf s k) i 0 ≡ getD s (64 * k + 1 + i) 0
+text-byte : (s : List ℕ) (k i : ℕ) → i < getD s (64 * k) 0 → getD (textOf s k) i 0 ≡ getD s (64 * k + 1 + i) 0
 unfolding textOf
 text-byte s k i h = getD-take (getD s (64 * k) 0) (drop (64 * k + 1) s) i 0 h ∙ getD-drop (64 * k + 1) s i 0
 
@@ -34,14 +33,14 @@ same-byte text s k i r h e l =
 
 -- ---- the linear search
 module _ (s text : List ℕ) where
-  pub search-none : (k n : ℕ) → ((j : ℕ) → k ≤ j → j < k + n → textOf s j ≡ text → ⊥) → searchFrom text k (textsFrom s k n) ≡ Nothing
+  search-none : (k n : ℕ) → ((j : ℕ) → k ≤ j → j < k + n → textOf s j ≡ text → ⊥) → searchFrom text k (textsFrom s k n) ≡ Nothing
   unfolding searchFrom textsFrom
   search-none k zero h = refl
   search-none k (suc n) h =
       rw (same-ne text (textOf s k) (λ e. h k (omega arith) (omega arith) (sym e)))
       (search-none (suc k) n (λ j a b. h j (omega arith) (omega arith)))
 
-  pub search-at : (k n j : ℕ) → k ≤ j → j < k + n → textOf s j ≡ text → ((i : ℕ) → k ≤ i → i < j → textOf s i ≡ text → ⊥) → searchFrom text k (textsFrom s k n) ≡ At j
+  search-at : (k n j : ℕ) → k ≤ j → j < k + n → textOf s j ≡ text → ((i : ℕ) → k ≤ i → i < j → textOf s i ≡ text → ⊥) → searchFrom text k (textsFrom s k n) ≡ At j
   unfolding searchFrom textsFrom
   search-at k zero j l m e h = absurd (omega arith)
   search-at k (suc n) j l m e h =
@@ -82,36 +81,3 @@ module _ (s text : List ℕ) (words : ℕ) (start : 4 ≤ words) where
   pub number-absent : recordWith s words text ≡ Nothing → (j : ℕ) → 4 ≤ j → j < words → textOf s j ≡ text → ⊥
   unfolding recordWith textsOf
   number-absent f j a b e = search-absent s text 4 (words - 4) f j a (omega arith) e
-
--- ---- texts in a row
-pub texts-length : (s : List ℕ) (k n : ℕ) → length (textsFrom s k n) ≡ n
-unfolding textsFrom
-texts-length s k zero = refl
-texts-length s k (suc n) = ap suc (texts-length s (suc k) n)
-
-pub known-length : (s : List ℕ) (words : ℕ) → length (textsOf s words) ≡ words - 4
-unfolding textsOf
-known-length s words = texts-length s 4 (words - 4)
-
-pub texts-same : (s r : List ℕ) (k n : ℕ) → ((j : ℕ) → k ≤ j → j < k + n → textOf r j ≡ textOf s j) → textsFrom r k n ≡ textsFrom s k n
-unfolding textsFrom
-texts-same s r k zero h = refl
-texts-same s r k (suc n) h = ap₂ _∷_ (h k (omega arith) (omega arith)) (texts-same s r (suc k) n (λ j a b. h j (omega arith) (omega arith)))
-
-pub texts-snoc : (s : List ℕ) (k n : ℕ) → textsFrom s k (n + 1) ≡ textsFrom s k n ++ (textOf s (k + n) ∷ [])
-unfolding textsFrom
-texts-snoc s k zero = let e : k + 0 ≡ k = omega arith in rw e refl
-texts-snoc s k (suc n) =
-    let e : suc n + 1 ≡ suc (n + 1) = omega arith in
-    let f : suc k + n ≡ k + suc n = omega arith in
-    rw (e, ← f) (ap (λ (l : List (List ℕ)). textOf s k ∷ l) (texts-snoc s (suc k) n))
-
--- what is found lies among the words searched
-pub search-below : (s text : List ℕ) (k n j : ℕ) → searchFrom text k (textsFrom s k n) ≡ At j → j < k + n
-unfolding searchFrom textsFrom
-search-below s text k zero j e = let z : _≡_ {A = ℕ} 0 1 = cc in absurd (omega arith)
-search-below s text k (suc n) j e = go (sameWords text _) (search-below s text (suc k) n j) e
-  where
-    go : (t : Bool) → (searchFrom text (suc k) (textsFrom s (suc k) n) ≡ At j → j < suc k + n) → cond t (At k) (searchFrom text (suc k) (textsFrom s (suc k) n)) ≡ At j → j < k + suc n
-    go true i f = let q : k ≡ j = ap (λ (r : Found). givenBy r 0) f in omega arith
-    go false i f = let q = i f in omega arith

@@ -24,7 +24,7 @@ use Rattle.word_step.proofs.Ending.{walk-ends}
 abbrev pub nothing : Packed
 nothing = record { count = 0; words = 0; owed = pos 0 }
 
-abbrev pub none : Kept
+abbrev none : Kept
 none = record { count = 0; owed = pos 0 }
 
 module _ (n : ℕ) (backoffs : List ℤ) (five : length backoffs ≡ 5) where

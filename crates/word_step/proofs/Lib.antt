@@ -1,5 +1,4 @@
 -- The laws of one word's step from a carried state.
-pub mod Written
 pub mod Rows
 pub mod Walking
 pub mod Owing

@@ -1,4 +1,4 @@
--- The lent back-offs while a word is walked: those of the nodes passed have taken the place of the state's, and the sums of both. Assumes nothing.
+-- The lent back-offs while a word is walked: those of the nodes passed have taken the place of the state's; the sums of both, and how large they get. Assumes nothing.
 use mathlib.Core.Path.{_≡_, refl, sym, ap, _∙_}
 use mathlib.Core.Bool.{Bool, true, false, cond}
 use mathlib.Core.List.{List, [], _∷_}
@@ -8,15 +8,18 @@ use native.Mathlib.Omega.{arith}
 use lib.ListN.{length, take, drop, getD, set, length-set}
 use lib.Seq.{drop-cons, take-suc-set, take-set-le, drop-set-lt, length-take-le, getD-take}
 use lib.IntN.{ℤ, pos, natAbs, _+ℤ_, _-ℤ_, +ℤ-idr}
+use mir.Syntax.{w32}
+use mir.Val.{SFits}
 use Rattle.integer.specs.Integer.{sum}
 use Rattle.integer.proofs.Arithmetic.{zarith, abs, add, sub}
+use Rattle.integer.proofs.Parts.{drop-more}
+use Rattle.integer.proofs.Ranges.{between-low, between-high}
 use Rattle.integer.proofs.Sums.{sum-append}
-use Rattle.backoff.specs.Limits.{largestBackoff}
-use Rattle.backoff.specs.Model.{inBackoff}
+use Rattle.backoff.specs.Limits.{leastProbability, largestBackoff}
+use Rattle.backoff.specs.Model.{inProbability, inBackoff}
 use Rattle.backoff.proofs.Sizes.{backoff-size}
 use Rattle.carried_state.specs.Packed.{Owes}
 use Rattle.word_step.specs.declared.Kept.{Kept}
-use Rattle.word_step.proofs.Written.{drop-more}
 
 -- `given` is the array as the walk found it, the first `count` of it the state's back-offs; `backoffs` is the array now
 pub record Owing (count : ℕ) (given : List ℤ) (passed : ℕ) (kept : Kept) (total owed : ℤ) (backoffs : List ℤ) : Type 0 where
@@ -79,3 +82,11 @@ module _ (count : ℕ) (given : List ℤ) (passed : ℕ) (kept : Kept) (total ow
       kept-few = now-few t;
       kept-owed = now-owed t;
     }
+
+-- a row's p and what is owed
+pub points-fit : (p owed : ℤ) → inProbability p ≡ true → natAbs owed ≤ 4 * largestBackoff → SFits w32 (p +ℤ owed)
+unfolding inProbability
+points-fit p owed in-probability small =
+    let low = between-low leastProbability (pos 0) p in-probability in
+    let high = between-high leastProbability (pos 0) p in-probability in
+    omega (zarith, low, high, small, abs owed, add p owed)

@@ -1,4 +1,4 @@
--- A store's rows from what a look at them comes to; the rows of a double array are in range; its order. Assumes nothing.
+-- A store's rows from what a look at them comes to; the rows of a double array are in range and made of words. Assumes nothing.
 use mathlib.Core.Path.{_≡_, refl, sym, _∙_}
 use mathlib.Core.Bool.{true, false, not, _&&_, _||_, true≢false, false≢true}
 use mathlib.Core.List.{List, [], _∷_}

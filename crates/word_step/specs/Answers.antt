@@ -1,12 +1,14 @@
 -- The code's answer to a word as a step of crate backoff. Assumes nothing.
 use mathlib.Core.Bool.{Bool, cond}
+use mathlib.Core.List.{List}
 use Prim.Native.Nat.{ℕ, _+_}
-use Rattle.backoff.specs.State.{State as Carried}
+use lib.IntN.{ℤ}
 use Rattle.backoff.specs.Store.{Step, scored, stuck}
+use Rattle.carried_state.specs.Packed.{heldIn}
 use Rattle.word_step.specs.declared.Kind.{Kind}
 use Rattle.word_step.specs.declared.Kind.the-variants.{Known, Unknown}
-use Rattle.word_step.specs.declared.Word.{Word}
-use Rattle.word_step.specs.declared.Word.the-variants.{Scored, Refused}
+use Rattle.word_step.specs.declared.Stepped.{Stepped}
+use Rattle.word_step.specs.declared.Stepped.the-variants.{Scored, Refused}
 
 -- "its matched length, plus 8 if unknown"
 abbrev pub kindByte : Kind → ℕ
@@ -17,7 +19,7 @@ kindByte (Unknown matched) = matched + 8
 abbrev pub byteOf : Kind → Bool → ℕ
 byteOf kind extended = kindByte kind + cond extended 16 0
 
--- a word's answer, with the state that it leaves, as a step
-abbrev pub stepOf : Word → Carried → Step
-stepOf (Scored kind points extended) next = scored points (byteOf kind extended) next
-stepOf Refused next = stuck
+-- a word's answer as a step, the back-offs of the state that it leaves in a lent array
+abbrev pub stepOf : Stepped → List ℤ → Step
+stepOf (Scored score next) backoffs = scored (score .points) (byteOf (score .kind) (score .extended)) (heldIn next backoffs)
+stepOf Refused backoffs = stuck

@@ -3,30 +3,32 @@ use mathlib.Core.Path.{_≡_}
 use mathlib.Core.Bool.{Bool, true, false, not, cond, _||_}
 use mathlib.Core.List.{List, [], _∷_}
 use Prim.Native.Nat.{ℕ, suc, _+_, _*_, _≤_, _<_, min}
+use lib.Dec.{eqb}
 use lib.ListN.{length, take, set}
 use lib.IntN.{ℤ, pos, natAbs, _+ℤ_}
 use Rattle.integer.specs.Integer.{eqZ}
 use Rattle.backoff.specs.Limits.{unknownWord, largestBackoff}
+use Rattle.backoff.specs.Words.{isWord}
 use Rattle.backoff.specs.Model.{reach}
-use Rattle.backoff.specs.Rule.{lengthByte}
 use Rattle.backoff.specs.State.{State as Carried, backoffsOf, liveLength, walk, pointsFrom, extendedFrom}
-use Rattle.backoff.specs.Store.{Store, isBroken, modelIn, Step, scored, endsBroken}
+use Rattle.backoff.specs.Store.{Store, isBroken, modelIn, Step, endsBroken}
 use Rattle.double_array.specs.DoubleArray.{markerAt, rootChild, storeIn}
 use Rattle.double_array.specs.declared.Marker.{Marker}
 use Rattle.double_array.specs.declared.Marker.the-variants.{Sound, Broken}
 use Rattle.double_array.specs.declared.Child.{Child}
 use Rattle.double_array.specs.declared.Child.the-variants.{At, Nothing}
-use Rattle.carried_state.specs.Packed.{pushed, heldIn, Owes, Carries}
+use Rattle.carried_state.specs.declared.Packed.{Packed}
+use Rattle.carried_state.specs.Packed.{pushed, Owes, Carries}
 use Rattle.word_step.specs.declared.Kind.{Kind}
-use Rattle.word_step.specs.declared.Word.the-variants.{Scored}
-use Rattle.word_step.specs.declared.First.{First}
-use Rattle.word_step.specs.declared.First.the-variants.{From, Missing}
+use Rattle.word_step.specs.declared.Kind.the-variants.{Known, Unknown}
+use Rattle.word_step.specs.declared.Score.{Score}
 use Rattle.word_step.specs.declared.Kept.{Kept}
 use Rattle.word_step.specs.declared.Reached.{Reached}
 use Rattle.word_step.specs.declared.Reached.the-variants.{End, Last, Stuck as ReachedStuck}
 use Rattle.word_step.specs.declared.Walked.{Walked}
 use Rattle.word_step.specs.declared.Walked.the-variants.{Whole, Stuck}
 use Rattle.word_step.specs.declared.Stepped.{Stepped}
+use Rattle.word_step.specs.declared.Stepped.the-variants.{Scored, Refused}
 use Rattle.word_step.specs.Answers.{stepOf}
 
 -- whether there is a child
@@ -38,20 +40,14 @@ isChild Nothing = false
 abbrev pub replaced : List ℤ → ℕ → ℕ
 replaced check w = cond (isChild (rootChild check w)) w unknownWord
 
--- the root's child for w, or that for word 1 in its place
-abbrev pub firstOf : ℕ → Child → Child → First
-firstOf w (At slot) other = From slot w
-firstOf w Nothing (At slot) = From slot unknownWord
-firstOf w Nothing Nothing = Missing
-
 -- the longest live row: `kept` so far, and now a row with b and f has been read
 abbrev pub longestLive : Kept → Kept → ℤ → Bool → Kept
 longestLive kept row b f = cond (not (eqZ b (pos 0)) || f) row kept
 
--- a walk's end at a node with this marker, where so many words are passed, so much of the state's back-offs is owed, and `read` is the sum of the back-offs before it
+-- a walk's end at a node with this marker, where so many words are passed, so much of the state's back-offs is owed, and `sum` is that of the back-offs before it
 abbrev pub endedAt : Marker → ℕ → ℤ → ℤ → Kept → Walked
-endedAt (Sound p b e f) passed owed read kept = Whole (p +ℤ owed) passed (longestLive kept (record { count = passed + 1; owed = read +ℤ b }) b f) e
-endedAt Broken passed owed read kept = Stuck
+endedAt (Sound p b e f) passed owed sum kept = Whole (p +ℤ owed) passed (longestLive kept (record { count = passed + 1; owed = sum +ℤ b }) b f) e
+endedAt Broken passed owed sum kept = Stuck
 
 -- and what it leaves in the lent array
 abbrev pub storedAt : Marker → ℕ → List ℤ → List ℤ
@@ -80,22 +76,33 @@ WalkedOver S s v Stuck backoffs = meetsBroken S (s .words) v ≡ true
 -- the node that is still to be read is in the array, and the sums are small
 abbrev pub Readable : List ℤ → Reached → Type 0
 Readable base (End points passed kept extended) = Unit {0}
-Readable base (Last slot owed read kept) = (slot < length base) × (natAbs owed ≤ 4 * largestBackoff) × (natAbs read ≤ 4 * largestBackoff)
+Readable base (Last slot owed sum kept) = (slot < length base) × (natAbs owed ≤ 4 * largestBackoff) × (natAbs sum ≤ 4 * largestBackoff)
 Readable base ReachedStuck = Unit {0}
 
 -- how far a walk from the state s, which has `count` words, has come; where a node is still to be read, the walk is whole once it is
 abbrev pub ReachedOver : List ℤ → List ℤ → Carried → ℕ → ℕ → Reached → List ℤ → Type 0
 ReachedOver base check s v count (End points passed kept extended) backoffs = Read (storeIn base check) s v points passed kept extended backoffs
-ReachedOver base check s v count (Last slot owed read kept) backoffs =
-    WalkedOver (storeIn base check) s v (endedAt (markerAt base check (count + 1) slot) count owed read kept) (storedAt (markerAt base check (count + 1) slot) count backoffs)
+ReachedOver base check s v count (Last slot owed sum kept) backoffs =
+    WalkedOver (storeIn base check) s v (endedAt (markerAt base check (count + 1) slot) count owed sum kept) (storedAt (markerAt base check (count + 1) slot) count backoffs)
 ReachedOver base check s v count ReachedStuck backoffs = meetsBroken (storeIn base check) (s .words) v ≡ true
 
--- what a word v and what was read on the walk from it make of a state's words
-pub record ScoredAs (words v : ℕ) (points : ℤ) (passed : ℕ) (kept : Kept) (extended : Bool) (r : Stepped) : Type 0 where
-  pub word : (t : Carried) → stepOf (r .word) t ≡ scored points (lengthByte (suc passed) v extended) t
-  pub next : r .next ≡ record { count = kept .count; words = pushed v words; owed = kept .owed }
+-- a word that is scored as 1 is unknown
+abbrev pub kindOf : ℕ → ℕ → Kind
+kindOf v matched = cond (eqb v unknownWord) (Unknown matched) (Known matched)
+
+-- the walk is that of a word, through at most four others
+abbrev pub Answerable : ℕ → Walked → Type 0
+Answerable v (Whole points passed kept extended) = (isWord v ≡ true) × (passed ≤ 4)
+Answerable v Stuck = Unit {0}
+
+-- the answer to a word v by its walk from a state of these words, and what it makes of the state
+abbrev pub answered : ℕ → ℕ → Walked → Stepped
+answered words v (Whole points passed kept extended) =
+    Scored (record { kind = kindOf v (passed + 1); points = points; extended = extended })
+    (record { count = kept .count; words = pushed v words; owed = kept .owed })
+answered words v Stuck = Refused
 
 -- the code's answer to a word is this step, and the state that the word leaves is carried where the order is n
 pub record SteppedTo (n : ℕ) (expected : Step) (r : Stepped) (backoffs : List ℤ) : Type 0 where
-  pub is : stepOf (r .word) (heldIn (r .next) backoffs) ≡ expected
-  pub carries : (kind : Kind) (points : ℤ) (extended : Bool) → r .word ≡ Scored kind points extended → Carries n (r .next) backoffs
+  pub is : stepOf r backoffs ≡ expected
+  pub carries : (score : Score) (next : Packed) → r ≡ Scored score next → Carries n next backoffs

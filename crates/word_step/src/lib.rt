@@ -3,19 +3,17 @@ use carried_state::Packed;
 use double_array::Child;
 use double_array::Marker;
 ghost use mathlib.Core.Path.{_≡_};
-ghost use mathlib.Core.Bool.{Bool, true, false};
+ghost use mathlib.Core.Bool.{true, false};
 ghost use Prim.Native.Nat.{ℕ, _*_, _%_, _≤_, _<_};
 ghost use lib.ListN.{length, getD};
 ghost use lib.IntN.{negsuc, natAbs};
-ghost use Rattle.backoff.specs.Limits.{unknownWord, startWord, slotLimit, largestBackoff};
-ghost use Rattle.backoff.specs.Words.{isWord, radix};
-ghost use Rattle.backoff.specs.Rule.{lengthByte};
+ghost use Rattle.backoff.specs.Limits.{startWord, slotLimit, largestBackoff};
+ghost use Rattle.backoff.specs.Words.{radix};
 ghost use Rattle.backoff.specs.State.{State as Carried, empty as emptyState};
 ghost use Rattle.backoff.specs.Store.{isBroken, wordStep};
-ghost use Rattle.double_array.specs.DoubleArray.{freeCheck, keptMarker, lookMarker, childAt, rootChild, isArray, orderIn, storeIn};
+ghost use Rattle.double_array.specs.DoubleArray.{freeCheck, keptMarker, lookMarker, childAt, isArray, orderIn, storeIn};
 ghost use Rattle.carried_state.specs.Packed.{heldIn, Carries};
-ghost use Rattle.word_step.specs.Answers.{byteOf};
-ghost use Rattle.word_step.specs.Inner.{isChild, replaced, firstOf, longestLive, endedAt, storedAt, WalkedOver, Readable, ReachedOver, ScoredAs, SteppedTo};
+ghost use Rattle.word_step.specs.Inner.{isChild, replaced, longestLive, endedAt, storedAt, WalkedOver, Readable, ReachedOver, kindOf, Answerable, answered, SteppedTo};
 ghost use Rattle.word_step.specs.Rows.{InRange};
 
 // A scored word is known or unknown, and each kind carries its matched length.
@@ -24,20 +22,17 @@ pub enum Kind {
     Unknown(u8),
 }
 
-// A word's answer; `extended` says whether some row puts a further word in front of the matched one.
-pub enum Word {
-    Scored {
-        kind: Kind,
-        points: i32,
-        extended: bool,
-    },
-    Refused,
+// What a word has scored; `extended` says whether some row puts a further word in front of the matched one.
+pub struct Score {
+    pub kind: Kind,
+    pub points: i32,
+    pub extended: bool,
 }
 
-// The slot at which a word's walk begins, and the word that it is scored as.
-pub enum First {
-    From { slot: usize, word: u32 },
-    Missing,
+// A word's answer and the state that it leaves.
+pub enum Stepped {
+    Scored { score: Score, next: Packed },
+    Refused,
 }
 
 // The number of a row's words, and the sum of the back-offs that a state of these words has.
@@ -76,12 +71,6 @@ pub enum Walked {
     Stuck,
 }
 
-// A word's answer and the state that it leaves.
-pub struct Stepped {
-    pub word: Word,
-    pub next: Packed,
-}
-
 // A state has so many words at most: the compiler, which is told so, unrolls the walk.
 const STATE_WORDS: usize = 4;
 
@@ -103,23 +92,6 @@ pub fn replaced(check: &[i32], w: u32) -> u32
     let child = double_array::root_child(check, w);
     let known = is_child(child) as u32;
     w * known + (1 - known)
-}
-
-// The root's child for the word or, where there is none, for word 1 in its place.
-pub fn first_node(check: &[i32], w: u32) -> First
-    requires { ⌜ getD (now check) 1 freeCheck ≡ negsuc 0 ⌝ }
-    ensures { λ r. ⌜ r ≡ firstOf w (rootChild (now (check .entry)) w) (rootChild (now (check .entry)) unknownWord) ⌝ }
-{
-    if let Child::At(slot) = double_array::root_child(check, w) {
-        return First::From { slot, word: w };
-    }
-    let Child::At(slot) = double_array::root_child(check, backoff::UNKNOWN_WORD) else {
-        return First::Missing;
-    };
-    First::From {
-        slot,
-        word: backoff::UNKNOWN_WORD,
-    }
 }
 
 // The longest live row, once the row of `count` words has been read too. One of n words has neither b nor f.
@@ -264,7 +236,7 @@ pub fn last_node(
 
 // The kind of a word that is scored as this one.
 fn kind_of(word: u32, matched: u8) -> Kind
-    ensures { λ r. ⌜ ((e : Bool) → byteOf r e ≡ lengthByte matched word e) ⌝ }
+    ensures { λ r. ⌜ r ≡ kindOf word matched ⌝ }
 {
     if word == backoff::UNKNOWN_WORD {
         Kind::Unknown(matched)
@@ -273,31 +245,32 @@ fn kind_of(word: u32, matched: u8) -> Kind
     }
 }
 
-// The answer of a word whose walk is done, and the state that it leaves.
-pub fn scored(
-    words: u64,
-    word: u32,
-    points: i32,
-    passed: usize,
-    kept: Kept,
-    extended: bool,
-) -> Stepped
-    requires { ⌜ isWord word ≡ true ⌝ }
-    requires { ⌜ passed ≤ 4 ⌝ }
-    ensures { λ r. ⌜ ScoredAs words word points passed kept extended r ⌝ }
+// The answer to a word that is scored as this one, by its walk from a state of these words.
+pub fn answered(words: u64, word: u32, walked: Walked) -> Stepped
+    requires { ⌜ Answerable word walked ⌝ }
+    ensures { λ r. ⌜ r ≡ answered words word walked ⌝ }
 {
+    let Walked::Whole {
+        points,
+        passed,
+        kept,
+        extended,
+    } = walked
+    else {
+        return Stepped::Refused;
+    };
     let kind = kind_of(word, passed as u8 + 1);
     let next = Packed {
         count: kept.count,
         words: words % backoff::THREE_DIGITS * backoff::RADIX + word as u64,
         owed: kept.owed,
     };
-    let word = Word::Scored {
+    let score = Score {
         kind,
         points,
         extended,
     };
-    Stepped { word, next }
+    Stepped::Scored { score, next }
 }
 
 // The walk of a word v from the empty state, which reads the node in this slot alone.
@@ -326,34 +299,15 @@ pub fn begin(base: &[i32], check: &[i32], order: usize, backoffs: &mut [i32; 5])
     requires { ⌜ length (now backoffs) ≡ 5 ⌝ }
     ensures { λ r. ⌜ SteppedTo order (wordStep (storeIn (now (base .entry)) (now (check .entry))) emptyState startWord) r (now (backoffs .exit)) ⌝ }
 {
-    let none = Packed {
-        count: 0,
-        words: 0,
-        owed: 0,
-    };
-    let First::From { slot, word } = first_node(check, backoff::START_WORD) else {
-        return Stepped {
-            word: Word::Refused,
-            next: none,
-        };
+    let word = replaced(check, backoff::START_WORD);
+    let Child::At(slot) = double_array::root_child(check, word) else {
+        return Stepped::Refused;
     };
     let walked = walk_alone(base, check, order, slot, backoffs);
-    let Walked::Whole {
-        points,
-        passed,
-        kept,
-        extended,
-    } = walked
-    else {
-        return Stepped {
-            word: Word::Refused,
-            next: none,
-        };
-    };
-    scored(0, word, points, passed, kept, extended)
+    answered(0, word, walked)
 }
 
-// One word w from a state, which is scored as `word`. What it ends is told by `ends_sentence`.
+// One word w from a state, which is scored as `word`. The sentence that it may end is its caller's.
 pub fn step(
     base: &[i32],
     check: &[i32],
@@ -368,24 +322,9 @@ pub fn step(
     ensures { λ r. ⌜ ((w : ℕ) → word ≡ replaced (now (check .entry)) w → SteppedTo order (wordStep (storeIn (now (base .entry)) (now (check .entry))) (heldIn carried (now (backoffs .entry))) w) r (now (backoffs .exit))) ⌝ }
 {
     let Child::At(slot) = double_array::root_child(check, word) else {
-        return Stepped {
-            word: Word::Refused,
-            next: carried,
-        };
+        return Stepped::Refused;
     };
     let reached = walk(base, check, slot, carried, backoffs);
     let walked = last_node(base, check, order, carried.count, reached, backoffs);
-    let Walked::Whole {
-        points,
-        passed,
-        kept,
-        extended,
-    } = walked
-    else {
-        return Stepped {
-            word: Word::Refused,
-            next: carried,
-        };
-    };
-    scored(carried.words, word, points, passed, kept, extended)
+    answered(carried.words, word, walked)
 }

@@ -10,14 +10,14 @@ returns : tie.Need-returns
 returns c =
     λ l size s h.
     let p = c .before .before in
-    concluded-refused (p .args .filling) (length (p .args .table .now)) size (p .args .table .now) s (p .args .e) l h (c .if1 .taken)
+    concluded-refused (p .args .filling) (length (p .args .table .now)) size (p .args .table .now) s (p .args .ending) l h (c .if1 .taken)
 
 judge-requires : tie.Need-judge-requires
 judge-requires c κs =
     let f = c .before in
     let p = f .before .before in
     let t = p .args .table .now in
-    let d = lines-done (p .args .filling) (length t) (p .pre .1 .0) t (p .pre .1 .1 .0) (p .args .e) (p .pre .0) (p .pre .1 .1 .1) (f .if1 .left) in
+    let d = lines-done (p .args .filling) (length t) (p .pre .1 .0) t (p .pre .1 .1 .0) (p .args .ending) (p .pre .0) (p .pre .1 .1 .1) (f .if1 .left) in
     (d .0, d .3)
 
 enum-told : tie.Need-enum-told
@@ -29,7 +29,7 @@ cast-t11 c =
     let f = j .before .before in
     let p = f .before .before in
     let t = p .args .table .now in
-    let d = lines-done (p .args .filling) (length t) (p .pre .1 .0) t (p .pre .1 .1 .0) (p .args .e) (p .pre .0) (p .pre .1 .1 .1) (f .if1 .left) in
+    let d = lines-done (p .args .filling) (length t) (p .pre .1 .0) t (p .pre .1 .1 .0) (p .args .ending) (p .pre .0) (p .pre .1 .1 .1) (f .if1 .left) in
     let few = j .judge .ensures (d .0) (d .3) .few (c .before .enum-told .given .1) in
     let n = d .3 .count in
     omega arith
@@ -50,7 +50,7 @@ returns-2 c =
     let f = j .before .before in
     let p = f .before .before in
     let t = p .args .table .now in
-    concluded-read (p .args .filling) (length t) size t s (p .args .e) (j .judge .last .0) (j .judge .result) (j .judge .ensures) l h (f .if1 .left) (c .before .enum-told .given .1)
+    concluded-read (p .args .filling) (length t) size t s (p .args .ending) (j .judge .last .0) (j .judge .result) (j .judge .ensures) l h (f .if1 .left) (c .before .enum-told .given .1)
 
 same-length-2 : tie.Need-same-length-2
 same-length-2 c = search needs
@@ -63,7 +63,7 @@ returns-3 c =
     let f = j .before .before in
     let p = f .before .before in
     let t = p .args .table .now in
-    concluded-judged (p .args .filling) (length t) size t s (p .args .e) (j .judge .last .0) (j .judge .result) (j .judge .ensures) l h (f .if1 .left) (n .number .given .0 .0) (n .number .given .0 .1 .0) (n .number .given .1)
+    concluded-judged (p .args .filling) (length t) size t s (p .args .ending) (j .judge .last .0) (j .judge .result) (j .judge .ensures) l h (f .if1 .left) (n .number .given .0 .0) (n .number .given .0 .1 .0) (n .number .given .1)
 
 pub conclude-spec : {M : Type 1} → statement M
 conclude-spec =

@@ -28,7 +28,7 @@ returns c a size t s e h =
     let k = c .before .before in
     let r = k .before .before in
     let b = r .before .before .before in
-    data-announced (b .args .room) size t s (b .args .p) a h (b .args .line .now) (k .count .given .0 .0) e (r .before .if1 .taken)
+    data-announced (b .args .room) size t s (b .args .progress) a h (b .args .line .now) (k .count .given .0 .0) e (r .before .if1 .taken)
     (sym (r .read-count .ensures) ∙ k .count .given .1) (c .announce .result) (c .announce .ensures)
 
 enum-told : tie.Need-enum-told
@@ -39,12 +39,12 @@ first-section-requires c κs = search needs
 
 -- the line announces nothing
 no-count : (c : tie.Joined1) (a : Reading) (size : ℕ) (t : List ℤ) (s : List ℕ) → let b = c .before .before in
-    Held (b .args .room) size t s (b .args .p) a → dataStep a (b .args .line .now) ≡ firstSection a (b .args .line .now)
+    Held (b .args .room) size t s (b .args .progress) a → dataStep a (b .args .line .now) ≡ firstSection a (b .args .line .now)
 no-count c a size t s h =
     let b = c .before .before in
     ⊎-elim
-    (λ w. data-not-count (b .args .room) size t s (b .args .p) a h (b .args .line .now) (w .0 .taken) (sym (w .1 .ensures) ∙ w .3 .given .1))
-    (λ w. data-all-announced (b .args .room) size t s (b .args .p) a h (b .args .line .now) (w .left))
+    (λ w. data-not-count (b .args .room) size t s (b .args .progress) a h (b .args .line .now) (w .0 .taken) (sym (w .1 .ensures) ∙ w .3 .given .1))
+    (λ w. data-all-announced (b .args .room) size t s (b .args .progress) a h (b .args .line .now) (w .left))
     (c .if1 .came)
 
 returns-2 : tie.Need-returns-2

@@ -32,9 +32,9 @@ returns-2 c =
     let p = e .before .before .before in
     let t = p .args .table .now in
     let s = p .args .store .now in
-    let st : p .args .p .stage ≡ Start = m .enum-told .given .1 in
+    let st : p .args .progress .stage ≡ Start = m .enum-told .given .1 in
     rw (line-at (length t) (length s) a (p .args .line .now) Start (e .if1 .left) (sym (h .stage) ∙ st), sym (q .is-data-line .ensures) ∙ c .before .if2 .taken)
-    (data-entered (length t) (length s) t s (p .args .p) a h st (c .enter .result) (c .enter .ensures))
+    (data-entered (length t) (length s) t s (p .args .progress) a h st (c .enter .result) (c .enter .ensures))
 
 refused-requires : tie.Need-refused-requires
 refused-requires c κs = search needs
@@ -66,7 +66,7 @@ returns-3 c =
     let p = e .before .before .before in
     let t = p .args .table .now in
     let s = p .args .store .now in
-    let st : p .args .p .stage ≡ Start = m .enum-told .given .1 in
+    let st : p .args .progress .stage ≡ Start = m .enum-told .given .1 in
     rw (line-at (length t) (length s) a (p .args .line .now) Start (e .if1 .left) (sym (h .stage) ∙ st), sym (q .is-data-line .ensures) ∙ c .before .if2 .left)
     (c .refused .ensures, lit≤ tt, refl, refl)
 
@@ -78,7 +78,7 @@ returns-4 c =
     let p = e .before .before .before in
     let t = p .args .table .now in
     let s = p .args .store .now in
-    let st : p .args .p .stage ≡ Counts = m .enum-told2 .given .1 in
+    let st : p .args .progress .stage ≡ Counts = m .enum-told2 .given .1 in
     rw (line-at (length t) (length s) a (p .args .line .now) Counts (e .if1 .left) (sym (h .stage) ∙ st)) (c .data-step .ensures a (length s) t s st h)
 
 same-length : tie.Need-same-length
@@ -107,7 +107,7 @@ returns-6 c =
     let p = e .before .before .before in
     let t = p .args .table .now in
     let s = p .args .store .now in
-    let st : p .args .p .stage ≡ Ended = m .enum-told3 .given .1 in
+    let st : p .args .progress .stage ≡ Ended = m .enum-told3 .given .1 in
     rw (line-at (length t) (length s) a (p .args .line .now) Ended (e .if1 .left) (sym (h .stage) ∙ st)) (c .refused2 .ensures, lit≤ tt, refl, refl)
 
 pub line-step-spec : {M : Type 1} → statement M

@@ -16,8 +16,8 @@ numbers-met-requires c κs =
     let q = c .before .before .before in
     let t = q .args .table .now in
     let s = q .args .store .now in
-    let later = in-longer (length t) (length s) t s (q .args .state) (q .pre .0 .0) (q .pre .0 .1) (q .args .m) (q .pre .2) (q .pre .1) .2 in
-    (held-searchable (length t) (length s) t s (q .args .state) (q .pre .0 .0) (q .pre .0 .1) (later .index), q .pre .4, q .pre .3)
+    let later = in-longer (length t) (length s) t s (q .args .progress) (q .pre .0 .0) (q .pre .0 .1) (q .args .m) (q .pre .2) (q .pre .1) .2 in
+    (held-searchable (length t) (length s) t s (q .args .progress) (q .pre .0 .0) (q .pre .0 .1) (later .index), q .pre .4, q .pre .3)
 
 refused-requires : tie.Need-refused-requires
 refused-requires c κs = search needs
@@ -34,8 +34,8 @@ returns c =
     let s = q .args .store .now in
     let us = parts 32 (q .args .text .now) in
     let line : Listed = record { p = q .args .p; b = q .args .b; texts = parts 32 (q .args .text .now) } in
-    let same = longer-numbers (length t) (length s) t s (q .args .state) a h (q .args .m) (q .pre .2) (q .pre .1) line us in
-    longer-unlisted (length t) (length s) t s (q .args .state) a h (q .args .m) (q .pre .2) (q .pre .1) line us (ap someMissing (sym same) ∙ sym (n .numbers-met .ensures .0) ∙ c .before .if1 .taken) (c .refused .result) (c .refused .ensures)
+    let same = longer-numbers (length t) (length s) t s (q .args .progress) a h (q .args .m) (q .pre .2) (q .pre .1) line us in
+    longer-unlisted (length t) (length s) t s (q .args .progress) a h (q .args .m) (q .pre .2) (q .pre .1) line us (ap someMissing (sym same) ∙ sym (n .numbers-met .ensures .0) ∙ c .before .if1 .taken) (c .refused .result) (c .refused .ensures)
 
 refused-requires-2 : tie.Need-refused-requires-2
 refused-requires-2 c κs = search needs
@@ -53,8 +53,8 @@ returns-2 c =
     let s = q .args .store .now in
     let us = parts 32 (q .args .text .now) in
     let line : Listed = record { p = q .args .p; b = q .args .b; texts = parts 32 (q .args .text .now) } in
-    let same = longer-numbers (length t) (length s) t s (q .args .state) a h (q .args .m) (q .pre .2) (q .pre .1) line us in
-    longer-refused (length t) (length s) t s (q .args .state) a h (q .args .m) (q .pre .2) (q .pre .1) line us (ap someMissing (sym same) ∙ sym (n .numbers-met .ensures .0) ∙ e .if1 .left) (c .before .if2 .taken) (c .refused2 .result) (c .refused2 .ensures)
+    let same = longer-numbers (length t) (length s) t s (q .args .progress) a h (q .args .m) (q .pre .2) (q .pre .1) line us in
+    longer-refused (length t) (length s) t s (q .args .progress) a h (q .args .m) (q .pre .2) (q .pre .1) line us (ap someMissing (sym same) ∙ sym (n .numbers-met .ensures .0) ∙ e .if1 .left) (c .before .if2 .taken) (c .refused2 .result) (c .refused2 .ensures)
 
 write-long-row-requires : tie.Need-write-long-row-requires
 write-long-row-requires c κs = search needs
@@ -77,10 +77,10 @@ returns-3 c =
     let s = q .args .store .now in
     let us = parts 32 (q .args .text .now) in
     let line : Listed = record { p = q .args .p; b = q .args .b; texts = parts 32 (q .args .text .now) } in
-    let same = longer-numbers (length t) (length s) t s (q .args .state) a h (q .args .m) (q .pre .2) (q .pre .1) line us in
+    let same = longer-numbers (length t) (length s) t s (q .args .progress) a h (q .args .m) (q .pre .2) (q .pre .1) line us in
     let all = ap someMissing (sym same) ∙ sym (n .numbers-met .ensures .0) ∙ e .if1 .left in
     rw (w .write-long-row .ensures, toZ-ofZ (q .fits .p), toZ-ofZ (q .fits .b))
-    (longer-added (length t) (length s) t s (q .args .state) a h (q .args .m) (q .pre .2) (q .pre .1) line us all (q .pre .4) (f .if2 .left) (n .numbers-met .result .words) (n .numbers-met .ensures .1 (e .if1 .left) ∙ ap (zeroed 5) same) (c .row-added .result) (c .row-added .ensures))
+    (longer-added (length t) (length s) t s (q .args .progress) a h (q .args .m) (q .pre .2) (q .pre .1) line us all (q .pre .4) (f .if2 .left) (n .numbers-met .result .words) (n .numbers-met .ensures .1 (e .if1 .left) ∙ ap (zeroed 5) same) (c .row-added .result) (c .row-added .ensures))
 
 pub longer-step-spec : {M : Type 1} → statement M
 longer-step-spec =

@@ -10,7 +10,7 @@ use mir.Facts.{toZ-ofZ}
 use borrow.Author.Needs.{needs, sfits-of}
 use Rattle.arpa_text.specs.Held.{Inside}
 use Rattle.arpa_lines.specs.declared.Stage.the-variants.{Section}
-use Rattle.arpa_lines.proofs.Fields.{row-refused, part-texts, part-text, row-longer, row-word}
+use Rattle.arpa_lines.proofs.Fields.{row-not-in-form, part-texts, part-text, row-longer, row-word}
 use Rattle.arpa_lines.proofs.row_step.Statement.{statement}
 use Rattle.arpa_lines.proofs.row_step.Tie as tie
 
@@ -34,7 +34,7 @@ returns c =
     let p = r .before .before .before in
     let t = p .args .table .now in
     let s = p .args .store .now in
-    rw (row-refused (p .args .m) (p .args .line .now) (r .read-row .result) (r .read-row .ensures .0) (length t) (length s) a (m .enum-told .given .1)) (c .refused .ensures, lit≤ tt, refl, refl)
+    rw (row-not-in-form (p .args .m) (p .args .line .now) (r .read-row .result) (r .read-row .ensures .0) (length t) (length s) a (m .enum-told .given .1)) (c .refused .ensures, lit≤ tt, refl, refl)
 
 -- where the words stand
 inside : (m : tie.After-p) → (m .p .given .0 .1 .1 .0 ≤ m .p .given .0 .1 .1 .1 .0) × (m .p .given .0 .1 .1 .1 .0 ≤ length (m .before .before .before .before .before .args .line .now))

@@ -16,7 +16,7 @@ closes-section-requires c κs = search needs
 inside : (p : tie.Start) → (1 ≤ p .args .m) × (p .args .m ≤ orderLimit)
 inside p =
     let h = p .pre .0 .1 in
-    let i = held-at (length (p .args .table .now)) (length (p .args .store .now)) (p .args .table .now) (p .args .store .now) (p .args .p) (p .pre .0 .0) h (Section (p .args .m)) (p .pre .1) in
+    let i = held-at (length (p .args .table .now)) (length (p .args .store .now)) (p .args .table .now) (p .args .store .now) (p .args .progress) (p .pre .0 .0) h (Section (p .args .m)) (p .pre .1) in
     let o = h .order in
     let l = i .1 in
     (i .0, omega arith)
@@ -33,7 +33,7 @@ returns c =
     let p = q .before .before .before in
     let t = p .args .table .now in
     let s = p .args .store .now in
-    let e = section-step (length t) (length s) t s (p .args .p) a h (p .args .m) (p .args .line .now) (q .closes-section .result) (q .closes-section .ensures) in
+    let e = section-step (length t) (length s) t s (p .args .progress) a h (p .args .m) (p .args .line .now) (q .closes-section .result) (q .closes-section .ensures) in
     rw (e, c .before .if1 .taken) (c .close-section .ensures a (length t) (length s) t s (p .pre .1) h)
 
 row-step-requires : tie.Need-row-step-requires
@@ -57,7 +57,7 @@ returns-2 c =
     let p = q .before .before .before in
     let t = p .args .table .now in
     let s = p .args .store .now in
-    let f = section-step (length t) (length s) t s (p .args .p) a h (p .args .m) (p .args .line .now) (q .closes-section .result) (q .closes-section .ensures) in
+    let f = section-step (length t) (length s) t s (p .args .progress) a h (p .args .m) (p .args .line .now) (q .closes-section .result) (q .closes-section .ensures) in
     rw (f, e .if1 .left) (r .row-step .ensures a h)
 
 pub section-step-spec : {M : Type 1} → statement M

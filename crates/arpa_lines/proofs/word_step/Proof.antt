@@ -20,7 +20,7 @@ use Rattle.arpa_lines.proofs.word_step.Tie as tie
 number-met-requires : tie.Need-number-met-requires
 number-met-requires c κs =
     let s = c .before .before .before .before in
-    (first-searchable (length (s .args .table .now)) (length (s .args .store .now)) (s .args .table .now) (s .args .store .now) (s .args .state) (s .pre .0 .0) (s .pre .0 .1) (s .pre .1), s .pre .2)
+    (first-searchable (length (s .args .table .now)) (length (s .args .store .now)) (s .args .table .now) (s .args .store .now) (s .args .progress) (s .pre .0 .0) (s .pre .0 .1) (s .pre .1), s .pre .2)
 
 number-given-requires : tie.Need-number-given-requires
 number-given-requires c κs = search needs
@@ -39,7 +39,7 @@ returns c =
     let g = c .before .before .before in
     let s = g .before .before .before .before .before .before in
     λ a h.
-    row-refused (length (s .args .table .now)) (length (s .args .store .now)) (s .args .table .now) (s .args .store .now) (s .args .state) a h (s .pre .1) (record { p = s .args .p; b = s .args .b; texts = s .args .text .now ∷ [] }) (s .args .text .now) (numberGiven (a .texts) (s .args .text .now)) (c .before .if1 .taken)
+    row-refused (length (s .args .table .now)) (length (s .args .store .now)) (s .args .table .now) (s .args .store .now) (s .args .progress) a h (s .pre .1) (record { p = s .args .p; b = s .args .b; texts = s .args .text .now ∷ [] }) (s .args .text .now) (numberGiven (a .texts) (s .args .text .now)) (c .before .if1 .taken)
     (c .refused .result) (c .refused .ensures)
 
 refused-requires-2 : tie.Need-refused-requires-2
@@ -56,9 +56,9 @@ returns-2 c =
     let g = c .before .before .before .before in
     let s = g .before .before .before .before .before .before in
     λ a h.
-    record-refused (length (s .args .table .now)) (length (s .args .store .now)) (s .args .table .now) (s .args .store .now) (s .args .state) a h (s .pre .1) (record { p = s .args .p; b = s .args .b; texts = s .args .text .now ∷ [] }) (s .args .text .now) (numberGiven (a .texts) (s .args .text .now))
+    record-refused (length (s .args .table .now)) (length (s .args .store .now)) (s .args .table .now) (s .args .store .now) (s .args .progress) a h (s .pre .1) (record { p = s .args .p; b = s .args .b; texts = s .args .text .now ∷ [] }) (s .args .text .now) (numberGiven (a .texts) (s .args .text .now))
     (subst (λ (k : ℕ). length (s .args .store .now) / 64 ≤ k)
-    (first-given (length (s .args .table .now)) (length (s .args .store .now)) (s .args .table .now) (s .args .store .now) (s .args .state) a h (s .pre .1) (s .args .text .now) (s .pre .2) (g .before .number-met .result) (g .number-given .result) (g .before .number-met .ensures) (g .number-given .ensures))
+    (first-given (length (s .args .table .now)) (length (s .args .store .now)) (s .args .table .now) (s .args .store .now) (s .args .progress) a h (s .pre .1) (s .args .text .now) (s .pre .2) (g .before .number-met .result) (g .number-given .result) (g .before .number-met .ensures) (g .number-given .ensures))
     (c .before .if2 .taken))
     (c .refused2 .result) (c .refused2 .ensures)
 
@@ -67,7 +67,7 @@ add-text-requires c κs =
     let i = c .before .before .before in
     let g = i .before .before .before in
     let s = g .before .before .before .before .before .before in
-    first-adding (length (s .args .table .now)) (length (s .args .store .now)) (s .args .table .now) (s .args .store .now) (s .args .state) (s .pre .0 .0) (s .pre .0 .1) (s .pre .1) (s .args .text .now) (s .pre .2) (g .before .number-met .result) (g .number-given .result)
+    first-adding (length (s .args .table .now)) (length (s .args .store .now)) (s .args .table .now) (s .args .store .now) (s .args .progress) (s .pre .0 .0) (s .pre .0 .1) (s .pre .1) (s .args .text .now) (s .pre .2) (g .before .number-met .result) (g .number-given .result)
     (g .before .number-met .ensures) (g .number-given .ensures) (c .before .before .if3 .taken) (i .if2 .left) (i .before .if1 .left)
 
 abbrev given : tie.Else2 → tie.After-number-given
@@ -78,7 +78,7 @@ start i = given i .before .before .before .before .before .before
 
 came : (j : tie.Joined3)
     → ((given (j .before) .before .number-met .result ≡ 0)
-    × TextAdded (start (j .before) .args .table .now) (j .if3 .table) (start (j .before) .args .store .now) (j .if3 .store) (start (j .before) .args .state .buckets) (start (j .before) .args .state .words) (given (j .before) .number-given .result) (start (j .before) .args .text .now))
+    × TextAdded (start (j .before) .args .table .now) (j .if3 .table) (start (j .before) .args .store .now) (j .if3 .store) (start (j .before) .args .progress .buckets) (start (j .before) .args .progress .words) (given (j .before) .number-given .result) (start (j .before) .args .text .now))
     ⊎ ((given (j .before) .before .number-met .result ≡ 0 → ⊥) × (j .if3 .table ≡ start (j .before) .args .table .now) × (j .if3 .store ≡ start (j .before) .args .store .now))
 came j = ⊎-elim (λ w. inl (w .0 .taken, rw (w .7, w .8) (w .3 .ensures))) (λ w. inr (w .0 .left, w .1, w .2)) (j .if3 .came)
 
@@ -86,7 +86,7 @@ long : (j : tie.Joined3) → (length (j .if3 .table) ≡ length (start (j .befor
 long j =
     let g = given (j .before) in
     let s = start (j .before) in
-    written-long (length (s .args .table .now)) (length (s .args .store .now)) (s .args .table .now) (s .args .store .now) (s .args .state) (s .pre .0 .0) (s .pre .0 .1) (s .pre .1) (s .args .text .now) (s .pre .2) (g .before .number-met .result) (g .number-given .result)
+    written-long (length (s .args .table .now)) (length (s .args .store .now)) (s .args .table .now) (s .args .store .now) (s .args .progress) (s .pre .0 .0) (s .pre .0 .1) (s .pre .1) (s .args .text .now) (s .pre .2) (g .before .number-met .result) (g .number-given .result)
     (g .before .number-met .ensures) (g .number-given .ensures) (j .before .if2 .left) (j .if3 .table) (j .if3 .store) (came j)
 
 write-word-row-requires : tie.Need-write-word-row-requires
@@ -101,13 +101,13 @@ row-added-requires c κs = search needs
 
 written : (w : tie.After-write-word-row)
     → w .write-word-row .last .0
-    ≡ wordRow (w .before .before .if3 .table) (start (w .before .before .before) .args .state .rows) (given (w .before .before .before) .number-given .result) (start (w .before .before .before) .args .p) (start (w .before .before .before) .args .b)
+    ≡ wordRow (w .before .before .if3 .table) (start (w .before .before .before) .args .progress .rows) (given (w .before .before .before) .number-given .result) (start (w .before .before .before) .args .p) (start (w .before .before .before) .args .b)
 written w =
     let j = w .before .before in
     let g = given (j .before) in
     let s = start (j .before) in
     w .write-word-row .ensures
-    ∙ ap₂ (λ (x y : ℤ). wordRow (j .if3 .table) (s .args .state .rows) (g .number-given .result) x y) (toZ-ofZ (s .fits .p)) (toZ-ofZ (s .fits .b))
+    ∙ ap₂ (λ (x y : ℤ). wordRow (j .if3 .table) (s .args .progress .rows) (g .number-given .result) x y) (toZ-ofZ (s .fits .p)) (toZ-ofZ (s .fits .b))
 
 same-length-5 : tie.Need-same-length-5
 same-length-5 c =
@@ -125,10 +125,10 @@ returns-3 c =
     let g = given (j .before) in
     let s = start (j .before) in
     λ a h.
-    word-step-held (length (s .args .table .now)) (length (s .args .store .now)) (s .args .table .now) (s .args .store .now) (s .args .state) a h (s .pre .1) (s .args .text .now) (s .pre .2) (g .before .number-met .result) (g .number-given .result)
+    word-step-held (length (s .args .table .now)) (length (s .args .store .now)) (s .args .table .now) (s .args .store .now) (s .args .progress) a h (s .pre .1) (s .args .text .now) (s .pre .2) (g .before .number-met .result) (g .number-given .result)
     (g .before .number-met .ensures) (g .number-given .ensures) (j .before .if2 .left) (j .if3 .table) (j .if3 .store) (came j) (j .before .before .if1 .left)
     (record { p = s .args .p; b = s .args .b; texts = s .args .text .now ∷ [] }) (w .write-word-row .last .0) (written w)
-    _ (rw (lt-ltb (g .number-given .result) (s .args .state .words) (c .before .if4 .taken)) refl) (c .row-added .result) (c .row-added .ensures)
+    _ (rw (lt-ltb (g .number-given .result) (s .args .progress .words) (c .before .if4 .taken)) refl) (c .row-added .result) (c .row-added .ensures)
 
 add-row-added : tie.Need-add-row-added
 add-row-added c = search needs
@@ -152,10 +152,10 @@ returns-4 c =
     let g = given (j .before) in
     let s = start (j .before) in
     λ a h.
-    word-step-held (length (s .args .table .now)) (length (s .args .store .now)) (s .args .table .now) (s .args .store .now) (s .args .state) a h (s .pre .1) (s .args .text .now) (s .pre .2) (g .before .number-met .result) (g .number-given .result)
+    word-step-held (length (s .args .table .now)) (length (s .args .store .now)) (s .args .table .now) (s .args .store .now) (s .args .progress) a h (s .pre .1) (s .args .text .now) (s .pre .2) (g .before .number-met .result) (g .number-given .result)
     (g .before .number-met .ensures) (g .number-given .ensures) (j .before .if2 .left) (j .if3 .table) (j .if3 .store) (came j) (j .before .before .if1 .left)
     (record { p = s .args .p; b = s .args .b; texts = s .args .text .now ∷ [] }) (w .write-word-row .last .0) (written w)
-    _ (rw (le-ltb (g .number-given .result) (s .args .state .words) (c .before .if4 .left)) refl) (c .row-added2 .result) (c .row-added2 .ensures)
+    _ (rw (le-ltb (g .number-given .result) (s .args .progress .words) (c .before .if4 .left)) refl) (c .row-added2 .result) (c .row-added2 .ensures)
 
 pub word-step-spec : {M : Type 1} → statement M
 word-step-spec =

@@ -5,7 +5,7 @@ use native.Mathlib.Numerals.{add-one}
 use native.Mathlib.Omega.{arith}
 use lib.ListN.{length, drop-of-length-le}
 use lib.Seq.{drop-cons}
-use Rattle.totals_text.proofs.Scans.{rest-is}
+use borrow.Rule.Slice.PartAt.{part-to-end}
 use Rattle.arpa_text.specs.Logs.{readPoints}
 use Rattle.arpa_text.specs.Held.{backoffBehind}
 use borrow.Author.Needs.{needs}
@@ -41,7 +41,7 @@ returns-2 c =
     let s = c .before .before .before .before in
     let n = c .before .before .if1 .left in
     let h : s .args .to < length (s .args .line .now) = omega (arith, s .pre) in
-    c .read-points .ensures ∙ ap readPoints (rest-is (s .args .line .now) (s .args .to + 1))
+    c .read-points .ensures ∙ ap readPoints (part-to-end (s .args .line .now) (s .args .to + 1))
     ∙ rw (drop-cons (s .args .line .now) (s .args .to) 0 h, add-one (s .args .to)) refl
 
 pub read-backoff-spec : {M : Type 1} → statement M

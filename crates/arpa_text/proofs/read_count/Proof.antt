@@ -7,7 +7,7 @@ use native.Mathlib.Omega.{arith}
 use borrow.Author.Tests.{not-true, not-false}
 use lib.ListN.{take, drop}
 use lib.Seq.{length-take-le, drop-drop}
-use Rattle.totals_text.proofs.Scans.{rest-is}
+use borrow.Rule.Slice.PartAt.{part-to-end}
 use Rattle.arpa_text.specs.declared.Count.the-variants.{NotInForm}
 use Rattle.arpa_text.specs.Lines.{isCountHead, withoutSpace, countIn, countBetween, readCount}
 use Rattle.arpa_text.proofs.Parts.{parts-end, parts-front}
@@ -90,11 +90,11 @@ returns-3 c =
     let h = s .before .before in
     let b = h .before .before .before in
     let f = b .before in
-    let r = rest-is (line f) (equals f + 1) in
+    let r = part-to-end (line f) (equals f + 1) in
     let e = s .behind-space .result in
     let behind : drop (equals f + 1 + e) (line f) ≡ withoutSpace (drop (equals f + 1) (line f)) =
     sym (drop-drop e (equals f + 1) (line f)) ∙ (rw r at (s .behind-space .ensures .0)) in
-    c .read-digits .ensures ∙ ap countIn (rest-is (line f) (equals f + 1 + e) ∙ behind)
+    c .read-digits .ensures ∙ ap countIn (part-to-end (line f) (equals f + 1 + e) ∙ behind)
     ∙ sym (fields b ∙ rw (sym (h .before .is-count-head .ensures) ∙ not-false _ (h .if2 .left)) refl)
 
 pub read-count-spec : {M : Type 1} → statement M

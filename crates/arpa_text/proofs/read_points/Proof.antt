@@ -12,8 +12,8 @@ use lib.ListN.{length, getD, drop}
 use mir.Syntax.{w32}
 use mir.Val.{SFits, toZ, ofZ}
 use mir.Facts.{toZ-ofZ}
+use borrow.Rule.Slice.PartAt.{part-to-end}
 use Rattle.integer.proofs.Arithmetic.{zarith}
-use Rattle.totals_text.proofs.Scans.{rest-is}
 use Rattle.arpa_text.specs.declared.Points.the-variants.{Of}
 use Rattle.arpa_text.specs.declared.Size.{Size}
 use Rattle.arpa_text.specs.Parts.{parts}
@@ -71,7 +71,7 @@ signed : (c : tie.After-read-size) → let j = c .before .before .before in read
 signed c =
     let j = c .before .before .before in
     let e : sizeRead (c .read-size .result) ≡ unsigned (parts 46 (drop (cond (minus j) 1 0) (text j))) =
-    c .read-size .ensures .0 ∙ ap (λ (l : List ℕ). unsigned (parts 46 l)) (rest-is (text j) (j .if2 .start) ∙ ap (λ (n : ℕ). drop n (text j)) (started j)) in
+    c .read-size .ensures .0 ∙ ap (λ (l : List ℕ). unsigned (parts 46 l)) (part-to-end (text j) (j .if2 .start) ∙ ap (λ (n : ℕ). drop n (text j)) (started j)) in
     points-signed (text j) (j .before .before .if1 .left) ∙ ap (withSign (minus j)) (sym e)
 
 returns-2 : tie.Need-returns-2

@@ -10,7 +10,6 @@ use lib.Seq.{length-take-le, drop-drop}
 use mir.Syntax.{w32}
 use mir.Val.{SFits}
 use mir.Facts.{toZ-ofZ}
-use Rattle.totals_text.proofs.Scans.{rest-is}
 use Rattle.arpa_text.specs.declared.Points.the-variants.{Of, NotInForm}
 use Rattle.arpa_text.specs.Parts.{parts, before}
 use Rattle.arpa_text.specs.Logs.{readPoints}
@@ -35,14 +34,14 @@ tab f = f .find-byte .result
 abbrev rest : tie.After-find-byte → List ℕ
 rest f = drop (tab f + 1) (line f)
 
-abbrev order : tie.After-find-byte → ℕ
-order f = f .before .before .args .m
+abbrev length-of : tie.After-find-byte → ℕ
+length-of f = f .before .before .args .m
 
 returns : tie.Need-returns
 unfolding readRow
 returns c =
     let f = c .before in
-    (sym (no-row (order f) (line f) (sym (f .find-byte .ensures .0) ∙ c .if1 .taken)), tt)
+    (sym (no-row (length-of f) (line f) (sym (f .find-byte .ensures .0) ∙ c .if1 .taken)), tt)
 
 slice-aggregate-read-points : tie.Need-slice-aggregate-read-points
 slice-aggregate-read-points c = sym (length-take-le _ _ (search needs))
@@ -58,13 +57,13 @@ enum-told c = search needs
 
 -- the line by its fields, where the words end at place k behind the first tab
 fields : (c : tie.Else1) (k : ℕ) → let f = c .before in k ≡ before 9 (rest f) → k ≤ length (rest f)
-    → readRow (order f) (line f) ≡ listedWith (order f) (readPoints (take (tab f) (line f))) (parts 32 (take k (rest f))) (backoffBehind (drop k (rest f)))
+    → readRow (length-of f) (line f) ≡ listedWith (length-of f) (readPoints (take (tab f) (line f))) (parts 32 (take k (rest f))) (backoffBehind (drop k (rest f)))
 unfolding readRow
 fields c k e h =
     let f = c .before in
     let n = c .if1 .left in
     let w = f .find-byte .ensures in
-    ap (listedIn (order f)) (parts-front 9 (line f) (tab f) (w .0) (omega arith)) ∙ row-fields (order f) (take (tab f) (line f)) (rest f) k e h
+    ap (listedIn (length-of f)) (parts-front 9 (line f) (tab f) (w .0) (omega arith)) ∙ row-fields (length-of f) (take (tab f) (line f)) (rest f) k e h
 
 returns-2 : tie.Need-returns-2
 returns-2 c =
@@ -78,20 +77,8 @@ returns-2 c =
 add-from : tie.Need-add-from
 add-from c = search needs
 
-sub-find-byte : tie.Need-sub-find-byte
-sub-find-byte c = search needs
-
-part-find-byte-start : tie.Need-part-find-byte-start
-part-find-byte-start c = search needs
-
-part-find-byte-end : tie.Need-part-find-byte-end
-part-find-byte-end c = search needs
-
-find-byte-requires-2 : tie.Need-find-byte-requires-2
-find-byte-requires-2 c κs = search needs
-
-add-to : tie.Need-add-to
-add-to c = search needs
+part-end-requires : tie.Need-part-end-requires
+part-end-requires c κs = search needs
 
 read-backoff-requires : tie.Need-read-backoff-requires
 read-backoff-requires c κs = search needs
@@ -102,32 +89,39 @@ enum-known-b c = search needs
 enum-told-2 : tie.Need-enum-told-2
 enum-told-2 c = search needs
 
-abbrev start : tie.After-find-byte2 → tie.Else1
-start q = q .before .before .before .before .before .before .before
+abbrev start : tie.After-part-end → tie.Else1
+start q = q .before .before .before .before .before .before
 
-abbrev words : tie.After-find-byte2 → List ℕ
-words q = take (q .find-byte2 .result) (rest (start q .before))
+-- how long the words are together
+abbrev size : tie.After-part-end → ℕ
+size q = q .part-end .result - (tab (start q .before) + 1)
+
+abbrev words : tie.After-part-end → List ℕ
+words q = take (size q) (rest (start q .before))
 
 -- what the line says once its first log is read
 read : (c : tie.After-read-backoff) → let q = c .before in let f = start q .before in
-    readRow (order f) (line f) ≡ listedWith (order f) (Of (q .before .before .before .p .given .0 .0)) (parts 32 (words q)) (c .read-backoff .result)
+    readRow (length-of f) (line f) ≡ listedWith (length-of f) (Of (q .before .before .p .given .0 .0)) (parts 32 (words q)) (c .read-backoff .result)
 read c =
     let q = c .before in
     let b = start q in
     let f = b .before in
-    let k = q .find-byte2 .result in
-    let r = rest-is (line f) (tab f + 1) in
-    let p : readPoints (take (tab f) (line f)) ≡ Of (q .before .before .before .p .given .0 .0) =
-    sym (q .before .before .before .before .before .read-points .ensures) ∙ q .before .before .before .p .given .1 in
-    let g : backoffBehind (drop k (rest f)) ≡ c .read-backoff .result = ap backoffBehind (drop-drop k (tab f + 1) (line f)) ∙ sym (c .read-backoff .ensures) in
-    fields b k (q .find-byte2 .ensures .0 ∙ ap (before 9) r) (rw r at (q .find-byte2 .ensures .1)) ∙ rw (p, g) refl
+    let e = q .part-end .ensures .0 in
+    let w = q .part-end .ensures .1 in
+    let d = length-drop (tab f + 1) (line f) in
+    let to : tab f + 1 + size q ≡ q .part-end .result = omega arith in
+    let p : readPoints (take (tab f) (line f)) ≡ Of (q .before .before .p .given .0 .0) =
+    sym (q .before .before .before .before .read-points .ensures) ∙ q .before .before .p .given .1 in
+    let g : backoffBehind (drop (size q) (rest f)) ≡ c .read-backoff .result =
+    ap backoffBehind (drop-drop (size q) (tab f + 1) (line f) ∙ ap (λ (i : ℕ). drop i (line f)) to) ∙ sym (c .read-backoff .ensures) in
+    fields b (size q) (omega arith) (omega arith) ∙ rw (p, g) refl
 
 returns-3 : tie.Need-returns-3
 returns-3 c =
     let a = c .before .before in
     let q = a .before in
-    let m = order (start q .before) in
-    let p = Of (q .before .before .before .p .given .0 .0) in
+    let m = length-of (start q .before) in
+    let p = Of (q .before .before .p .given .0 .0) in
     (sym (read a ∙ ap (listedWith m p (parts 32 (words q))) (c .enum-told2 .given .1) ∙ no-backoff m p (parts 32 (words q))), tt)
 
 sub-are-texts : tie.Need-sub-are-texts
@@ -145,44 +139,23 @@ are-texts-requires c κs = search needs
 abbrev backoff-read : tie.After-known-told2 → tie.After-read-backoff
 backoff-read c = c .before .before .before
 
--- the words, as the code cuts them out
-cut : (c : tie.After-known-told2) → let q = backoff-read c .before in let f = start q .before in
-    take (tab f + 1 + q .find-byte2 .result - (tab f + 1)) (rest f) ≡ words q
-cut c =
-    let q = backoff-read c .before in
-    let f = start q .before in
-    let e : tab f + 1 + q .find-byte2 .result - (tab f + 1) ≡ q .find-byte2 .result = omega arith in
-    rw e refl
-
 -- what it says once both are read
 both : (c : tie.After-known-told2) → let q = backoff-read c .before in let f = start q .before in
-    readRow (order f) (line f)
-    ≡ listedWith (order f) (Of (q .before .before .before .p .given .0 .0)) (parts 32 (words q)) (Of (c .before .b .given .0 .0))
+    readRow (length-of f) (line f)
+    ≡ listedWith (length-of f) (Of (q .before .before .p .given .0 .0)) (parts 32 (words q)) (Of (c .before .b .given .0 .0))
 both c =
     let a = backoff-read c in
     let q = a .before in
-    read a ∙ ap (listedWith (order (start q .before)) (Of (q .before .before .before .p .given .0 .0)) (parts 32 (words q))) (c .before .b .given .1)
+    read a ∙ ap (listedWith (length-of (start q .before)) (Of (q .before .before .p .given .0 .0)) (parts 32 (words q))) (c .before .b .given .1)
 
 tested : (c : tie.After-are-texts) (t : Bool) → c .are-texts .result ≡ t → let q = backoff-read (c .before .before) .before in
-    areTexts (order (start q .before)) (parts 32 (words q)) ≡ t
-tested c t e =
-    let k = c .before .before in
-    let m = order (start (backoff-read k .before) .before) in
-    ap (λ (l : List ℕ). areTexts m (parts 32 l)) (sym (cut k)) ∙ sym (c .are-texts .ensures) ∙ e
+    areTexts (length-of (start q .before)) (parts 32 (words q)) ≡ t
+tested c t e = sym (c .are-texts .ensures) ∙ e
 
 returns-4 : tie.Need-returns-4
 returns-4 c =
     let a = c .before in
     (sym (both (a .before .before) ∙ rw (tested a false (not-true _ (c .if2 .taken))) refl), tt)
-
--- the words end within the line
-ends : (q : tie.After-find-byte2) → let f = start q .before in tab f + 1 + q .find-byte2 .result ≤ length (line f)
-ends q =
-    let f = start q .before in
-    let n = start q .if1 .left in
-    let h = f .find-byte .ensures .1 in
-    let k = rw (rest-is (line f) (tab f + 1)) at (q .find-byte2 .ensures .1) in
-    omega (arith, length-drop (tab f + 1) (line f))
 
 p-fits : (c : tie.After-known-told) → SFits w32 (c .before .p .given .0 .0)
 p-fits c = sfits-of (c .known-told .given .0 .1)
@@ -194,10 +167,11 @@ returns-5 : tie.Need-returns-5
 returns-5 c =
     let a = c .before in
     let k = a .before .before in
-    let q = backoff-read k .before in (
-      rw (toZ-ofZ (p-fits (q .before .before)), toZ-ofZ (b-fits k), cut k)
+    let q = backoff-read k .before in
+    let e = q .part-end .ensures .0 in (
+      rw (toZ-ofZ (p-fits (q .before)), toZ-ofZ (b-fits k))
           (sym (both k ∙ rw (tested a true (not-false _ (c .if2 .left))) refl)),
-      (omega arith, ends q),
+      (omega arith, q .part-end .ensures .1),
     )
 
 pub read-row-spec : {M : Type 1} → statement M
@@ -212,11 +186,7 @@ read-row-spec =
     enum-told
     returns-2
     add-from
-    sub-find-byte
-    part-find-byte-start
-    part-find-byte-end
-    find-byte-requires-2
-    add-to
+    part-end-requires
     read-backoff-requires
     enum-known-b
     enum-told-2

@@ -9,8 +9,8 @@ use native.Mathlib.Omega.{arith}
 use borrow.Author.Tests.{not-true, not-false}
 use lib.ListN.{length, take, drop}
 use lib.Seq.{length-take-le}
+use borrow.Rule.Slice.PartAt.{part-to-end}
 use Rattle.totals_text.specs.Columns.{valueFrom}
-use Rattle.totals_text.proofs.Scans.{rest-is}
 use Rattle.arpa_text.specs.Parts.{parts}
 use Rattle.arpa_text.specs.Logs.{digitsUpTo, decimals, fraction, unsigned}
 use Rattle.arpa_text.proofs.Logs.{at-most, all-digits, unsigned-no-whole, unsigned-whole, unsigned-both}
@@ -106,7 +106,7 @@ returns-3 c =
     let b = c .before .before .before in
     let f = b .before .before .before .before .before .before in
     let e : digitsUpTo decimals (drop (place f + 1) (text f)) ≡ false =
-    ap (digitsUpTo decimals) (sym (rest-is (text f) (place f + 1))) ∙ sym (c .before .digits-up-to2 .ensures) ∙ not-true _ (c .if3 .taken) in
+    ap (digitsUpTo decimals) (sym (part-to-end (text f) (place f + 1))) ∙ sym (c .before .digits-up-to2 .ensures) ∙ not-true _ (c .if3 .taken) in
     (sym (both b ∙ rw e refl), search needs)
 
 sub-read-fraction : tie.Need-sub-read-fraction
@@ -134,7 +134,7 @@ returns-4 c =
     let b = d .before .before .before in
     let v = b .before in
     let f = v .before .before .before .before .before in
-    let r = rest-is (text f) (place f + 1) in
+    let r = part-to-end (text f) (place f + 1) in
     let e : digitsUpTo decimals (drop (place f + 1) (text f)) ≡ true = ap (digitsUpTo decimals) (sym r) ∙ behind d in
     let w = v .value .ensures .0 in
     let g : c .read-fraction .result ≡ fraction (drop (place f + 1) (text f)) = c .read-fraction .ensures .0 ∙ ap fraction r in

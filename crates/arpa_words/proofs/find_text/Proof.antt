@@ -13,7 +13,7 @@ returns c =
 scan-words-requires : tie.Need-scan-words-requires
 scan-words-requires c κs =
     let s = c .before .before .before .before in
-    (s .pre .room (c .before .if1 .left), s .pre .met)
+    (s .pre .room (c .before .if1 .left), s .pre .short)
 
 returns-2 : tie.Need-returns-2
 returns-2 c = search needs

@@ -1,8 +1,8 @@
 -- `arpa_words::numbers_met` meets its contract: the words before place `at` have their numbers. Assumes nothing.
 use mathlib.Core.Path.{sym}
 use mathlib.Core.Bool.{true≢false}
-use Prim.Native.Nat.{_+_, _-_, _≤_}
-use lib.ListN.{length, drop, length-take, length-drop}
+use Prim.Native.Nat.{_-_}
+use lib.ListN.{length-drop}
 use native.Mathlib.Omega.{arith}
 use borrow.Author.Needs.{needs}
 use Rattle.word_index.specs.Texts.{textsFrom}
@@ -20,69 +20,44 @@ abbrev μ-loop : tie.MeasureT-loop
 loop-holds : tie.Need-loop-holds Inv-loop μ-loop
 loop-holds c = let s = c .before .before in numbered-start (numberMet (textsFrom (s .args .store .now) 1 (s .args .words - 1))) (s .args .text .now) (s .args .m) (s .pre .1)
 
-inside : (c : tie.In-loop Inv-loop μ-loop) → c .before .loop .at ≤ length (c .before .before .before .before .args .text .now)
-inside c = c .before .loop .inv .place (c .loop-test .taken)
-
-end-inside : (c : tie.After-find-byte Inv-loop μ-loop) → c .before .before .before .loop .at + c .find-byte .result ≤ length (c .before .before .before .before .before .before .args .text .now)
-end-inside c =
-    let l = c .before .before .before in
-    let text = l .before .before .before .args .text .now in
-    let p = inside (c .before .before) in
-    let e = c .find-byte .ensures .1 in
-    let f = length-take (length text - l .loop .at) (drop (l .loop .at) text) in
-    let g = length-drop (l .loop .at) text in
-    omega arith
-
-sub-find-byte : tie.Need-sub-find-byte Inv-loop μ-loop
-sub-find-byte c = inside c
-
-part-find-byte-start : tie.Need-part-find-byte-start Inv-loop μ-loop
-part-find-byte-start c = inside c
-
-part-find-byte-end : tie.Need-part-find-byte-end Inv-loop μ-loop
-part-find-byte-end c = search needs
-
-find-byte-requires : tie.Need-find-byte-requires Inv-loop μ-loop
-find-byte-requires c κs = search needs
-
-add-end : tie.Need-add-end Inv-loop μ-loop
-add-end c = let p = end-inside c in search needs
+part-end-requires : tie.Need-part-end-requires Inv-loop μ-loop
+part-end-requires c κs = c .before .loop .inv .place (c .loop-test .taken)
 
 sub-number-met : tie.Need-sub-number-met Inv-loop μ-loop
-sub-number-met c = search needs
+sub-number-met c = let e = c .part-end .ensures .0 in omega arith
 
 part-number-met-start : tie.Need-part-number-met-start Inv-loop μ-loop
-part-number-met-start c = search needs
+part-number-met-start c = let e = c .part-end .ensures .0 in omega arith
 
 part-number-met-end : tie.Need-part-number-met-end Inv-loop μ-loop
 part-number-met-end c =
-    let l = c .before .before .before in
+    let l = c .before .before in
     let text = l .before .before .before .args .text .now in
-    let p = end-inside c in
+    let w = c .part-end .ensures .1 in
     let g = length-drop (l .loop .at) text in
     omega arith
 
 number-met-requires : tie.Need-number-met-requires Inv-loop μ-loop
 number-met-requires c κs =
     let f = c .before in
-    let i = f .before .before in
+    let i = f .before in
     let l = i .before in
     let s = l .before .before .before in (
       s .pre .0,
       numbered-text-in-form (numberMet (textsFrom (s .args .store .now) 1 (s .args .words - 1))) (s .args .text .now) (s .args .m) (s .pre .1) (l .loop .numbers) (l .loop .at) (l .loop .j) (l .loop .inv)
-          (i .loop-test .taken) (f .find-byte .result) (f .find-byte .ensures .0),
+          (i .loop-test .taken) (f .part-end .result) (f .part-end .ensures .0),
     )
 
 returns : tie.Need-returns Inv-loop μ-loop
 returns c =
     let w = c .before in
     let f = w .before .before in
-    let i = f .before .before in
+    let i = f .before in
     let l = i .before in
     let s = l .before .before .before in (
       sym
           (numbered-missing (numberMet (textsFrom (s .args .store .now) 1 (s .args .words - 1))) (s .args .text .now) (s .args .m) (s .pre .1) (l .loop .numbers) (l .loop .at) (l .loop .j) (l .loop .inv)
-          (i .loop-test .taken) (f .find-byte .result) (w .number-met .result) (f .find-byte .ensures .0) (w .number-met .ensures) (c .if1 .taken)),
+          (i .loop-test .taken) (f .part-end .result) (f .part-end .ensures .0) (w .number-met .result) (w .number-met .ensures) (c .if1 .taken)),
       λ e. absurd (true≢false e),
     )
 
@@ -91,13 +66,13 @@ mul-numbers c = search needs
 
 array-write-numbers : tie.Need-array-write-numbers Inv-loop μ-loop
 array-write-numbers c =
-    let i = c .before .before .before .before .before in
+    let i = c .before .before .before .before in
     let few = i .before .before .before .before .pre .2 in
     let l = i .loop-test .taken in
     omega arith
 
 add-at : tie.Need-add-at Inv-loop μ-loop
-add-at c = let p = end-inside (c .before .before .before) in search needs
+add-at c = search needs
 
 add-j : tie.Need-add-j Inv-loop μ-loop
 add-j c = search needs
@@ -109,11 +84,11 @@ loop-again : tie.Need-loop-again Inv-loop μ-loop
 loop-again c =
     let w = c .before in
     let f = w .before .before in
-    let i = f .before .before in
+    let i = f .before in
     let l = i .before in
     let s = l .before .before .before in
     numbered-next (numberMet (textsFrom (s .args .store .now) 1 (s .args .words - 1))) (s .args .text .now) (s .args .m) (s .pre .1) (l .loop .numbers) (l .loop .at) (l .loop .j) (l .loop .inv)
-    (i .loop-test .taken) (s .pre .2) (f .find-byte .result) (w .number-met .result) (f .find-byte .ensures .0) (w .number-met .ensures) (c .if1 .left)
+    (i .loop-test .taken) (f .part-end .result) (f .part-end .ensures .0) (w .number-met .result) (w .number-met .ensures) (s .pre .2) (c .if1 .left)
 
 returns-2 : tie.Need-returns-2 Inv-loop μ-loop
 returns-2 c =
@@ -129,11 +104,7 @@ numbers-met-spec =
     Inv-loop
     μ-loop
     loop-holds
-    sub-find-byte
-    part-find-byte-start
-    part-find-byte-end
-    find-byte-requires
-    add-end
+    part-end-requires
     sub-number-met
     part-number-met-start
     part-number-met-end

@@ -23,7 +23,7 @@ same-text-requires c κs =
     let s = l .before .before .before in
     let a = l .loop .inv .0 in
     let room = s .pre .0 in
-    (omega arith, s .pre .1 .short (l .loop .k) a (c .loop-test .taken))
+    (omega arith, s .pre .1 (l .loop .k) a (c .loop-test .taken))
 
 returns : tie.Need-returns Inv-loop μ-loop
 returns c =

@@ -45,10 +45,10 @@ score-sheet-requires c κs =
     none-met (array s) (s .args .ends .now) (asked s) (k .early-refusal .result) (k .early-refusal .ensures) (t .if1 .left)
 
 same-length : tie.Need-same-length
-same-length c = search needs
+same-length c = c .before .before .before .score-sheet .kept .1 .1 .1 .1 .0
 
 same-length-2 : tie.Need-same-length-2
-same-length-2 c = search needs
+same-length-2 c = c .before .before .before .score-sheet .kept .1 .1 .1 .1 .1 .0
 
 returns-2 : tie.Need-returns-2
 returns-2 c =

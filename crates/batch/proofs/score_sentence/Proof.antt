@@ -53,10 +53,10 @@ run-passed-requires c κs =
     (s .pre .0, (begun-ok (s .args .base .now) (s .args .check .now) (s .pre .0) (startedOf (s .args .started)) (s .pre .1 .0) (c .before .before .before .if1 .left), (s .pre .1 .1 .0, (s .pre .1 .1 .1 .0, s .pre .1 .1 .1 .1))))
 
 same-length : tie.Need-same-length
-same-length c = search needs
+same-length c = c .before .before .before .before .before .run-passed .kept .1 .1 .1 .1 .0
 
 same-length-2 : tie.Need-same-length-2
-same-length-2 c = search needs
+same-length-2 c = c .before .before .before .before .before .run-passed .kept .1 .1 .1 .1 .1 .0
 
 returns-2 : tie.Need-returns-2
 returns-2 c =
@@ -77,10 +77,10 @@ enum-told : tie.Need-enum-told
 enum-told c = search needs
 
 same-length-3 : tie.Need-same-length-3
-same-length-3 c = search needs
+same-length-3 c = ran (c .before .before) .run-passed .kept .1 .1 .1 .1 .0
 
 same-length-4 : tie.Need-same-length-4
-same-length-4 c = search needs
+same-length-4 c = ran (c .before .before) .run-passed .kept .1 .1 .1 .1 .1 .0
 
 returns-3 : tie.Need-returns-3
 returns-3 c =
@@ -95,10 +95,10 @@ add-t18 c =
     two-fit (ran d .run-passed .result .total) (c .before .before .before .total .given .0 .0) (words-total (ran d)) (closing-total (c .before .before .before))
 
 same-length-5 : tie.Need-same-length-5
-same-length-5 c = search needs
+same-length-5 c = ran (c .before .before .before .before .before) .run-passed .kept .1 .1 .1 .1 .0
 
 same-length-6 : tie.Need-same-length-6
-same-length-6 c = search needs
+same-length-6 c = ran (c .before .before .before .before .before) .run-passed .kept .1 .1 .1 .1 .1 .0
 
 returns-4 : tie.Need-returns-4
 returns-4 c =

@@ -64,34 +64,34 @@ mul-score-sentence : tie.Need-mul-score-sentence Inv-loop μ-loop
 mul-score-sentence c = omega (arith, within c)
 
 sub-score-sentence : tie.Need-sub-score-sentence Inv-loop μ-loop
-sub-score-sentence c = omega (arith, within c)
+sub-score-sentence c = within c .below
 
 part-score-sentence-start : tie.Need-part-score-sentence-start Inv-loop μ-loop
-part-score-sentence-start c = omega (arith, within c)
+part-score-sentence-start c = within c .below
 
 part-score-sentence-end : tie.Need-part-score-sentence-end Inv-loop μ-loop
-part-score-sentence-end c = omega (arith, within c)
+part-score-sentence-end c = within c .in-words
 
 mul-score-sentence-2 : tie.Need-mul-score-sentence-2 Inv-loop μ-loop
 mul-score-sentence-2 c = omega (arith, within (c .before))
 
 sub-score-sentence-2 : tie.Need-sub-score-sentence-2 Inv-loop μ-loop
-sub-score-sentence-2 c = omega (arith, within (c .before))
+sub-score-sentence-2 c = within (c .before) .below
 
 part-score-sentence-start-2 : tie.Need-part-score-sentence-start-2 Inv-loop μ-loop
-part-score-sentence-start-2 c = omega (arith, within (c .before))
+part-score-sentence-start-2 c = within (c .before) .below
 
 part-score-sentence-end-2 : tie.Need-part-score-sentence-end-2 Inv-loop μ-loop
-part-score-sentence-end-2 c = omega (arith, within (c .before))
+part-score-sentence-end-2 c = within (c .before) .in-points
 
 sub-score-sentence-3 : tie.Need-sub-score-sentence-3 Inv-loop μ-loop
-sub-score-sentence-3 c = omega (arith, within (c .before .before))
+sub-score-sentence-3 c = within (c .before .before) .below
 
 part-score-sentence-start-3 : tie.Need-part-score-sentence-start-3 Inv-loop μ-loop
-part-score-sentence-start-3 c = omega (arith, within (c .before .before))
+part-score-sentence-start-3 c = within (c .before .before) .below
 
 part-score-sentence-end-3 : tie.Need-part-score-sentence-end-3 Inv-loop μ-loop
-part-score-sentence-end-3 c = omega (arith, within (c .before .before))
+part-score-sentence-end-3 c = within (c .before .before) .in-lengths
 
 score-sentence-requires : tie.Need-score-sentence-requires Inv-loop μ-loop
 score-sentence-requires c κs =

@@ -1,5 +1,5 @@
 -- `batch::score_sheet` meets its contract. Assumes nothing.
-use mathlib.Core.Path.{_≡_, subst}
+use mathlib.Core.Path.{_≡_, subst, _∙_}
 use mathlib.Core.List.{List, []}
 use mathlib.Core.Option.{Option}
 use Prim.Native.Nat.{ℕ, _≤_}
@@ -15,7 +15,7 @@ use Rattle.double_array.specs.DoubleArray.{opened}
 use Rattle.batch.specs.declared.Scored.{Scored}
 use Rattle.batch.specs.Sheet.{sentences, lastEnd, wordBytes, closingBytes}
 use Rattle.batch.specs.Inner.{AllScored, OneRefused, ScoredAs}
-use Rattle.batch.proofs.Counts.{tallied-none, tallied-small}
+use Rattle.batch.proofs.Counters.{tallied-none, tallied-small}
 use Rattle.batch.proofs.Sentences.{sentences-long}
 use Rattle.batch.proofs.Calls.{closing-long, bytes-long}
 use Rattle.batch.proofs.Outcome.{Passed, passed, last-within, lengths-reach, all-outcome, refused-outcome}
@@ -104,10 +104,10 @@ broken-sheet-requires c κs =
     ((u .few, p .few-ends), (omega (arith, u .points-long, p .points-reach), omega (arith, u .lengths-long, p .lengths-reach)))
 
 same-length : tie.Need-same-length
-same-length c = search needs
+same-length c = scoredFrom (c .before .before .before) .score-sentences .kept .1 .1 .1 .1 .1 .0
 
 same-length-2 : tie.Need-same-length-2
-same-length-2 c = search needs
+same-length-2 c = scoredFrom (c .before .before .before) .score-sentences .kept .1 .1 .1 .1 .1 .1 .0
 
 returns : tie.Need-returns
 returns c =
@@ -120,10 +120,10 @@ returns c =
     (c .full-sheet .ensures (closingBytes (array s) (sentences 0 (ends s) (asked s))) (u .tallied))
 
 same-length-3 : tie.Need-same-length-3
-same-length-3 c = search needs
+same-length-3 c = c .before .before .before .broken-sheet .kept .1 .0 ∙ refusedFrom (c .before .before .before .before .before .before .before) .score-sentences .kept .1 .1 .1 .1 .1 .0
 
 same-length-4 : tie.Need-same-length-4
-same-length-4 c = search needs
+same-length-4 c = c .before .before .before .broken-sheet .kept .1 .1 .0 ∙ refusedFrom (c .before .before .before .before .before .before .before) .score-sentences .kept .1 .1 .1 .1 .1 .1 .0
 
 returns-2 : tie.Need-returns-2
 returns-2 c =

@@ -1,6 +1,6 @@
 -- `carried_state::part_ok` meets its contract. The loop's invariant: what is left of the check is that of the items from the i-th on. Assumes nothing.
-use mathlib.Core.Path.{_≡_, sym, ap₂, _∙_}
-use mathlib.Core.Bool.{Bool, _&&_}
+use mathlib.Core.Path.{_≡_, refl, sym, ap₂, _∙_}
+use mathlib.Core.Bool.{Bool, true, false, _&&_}
 use mathlib.Core.Logic.{⊎-elim}
 use Prim.Native.Nat.{_+_, _-_, _≤_}
 use native.Mathlib.Nat.{sub-zero}
@@ -12,10 +12,10 @@ use lib.IntN.{ℤ, pos}
 use mir.Syntax.{w32}
 use mir.Val.{toZ, ofZ, SFits}
 use mir.Facts.{toZ-ofZ, sfits-lit}
-use Rattle.integer.specs.Integer.{between}
-use Rattle.integer.proofs.Arithmetic.{bits-test}
+use Rattle.integer.specs.Integer.{eqZ, between}
+use Rattle.integer.proofs.Arithmetic.{zarith, bits-test}
 use Rattle.carried_state.specs.Packed.{partOk}
-use Rattle.carried_state.proofs.Parts.{eqZ-sym, part-on, part-done}
+use Rattle.carried_state.proofs.Parts.{part-on, part-done}
 use Rattle.carried_state.proofs.part_ok.Statement.{statement}
 use Rattle.carried_state.proofs.part_ok.Tie as tie
 
@@ -43,6 +43,13 @@ range s = between (toZ w32 (ofZ w32 (s .args .low))) (toZ w32 (ofZ w32 (s .args 
 
 range-is : (s : tie.Start Inv-loop μ-loop) → range s ≡ between (s .args .low) (s .args .high)
 range-is s = ap₂ (λ (l h : ℤ). between l h) (toZ-ofZ (s .fits .low)) (toZ-ofZ (s .fits .high))
+
+eqZ-sym : (a b : ℤ) → eqZ a b ≡ eqZ b a
+eqZ-sym a b = go (eqZ b a) refl
+  where
+    go : (t : Bool) → eqZ b a ≡ t → eqZ a b ≡ t
+    go true e = omega zarith
+    go false e = omega zarith
 
 -- the check goes on by the test of the item that was read
 turn : (c : tie.Joined1 Inv-loop μ-loop) → partOk (range (c .before .before .before .before)) (c .before .before .before .before .args .count) (c .before .before .before .before .args .t1) ≡ (c .if1 .ok && partOk (range (c .before .before .before .before)) (c .before .before .before .before .args .count - (c .before .before .before .loop .i + 1)) (drop (c .before .before .before .loop .i + 1) (c .before .before .before .before .args .t1)))

@@ -13,7 +13,7 @@ use Rattle.integer.specs.Integer.{eqZ, between}
 use Rattle.backoff.specs.Limits.{orderLimit, rowLimit}
 use Rattle.double_array.specs.DoubleArray.{freeCheck, headCheck, orderOk, headOk}
 use borrow.Author.Needs.{needs, sfits-of}
-use Rattle.double_array.proofs.DoubleArray.{getD-inside}
+use Rattle.double_array.proofs.Items.{getD-inside}
 use Rattle.double_array.proofs.head_ok.Statement.{statement}
 use Rattle.double_array.proofs.head_ok.Tie as tie
 

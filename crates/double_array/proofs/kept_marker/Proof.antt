@@ -11,7 +11,7 @@ use mir.Val.{SFits, toZ, ofZ}
 use mir.Facts.{toZ-ofZ}
 use Rattle.integer.proofs.Arithmetic.{zarith, to-nat, abs}
 use Rattle.double_array.specs.DoubleArray.{freeCheck, keptMarker}
-use Rattle.double_array.proofs.DoubleArray.{getD-inside}
+use Rattle.double_array.proofs.Items.{getD-inside}
 use borrow.Author.Needs.{needs, sfits-of}
 use Rattle.double_array.proofs.kept_marker.Statement.{statement}
 use Rattle.double_array.proofs.kept_marker.Tie as tie

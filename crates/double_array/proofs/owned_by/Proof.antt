@@ -1,5 +1,4 @@
 -- `double_array::owned_by` meets its contract. Assumes nothing.
-use mathlib.Core.Path.{_≡_}
 use borrow.Author.Needs.{needs}
 use borrow.Author.Tests.{le-ltb}
 use Rattle.double_array.proofs.owned_by.Statement.{statement}

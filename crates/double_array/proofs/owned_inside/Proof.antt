@@ -12,7 +12,7 @@ use Rattle.integer.specs.Integer.{eqZ}
 use Rattle.integer.proofs.Arithmetic.{zarith, bits-test}
 use Rattle.double_array.specs.DoubleArray.{freeCheck, ownedBy}
 use Rattle.double_array.specs.declared.Child.the-variants.{At, Nothing}
-use Rattle.double_array.proofs.DoubleArray.{getD-inside}
+use Rattle.double_array.proofs.Items.{getD-inside}
 use Rattle.double_array.proofs.owned_inside.Statement.{statement}
 use Rattle.double_array.proofs.owned_inside.Tie as tie
 

@@ -2,12 +2,12 @@
 -- Assumes nothing.
 use mathlib.Core.Path.{_≡_, sym, ap, ap₂, _∙_}
 use mathlib.Core.Bool.{Bool}
-use mathlib.Core.List.{List, reverse}
+use mathlib.Core.List.{List, [], _∷_, reverse, reverse-append}
 use Prim.Native.Nat.{ℕ, suc, _≤_, _<_, _-_}
 use native.Mathlib.Omega.{arith}
 use borrow.Author.Needs.{needs}
 use lib.ListN.{length, getD, take}
-use lib.Seq.{take-length}
+use lib.Seq.{take-suc, take-length}
 use lib.IntN.{ℤ}
 use Rattle.backoff.specs.Store.{Look}
 use Rattle.double_array.specs.DoubleArray.{markerAt, childAt, lookMarker, downTo, lookFrom}
@@ -17,7 +17,6 @@ use Rattle.double_array.specs.declared.Child.the-variants.{At, Nothing}
 use Rattle.double_array.specs.declared.Marker.{Marker}
 use Rattle.double_array.specs.declared.Marker.the-variants.{Sound, Broken}
 use Rattle.double_array.proofs.DoubleArray.{marker-kept, Sizes, opened-sizes, opened-head, root-sound, root-child, child-inside, look-down, look-broken}
-use Rattle.double_array.proofs.LookupMeaning.{reverse-take}
 use Rattle.double_array.proofs.walk.Statement.{statement}
 use Rattle.double_array.proofs.walk.Tie as tie
 
@@ -27,6 +26,10 @@ record Walked (base check : List ℤ) (words : List ℕ) (s left : ℕ) : Type 0
   few : left < length words
   rest : lookFrom base check 0 0 (reverse words) ≡ lookFrom base check (length words - left) s (reverse (take left words))
 
+-- newest first, the last of the words comes first
+reverse-take : (l : List ℕ) (k : ℕ) → k < length l → reverse (take (suc k) l) ≡ getD l k 0 ∷ reverse (take k l)
+reverse-take l k h = rw (take-suc l k 0 h, reverse-append (take k l) (getD l k 0 ∷ []))
+
 -- past a sound marker the newest of the words that are left leads on
 turn : (base check : List ℤ) (words : List ℕ) (s left : ℕ) (p b : ℤ) (e f : Bool) → markerAt base check (length words - left) s ≡ Sound p b e f → 1 ≤ left → left ≤ length words
     → lookFrom base check (length words - left) s (reverse (take left words)) ≡ downTo (childAt base check s (getD words (left - 1) 0)) (λ (t : ℕ). lookFrom base check (length words - (left - 1)) t (reverse (take (left - 1) words)))
@@ -34,7 +37,7 @@ turn base check words s left p b e f m l h =
     let k : left ≡ suc (left - 1) = omega arith in
     let deeper : suc (length words - left) ≡ length words - (left - 1) = omega arith in
     ap (λ (i : ℕ). lookFrom base check (length words - left) s (reverse (take i words))) k
-    ∙ ap (lookFrom base check (length words - left) s) (reverse-take words (left - 1) 0 (omega arith))
+    ∙ ap (lookFrom base check (length words - left) s) (reverse-take words (left - 1) (omega arith))
     ∙ look-down base check (length words - left) s p b e f (getD words (left - 1) 0) (reverse (take (left - 1) words)) m
     ∙ ap (λ (i : ℕ). downTo (childAt base check s (getD words (left - 1) 0)) (λ (t : ℕ). lookFrom base check i t (reverse (take (left - 1) words)))) deeper
 

@@ -1,5 +1,5 @@
 -- The last row of the window that is not above k is the first that is not below it, or the row before that.
-use mathlib.Core.Path.{_≡_, _∙_}
+use mathlib.Core.Path.{_≡_, sym, ap, _∙_}
 use mathlib.Core.List.{List}
 use Prim.Native.Nat.{ℕ, _+_, _<_, _≤_}
 use native.Mathlib.Omega.{arith}
@@ -63,7 +63,7 @@ start c = c .before .before .before .before .before
 
 -- the row at hand is compared with k
 less : (c : tie.After-key-less) → ltb (rowKey (now (start c .args .table)) (c .before .before .last-not-above .result)) (keyOf (start c .args .k .high) (start c .args .k .low)) ≡ c .key-less .result
-less c = cc (c .key-less .ensures, c .before .row-key .ensures)
+less c = sym (c .key-less .ensures ∙ ap (λ (x : ℕ). ltb x (keyOf (start c .args .k .high) (start c .args .k .low))) (c .before .row-key .ensures))
 
 add-result : tie.Need-add-result
 unfolding rowsOf

@@ -1,6 +1,6 @@
 -- Invariant: the rows passed have keys below k.
-use mathlib.Core.Path.{_≡_, _∙_}
-use Prim.Native.Nat.{_-_}
+use mathlib.Core.Path.{_≡_, sym, ap, _∙_}
+use Prim.Native.Nat.{ℕ, _-_}
 use native.Mathlib.Omega.{arith}
 use lib.Dec.{ltb}
 use denote.Ref.{now}
@@ -30,7 +30,9 @@ key-less-requires : tie.Need-key-less-requires Inv-loop μ-loop
 key-less-requires c κs = tt
 
 less : (c : tie.After-key-less Inv-loop μ-loop) → ltb (rowKey (now (c .before .before .before .before .args .table)) (c .before .before .before .loop .to)) (keyOf (c .before .before .before .before .args .k .high) (c .before .before .before .before .args .k .low)) ≡ c .key-less .result
-less c = cc (c .key-less .ensures, c .before .row-key .ensures)
+less c =
+    let s = c .before .before .before .before in
+    sym (c .key-less .ensures ∙ ap (λ (x : ℕ). ltb x (keyOf (s .args .k .high) (s .args .k .low))) (c .before .row-key .ensures))
 
 returns : tie.Need-returns Inv-loop μ-loop
 returns c =

@@ -1,4 +1,4 @@
--- The first row from the bound on is the only row of k words that can be better.
+-- `filling::better` meets its contract: the first row from the bound on is the only row of k words that can be better. Assumes nothing.
 use mathlib.Core.Path.{_≡_, sym, _∙_}
 use Prim.Native.Nat.{_<_}
 use native.Mathlib.Omega.{arith}

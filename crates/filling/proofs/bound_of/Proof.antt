@@ -1,4 +1,4 @@
--- The hint changes where the search begins, and nothing else.
+-- `filling::bound_of` meets its contract: the hint changes where the search begins, and nothing else. Assumes nothing.
 use borrow.Author.Needs.{needs}
 use Rattle.filling.proofs.Next.{bound-room}
 use Rattle.filling.proofs.bound_of.Statement.{statement}

@@ -1,4 +1,4 @@
--- Invariant: as many rows of the filled list as were counted come before the next one, and their p is in range if `fits` says so.
+-- `filling::count_rows` meets its contract. The invariant: as many rows of the filled list as were counted come before the next one, and their p is in range if `fits` says so. Assumes nothing.
 use mathlib.Core.Path.{_≡_, refl, _∙_}
 use mathlib.Core.Bool.{Bool, true}
 use mathlib.Core.List.{List}

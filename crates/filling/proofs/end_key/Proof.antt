@@ -1,4 +1,4 @@
--- The part of the table holds the last words of the row.
+-- `filling::end_key` meets its contract: the part of the table holds the last words of the row. Assumes nothing.
 use mathlib.Core.Path.{ap, _∙_}
 use native.Mathlib.Omega.{arith}
 use lib.ListN.{length-take}

@@ -1,4 +1,4 @@
--- Invariant: the back-offs of the histories passed are owed, and the rule goes on with the rest, which is no row if there is any.
+-- `filling::end_points` meets its contract. The invariant: the back-offs of the histories passed are owed, and the rule goes on with the rest, which is no row if there is any. Assumes nothing.
 use mathlib.Core.Path.{_≡_, sym, _∙_}
 use mathlib.Core.Bool.{true, false}
 use mathlib.Core.List.{List}
@@ -8,10 +8,10 @@ use lib.IntN.{ℤ, _+ℤ_}
 use denote.Ref.{now}
 use mir.Syntax.{w32}
 use mir.Val.{toZ, ofZ}
-use Rattle.row_search.specs.Search.{findIn, isAt}
+use Rattle.row_search.specs.Search.{findIn, isAt, foundRow}
+use Rattle.row_search.proofs.Search.{found-listed}
 use Rattle.list.proofs.Check.{checked-good}
-use Rattle.filling.specs.Filled.{filledBackoff}
-use Rattle.filling.specs.Points.{wordsFrom, rowProbability}
+use Rattle.filling.specs.Points.{wordsFrom}
 use Rattle.filling.proofs.Owed.{Sum, Owed, inside-words, listed-some, owed-none, owed-end, owed-here, owed-more, backoff-summed, probability-summed}
 use Rattle.filling.proofs.end_points.Statement.{statement}
 use Rattle.filling.proofs.end_points.Tie as tie
@@ -29,11 +29,11 @@ abbrev μ-loop : tie.MeasureT-loop
 loop-holds : tie.Need-loop-holds Inv-loop μ-loop
 loop-holds c = record { sum = owed-none _ _ _ (c .pre .1); absent = λ l. c .pre .5 }
 
-sub-backoff-of : tie.Need-sub-backoff-of Inv-loop μ-loop
-sub-backoff-of c = omega arith
+sub-row-of : tie.Need-sub-row-of Inv-loop μ-loop
+sub-row-of c = omega arith
 
-backoff-of-requires : tie.Need-backoff-of-requires Inv-loop μ-loop
-backoff-of-requires c κs =
+row-of-requires : tie.Need-row-of-requires Inv-loop μ-loop
+row-of-requires c κs =
     let p = c .before .before .pre in
     let v = c .before .loop .inv .sum in
     let f = v .from in
@@ -41,38 +41,56 @@ backoff-of-requires c κs =
     let q = p .1 in
     (p .0, omega arith, omega (arith, p .2), omega (arith, p .3), inside-words _ _ _ _ _ f (omega arith) (p .4))
 
--- the back-off owed for the words before the last
-b-summed : (c : tie.After-backoff-of Inv-loop μ-loop) → Sum (toZ w32 (c .before .before .loop .owed)) (c .backoff-of .result) (filledBackoff (now (c .before .before .before .args .table)) (findIn (now (c .before .before .before .args .table)) (wordsFrom (now (c .before .before .before .args .table)) (c .before .before .loop .at) (c .before .before .before .args .past - 1 - c .before .before .loop .at))))
-b-summed c =
-    let l = c .before .before in
-    let s = l .before in
-    backoff-summed (s .pre .0) (s .pre .3) (l .loop .inv .sum) _ (c .backoff-of .ensures)
+abbrev at-loop : tie.After-row-of Inv-loop μ-loop → tie.At-loop Inv-loop μ-loop
+at-loop c = c .before .before
 
-owed-on : (c : tie.After-backoff-of Inv-loop μ-loop) → Owed (now (c .before .before .before .args .table)) (c .before .before .before .args .from) (c .before .before .before .args .past) (toZ w32 (ofZ w32 (toZ w32 (c .before .before .loop .owed) +ℤ toZ w32 (ofZ w32 (c .backoff-of .result))))) (c .before .before .loop .at + 1)
+abbrev table : tie.After-row-of Inv-loop μ-loop → List ℤ
+table c = now (at-loop c .before .args .table)
+
+abbrev past : tie.After-row-of Inv-loop μ-loop → ℕ
+past c = at-loop c .before .args .past
+
+abbrev at : tie.After-row-of Inv-loop μ-loop → ℕ
+at c = at-loop c .loop .at
+
+-- what is owed then
+abbrev owed : tie.After-row-of Inv-loop μ-loop → ℤ
+owed c = toZ w32 (ofZ w32 (toZ w32 (at-loop c .loop .owed) +ℤ toZ w32 (ofZ w32 (c .row-of .result .b))))
+
+-- the back-off owed for the words before the last
+b-summed : (c : tie.After-row-of Inv-loop μ-loop) → Sum (toZ w32 (at-loop c .loop .owed)) (c .row-of .result .b) (foundRow (table c) (findIn (table c) (wordsFrom (table c) (at c) (past c - 1 - at c))) .b)
+b-summed c =
+    let s = at-loop c .before in
+    backoff-summed (s .pre .0) (s .pre .3) (at-loop c .loop .inv .sum) _ (c .row-of .ensures)
+
+owed-on : (c : tie.After-row-of Inv-loop μ-loop) → Owed (table c) (at-loop c .before .args .from) (past c) (owed c) (at c + 1)
 owed-on c =
-    let l = c .before .before in
+    let l = at-loop c in
     let h = c .before .loop-test .taken in
     rw (b-summed c .sum-is) (owed-more (l .before .pre .0) (l .loop .inv .sum) h (l .loop .inv .absent h))
 
 add-owed : tie.Need-add-owed Inv-loop μ-loop
-add-owed c = b-summed c .fits
+add-owed c = b-summed (c .before .before) .fits
 
 add-at : tie.Need-add-at Inv-loop μ-loop
 add-at c = omega arith
 
-row-of-requires : tie.Need-row-of-requires Inv-loop μ-loop
-row-of-requires c κs =
-    let p = c .before .before .before .pre in
-    let v = c .before .before .loop .inv .sum in
+row-of-requires-2 : tie.Need-row-of-requires-2 Inv-loop μ-loop
+row-of-requires-2 c κs =
+    let p = c .before .before .before .before .before .pre in
+    let v = c .before .before .before .before .loop .inv .sum in
     let f = v .from in
-    let l = c .before .loop-test .taken in
+    let l = c .before .before .before .loop-test .taken in
     let q = p .1 in
     (p .0, omega arith, p .2, omega (arith, p .3), inside-words _ _ _ _ _ (omega arith) (omega arith) (p .4))
 
-p-summed : (c : tie.After-row-of Inv-loop μ-loop) → Sum (toZ w32 (ofZ w32 (toZ w32 (c .before .before .before .loop .owed) +ℤ toZ w32 (ofZ w32 (c .before .backoff-of .result))))) (c .row-of .result .p) (rowProbability (now (c .before .before .before .before .args .table)) (findIn (now (c .before .before .before .before .args .table)) (wordsFrom (now (c .before .before .before .before .args .table)) (c .before .before .before .loop .at + 1) (c .before .before .before .before .args .past - (c .before .before .before .loop .at + 1)))))
+abbrev first : tie.After-row-of2 Inv-loop μ-loop → tie.After-row-of Inv-loop μ-loop
+first c = c .before .before .before
+
+p-summed : (c : tie.After-row-of2 Inv-loop μ-loop) → Sum (owed (first c)) (c .row-of2 .result .p) (foundRow (table (first c)) (findIn (table (first c)) (wordsFrom (table (first c)) (at (first c) + 1) (past (first c) - (at (first c) + 1)))) .p)
 p-summed c =
-    let s = c .before .before .before .before in
-    probability-summed (s .pre .0) (s .pre .3) (owed-on (c .before)) _ (c .row-of .ensures .p-is)
+    let s = at-loop (first c) .before in
+    probability-summed (s .pre .0) (s .pre .3) (owed-on (first c)) _ (c .row-of2 .ensures)
 
 add-result : tie.Need-add-result Inv-loop μ-loop
 add-result c = p-summed (c .before .before .before) .fits
@@ -80,15 +98,15 @@ add-result c = p-summed (c .before .before .before) .fits
 returns : tie.Need-returns Inv-loop μ-loop
 returns c =
     let w = c .before .before .before in
-    let s = w .before .before .before .before in
-    let e = sym (w .row-of .ensures .listed-is) ∙ c .before .before .if1 .taken in
-    p-summed w .sum-is ∙ sym (owed-here (owed-on (w .before)) (listed-some _ _ _ (checked-good true _ (s .pre .0)) e) e)
+    let s = at-loop (first w) .before in
+    let e = sym (found-listed _ _ (w .row-of2 .ensures)) ∙ c .before .before .if1 .taken in
+    p-summed w .sum-is ∙ sym (owed-here (owed-on (first w)) (listed-some _ _ _ (checked-good true _ (s .pre .0)) e) e)
 
 loop-less : tie.Need-loop-less Inv-loop μ-loop
 loop-less c = omega arith
 
 loop-again : tie.Need-loop-again Inv-loop μ-loop
-loop-again c = record { sum = owed-on (c .before .before); absent = λ l. sym (c .before .row-of .ensures .listed-is) ∙ c .if1 .left }
+loop-again c = record { sum = owed-on (first (c .before)); absent = λ l. sym (found-listed _ _ (c .before .row-of2 .ensures)) ∙ c .if1 .left }
 
 returns-2 : tie.Need-returns-2 Inv-loop μ-loop
 returns-2 c = owed-end (c .before .loop .inv .sum) (c .loop-test .left)
@@ -100,11 +118,11 @@ end-points-spec =
     Inv-loop
     μ-loop
     loop-holds
-    sub-backoff-of
-    backoff-of-requires
+    sub-row-of
+    row-of-requires
     add-owed
     add-at
-    row-of-requires
+    row-of-requires-2
     add-result
     returns
     loop-less

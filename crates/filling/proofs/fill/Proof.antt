@@ -1,4 +1,4 @@
--- All refusals are told before the first row is written.
+-- `filling::fill` meets its contract: all refusals are told before the first row is written. Assumes nothing.
 use native.Mathlib.Omega.{arith}
 use borrow.Author.Needs.{needs}
 use lib.ListN.{length}

@@ -1,4 +1,4 @@
--- The last words of the row are looked up and, where they are no row, their points worked out.
+-- `filling::is_addable` meets its contract: the last words of the row are looked up and, where they are no row, their points worked out. Assumes nothing.
 use mathlib.Core.Path.{_≡_, sym, ap, _∙_}
 use mathlib.Core.List.{List}
 use Prim.Native.Nat.{ℕ}
@@ -13,6 +13,7 @@ use Rattle.backoff.specs.Limits.{leastProbability}
 use Rattle.backoff.specs.Model.{inProbability}
 use Rattle.rows.proofs.Table.{row-in, length-limit}
 use Rattle.row_search.specs.Search.{findIn, isAt}
+use Rattle.row_search.proofs.Search.{found-listed}
 use Rattle.filling.specs.Next.{lastWords}
 use Rattle.filling.proofs.Refusals.{addable-listed, addable-unlisted}
 use Rattle.filling.proofs.Points.{end-words-are, end-places, end-points-are}
@@ -38,7 +39,7 @@ row-of-requires c κs = let p = c .pre in let q = end-places _ (p .0) _ _ _ (p .
 listed-is : (c : tie.After-row-of) → c .row-of .result .listed ≡ isAt (findIn (c .before .args .table .now) (lastWords (c .before .args .table .now) (c .before .args .i) (c .before .args .m)))
 listed-is c =
     let p = c .before .pre in
-    c .row-of .ensures .listed-is ∙ ap (λ (ws : List ℕ). isAt (findIn (c .before .args .table .now) ws)) (end-words-are _ (p .0) _ _ _ (p .1) (p .2) (p .3) (p .4))
+    found-listed _ _ (c .row-of .ensures) ∙ ap (λ (ws : List ℕ). isAt (findIn (c .before .args .table .now) ws)) (end-words-are _ (p .0) _ _ _ (p .1) (p .2) (p .3) (p .4))
 
 returns : tie.Need-returns
 returns c = sym (addable-listed _ _ (sym (listed-is (c .before)) ∙ c .if1 .taken))
@@ -47,7 +48,7 @@ end-points-requires : tie.Need-end-points-requires
 end-points-requires c κs =
     let p = c .before .before .pre in
     let q = end-places _ (p .0) _ _ _ (p .1) (p .2) (p .3) (p .4) in
-    (p .0, q .0, q .1, q .2, q .3, sym (c .before .row-of .ensures .listed-is) ∙ c .if1 .left)
+    (p .0, q .0, q .1, q .2, q .3, sym (found-listed _ _ (c .before .row-of .ensures)) ∙ c .if1 .left)
 
 in-range-requires : tie.Need-in-range-requires
 in-range-requires c κs = search needs

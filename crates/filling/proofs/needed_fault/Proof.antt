@@ -1,4 +1,4 @@
--- Invariant: the longer ends passed, so the fault is that of the shorter ones.
+-- `filling::needed_fault` meets its contract. The invariant: the longer ends passed, so the fault is that of the shorter ones. Assumes nothing.
 use mathlib.Core.Path.{_≡_, sym, _∙_}
 use mathlib.Core.List.{List}
 use Prim.Native.Nat.{ℕ, _<_, _≤_}

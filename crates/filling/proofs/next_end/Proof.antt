@@ -1,4 +1,4 @@
--- Invariant: what is asked of the floor holds of where the search begins.
+-- `filling::next_end` meets its contract. The invariant: what is asked of the floor holds of where the search begins. Assumes nothing.
 use mathlib.Core.Path.{_≡_}
 use mathlib.Core.Bool.{true}
 use Prim.Native.Nat.{ℕ, suc, _-_, _≤_}

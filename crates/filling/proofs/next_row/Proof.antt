@@ -1,4 +1,4 @@
--- Invariant: the best of the rows of m to k − 1 words.
+-- `filling::next_row` meets its contract. The invariant: the best of the rows of m to k − 1 words. Assumes nothing.
 use mathlib.Core.Path.{_≡_, sym}
 use mathlib.Core.List.{List}
 use Prim.Native.Nat.{ℕ, suc, _-_, _<_, _≤_}

@@ -1,4 +1,4 @@
--- Each number is worked out, then all eight are stored.
+-- `filling::write_row` meets its contract: each number is worked out, then all eight are stored. Assumes nothing.
 use mathlib.Core.Path.{_≡_, sym, ap, _∙_}
 use mathlib.Core.Bool.{true}
 use mathlib.Core.List.{List}

@@ -1,4 +1,4 @@
--- Invariant: the rows ahead of the next one are written, and the rest of the table is as it was.
+-- `filling::write_rows` meets its contract. The invariant: the rows ahead of the next one are written, and the rest of the table is as it was. Assumes nothing.
 use mathlib.Core.Path.{_≡_, sym, ap, _∙_}
 use mathlib.Core.Bool.{true}
 use mathlib.Core.List.{List}

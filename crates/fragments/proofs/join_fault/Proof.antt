@@ -16,7 +16,6 @@ returns c =
     let s = c .before .before in
     rw (opened-none (s .args .base .now) (s .args .check .now) (sym (c .before .is-array .ensures) ∙ not-true (c .before .is-array .result) (c .if1 .taken)))
 
--- an array
 array : (c : tie.Else1) → isArray (c .before .before .args .base .now) (c .before .before .args .check .now) ≡ true
 array c = sym (c .before .is-array .ensures) ∙ not-false (c .before .is-array .result) (c .if1 .left)
 

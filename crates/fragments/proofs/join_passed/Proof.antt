@@ -24,7 +24,8 @@ use Rattle.fragments.specs.declared.Fragment.{Fragment}
 use Rattle.fragments.specs.Outcome.{keptIn, fragmentIn, toNumbers, crossed, joinedFragment}
 use Rattle.fragments.specs.Inner.{mostPoints, RescoredAs}
 use Rattle.fragments.proofs.Crossing.{length-keptIn, keptIn-within}
-use Rattle.fragments.proofs.Rescoring.{kept-words, end-ok, totals-small, rescored-joined, rescored-refused}
+use Rattle.fragments.proofs.Check.{kept-words, end-ok}
+use Rattle.fragments.proofs.Rescoring.{totals-small, rescored-joined, rescored-refused}
 use borrow.Author.Needs.{needs, sfits-of}
 use Rattle.fragments.proofs.join_passed.Statement.{statement}
 use Rattle.fragments.proofs.join_passed.Tie as tie
@@ -34,7 +35,7 @@ order-in : (s : tie.Start) → (1 ≤ s .args .order) × (s .args .order ≤ ord
 order-in s = rw (s .pre .1 .0) (opened-order (s .args .base .now) (s .args .check .now) (s .pre .0))
 
 kept-few : (s : tie.Start) → s .args .two .kept ≤ 4
-kept-few s = omega (arith, order-in s, length-keptIn (s .args .two .kept) (s .args .two .first), kept-words (s .args .order) (order-in s .1) (fragmentIn (s .args .two)) (s .pre .1 .1 .second))
+kept-few s = omega (arith, order-in s, length-keptIn (s .args .two .kept) (s .args .two .first), kept-words (s .args .order) (fragmentIn (s .args .two)) (s .pre .1 .1 .second))
 
 places : (s : tie.Start) → length (s .args .two .first) ≡ 4
 places s = search needs
@@ -59,7 +60,7 @@ words-few : (s : tie.Start) → length (words s) ≤ 4
 words-few s = omega (arith, length-take (s .args .two .kept) (s .args .two .first), kept-few s)
 
 state-passes : (s : tie.Start) → stateOk (s .args .order) (numbersOf (s .args .one .state)) ≡ true
-state-passes s = end-ok (s .args .order) (order-in s .1) (fragmentIn (s .args .one)) (s .pre .1 .1 .first)
+state-passes s = end-ok (s .args .order) (fragmentIn (s .args .one)) (s .pre .1 .1 .first)
 
 four : (s : tie.Start) → Four (s .args .one .state)
 four s = record { words = search needs; backoffs = search needs }
@@ -82,8 +83,9 @@ rescore-requires c κs = let s = c .before .before .before .before in (s .pre .0
 refused-requires : tie.Need-refused-requires
 refused-requires c κs = search needs
 
-abbrev begun : tie.After-rescore → tie.Start
-begun c = c .before .before .before .before .before
+-- the function's entry
+abbrev entry : tie.After-rescore → tie.Start
+entry c = c .before .before .before .before .before
 
 -- the two scorings of the kept words
 abbrev alone : tie.Start → Ran
@@ -92,13 +94,13 @@ alone s = runOver (store s) (keptIn (s .args .two .kept) (s .args .two .first)) 
 abbrev after : tie.Start → Ran
 after s = runOver (store s) (keptIn (s .args .two .kept) (s .args .two .first)) (state s) 1
 
-again : (c : tie.After-rescore) → RescoredAs (alone (begun c)) (after (begun c)) (c .rescore .result)
-again c = rw (words-are (begun c)) (c .rescore .ensures)
+again : (c : tie.After-rescore) → RescoredAs (alone (entry c)) (after (entry c)) (c .rescore .result)
+again c = rw (words-are (entry c)) (c .rescore .ensures)
 
 returns : tie.Need-returns
 returns c =
     let k = c .before .before .before in
-    let s = begun k in
+    let s = entry k in
     c .refused .ensures ∙ ap crossed (sym (rescored-refused (s .args .order) (fragmentIn (s .args .one)) (fragmentIn (s .args .two)) (k .rescore .result) (alone s) (after s) (again k) (not-true (k .rescore .result .sound) (c .before .if1 .taken))))
 
 -- both scorings are sound, and their totals small
@@ -108,7 +110,7 @@ sound c = not-false (c .before .before .rescore .result .sound) (c .if1 .left)
 small : (c : tie.Else1) → (natAbs (c .before .before .rescore .result .less) ≤ 4 * mostPoints) × (natAbs (c .before .before .rescore .result .plus) ≤ 4 * mostPoints)
 small c =
     let k = c .before .before in
-    let s = begun k in
+    let s = entry k in
     let n = s .pre .1 .0 in
     totals-small (s .args .base .now) (s .args .check .now) (rw n at (order-in s .1)) (words s) (words-few s) (state s) (subst (λ (m : ℕ). Bounded (m - 1) (state s)) n (state-bounded s)) (k .rescore .result) (k .rescore .ensures) (sound c)
 
@@ -121,7 +123,7 @@ plus-fits c = sfits-of (c .struct-told2 .given .1 .1 .0 .1)
 merge-requires : tie.Need-merge-requires
 merge-requires c κs =
     let e = c .before .before .before in
-    let s = begun (e .before .before) in
+    let s = entry (e .before .before) in
     (order-in s, (s .pre .1 .1, rw (toZ-ofZ (less-fits c), toZ-ofZ (plus-fits c)) (small e)))
 
 returns-2 : tie.Need-returns-2
@@ -129,7 +131,7 @@ returns-2 c =
     let t = c .before in
     let e = t .before .before .before in
     let k = e .before .before in
-    let s = begun k in
+    let s = entry k in
     let a = fragmentIn (s .args .one) in
     let b = fragmentIn (s .args .two) in
     let n = s .args .order in

@@ -19,7 +19,7 @@ use Rattle.carried_state.proofs.Carried.{Four, stateFrom-numbers}
 use Rattle.fragments.specs.Outcome.{fourPlaces, keptIn, fragmentIn}
 use Rattle.fragments.specs.Inner.{mostPoints}
 use Rattle.fragments.proofs.Crossing.{length-keptIn, keptIn-within}
-use Rattle.fragments.proofs.Rescoring.{kept-words, total-bound}
+use Rattle.fragments.proofs.Check.{kept-words, total-bound}
 use borrow.Author.Needs.{needs}
 use Rattle.fragments.proofs.merge.Statement.{statement}
 use Rattle.fragments.proofs.merge.Tie as tie
@@ -27,10 +27,10 @@ use Rattle.fragments.proofs.merge.Tie as tie
 -- ---- what 21 left of both
 
 kept-one : (s : tie.Start) → s .args .one .kept ≡ min (s .args .order - 1) (s .args .one .count)
-kept-one s = sym (length-keptIn (s .args .one .kept) (s .args .one .first)) ∙ kept-words (s .args .order) (s .pre .0 .1) (fragmentIn (s .args .one)) (s .pre .1 .0 .first)
+kept-one s = sym (length-keptIn (s .args .one .kept) (s .args .one .first)) ∙ kept-words (s .args .order) (fragmentIn (s .args .one)) (s .pre .1 .0 .first)
 
 kept-two : (s : tie.Start) → s .args .two .kept ≡ min (s .args .order - 1) (s .args .two .count)
-kept-two s = sym (length-keptIn (s .args .two .kept) (s .args .two .first)) ∙ kept-words (s .args .order) (s .pre .0 .1) (fragmentIn (s .args .two)) (s .pre .1 .0 .second)
+kept-two s = sym (length-keptIn (s .args .two .kept) (s .args .two .first)) ∙ kept-words (s .args .order) (fragmentIn (s .args .two)) (s .pre .1 .0 .second)
 
 places-one : (s : tie.Start) → length (s .args .one .first) ≡ 4
 places-one s = search needs
@@ -58,8 +58,8 @@ both s = s .args .one .total +ℤ s .args .two .total
 -- both totals lie within what 21 and 14 leave
 bounds : (s : tie.Start) → (natAbs (s .args .one .total) ≤ s .args .one .count * mostPoints) × ((natAbs (s .args .two .total) ≤ s .args .two .count * mostPoints) × (s .args .one .count + s .args .two .count ≤ runLimit))
 bounds s = (
-  total-bound (s .args .order) (s .pre .0 .1) (fragmentIn (s .args .one)) (s .pre .1 .0 .first),
-  (total-bound (s .args .order) (s .pre .0 .1) (fragmentIn (s .args .two)) (s .pre .1 .0 .second), s .pre .1 .0 .few),
+  total-bound (s .args .order) (fragmentIn (s .args .one)) (s .pre .1 .0 .first) (s .pre .0 .1),
+  (total-bound (s .args .order) (fragmentIn (s .args .two)) (s .pre .1 .0 .second) (s .pre .0 .1), s .pre .1 .0 .few),
 )
 
 both-small : (s : tie.Start) → natAbs (both s) ≤ runLimit * mostPoints
@@ -112,34 +112,34 @@ sub-first-words c = search needs
 first-words-requires : tie.Need-first-words-requires
 first-words-requires c κs = let s = c .before .before .before .before .before .before .before in (omega (arith, kept-one s), omega (arith, s .pre .0))
 
--- where the calls began
-abbrev begun : tie.After-struct-told2 → tie.Start
-begun c = c .before .before .before .before .before .before .before .before .before .before .before .before .before
+-- the function's entry
+abbrev entry : tie.After-struct-told2 → tie.Start
+entry c = c .before .before .before .before .before .before .before .before .before .before .before .before .before
 
 end-of-requires : tie.Need-end-of-requires
 end-of-requires c κs = search needs
 
 add-t17 : tie.Need-add-t17
-add-t17 c = let s = begun c in rw (toZ-ofZ (fits-one s), toZ-ofZ (fits-two s)) (both-fit s)
+add-t17 c = let s = entry c in rw (toZ-ofZ (fits-one s), toZ-ofZ (fits-two s)) (both-fit s)
 
 sub-t18 : tie.Need-sub-t18
-sub-t18 c = let s = begun c in rw (toZ-ofZ (fits-one s), toZ-ofZ (fits-two s), toZ-ofZ (both-fit s), toZ-ofZ (s .fits .less)) (less-fits s)
+sub-t18 c = let s = entry c in rw (toZ-ofZ (fits-one s), toZ-ofZ (fits-two s), toZ-ofZ (both-fit s), toZ-ofZ (s .fits .less)) (less-fits s)
 
 add-t19 : tie.Need-add-t19
-add-t19 c = let s = begun c in rw (toZ-ofZ (fits-one s), toZ-ofZ (fits-two s), toZ-ofZ (both-fit s), toZ-ofZ (s .fits .less), toZ-ofZ (less-fits s), toZ-ofZ (s .fits .plus)) (total-fits s)
+add-t19 c = let s = entry c in rw (toZ-ofZ (fits-one s), toZ-ofZ (fits-two s), toZ-ofZ (both-fit s), toZ-ofZ (s .fits .less), toZ-ofZ (less-fits s), toZ-ofZ (s .fits .plus)) (total-fits s)
 
 cast-kept-of : tie.Need-cast-kept-of
 cast-kept-of c = search needs
 
 kept-of-requires : tie.Need-kept-of-requires
-kept-of-requires c κs = begun c .pre .0 .0
+kept-of-requires c κs = entry c .pre .0 .0
 
 cast-t21 : tie.Need-cast-t21
-cast-t21 c = omega (arith, c .kept-of .ensures, begun (c .before) .pre .0)
+cast-t21 c = omega (arith, c .kept-of .ensures, entry (c .before) .pre .0)
 
 returns : tie.Need-returns
 returns c =
-    let s = begun (c .before) in
+    let s = entry (c .before) in
     let one = s .args .one in
     let two = s .args .two in
     let words = keptIn (one .kept) (one .first) ++ keptIn (two .kept) (two .first) in

@@ -49,7 +49,6 @@ returns c =
     let s = k .before .before in
     answers (s .args .base .now) (s .args .check .now) (s .args .words .now) _ (c .refused .ensures ∙ no-array _ _ _ (sym (k .is-array .ensures) ∙ not-true (k .is-array .result) (c .before .if1 .taken)))
 
--- an array
 array : (c : tie.Else1) → isArray (c .before .before .before .args .base .now) (c .before .before .before .args .check .now) ≡ true
 array c = sym (c .before .is-array .ensures) ∙ not-false (c .before .is-array .result) (c .if1 .left)
 

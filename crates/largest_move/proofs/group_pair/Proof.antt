@@ -22,7 +22,7 @@ high-fits t = sfits-of (t .struct-told .given .1 .0 .1)
 first-with-requires : tie.Need-first-with-requires
 first-with-requires c κs = let e = toZ-ofZ (low-fits c) in (c .before .pre .0, rw e (c .before .pre .1 .spans .low-has))
 
--- the first call, and the entry
+-- the range as it is told, and the function's entry
 abbrev told : tie.After-first-with2 → tie.After-struct-told
 told c = c .before .before .before
 

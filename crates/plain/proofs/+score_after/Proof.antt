@@ -1,7 +1,7 @@
 -- Measure: the history's length. A call answers the rule for the history it is given, where the call for the shorter one does.
-use mathlib.Core.Path.{_≡_, sym, ap₂, _∙_}
+use mathlib.Core.Path.{_≡_, sym, ap, ap₂, _∙_}
 use mathlib.Core.Bool.{true, false}
-use mathlib.Core.List.{List, [], _∷_, reverse}
+use mathlib.Core.List.{List, [], _∷_, _++_, reverse}
 use Prim.Native.Nat.{ℕ, _-_, _<_}
 use native.Mathlib.Omega.{arith}
 use lib.IntN.{ℤ, _+ℤ_}
@@ -13,13 +13,16 @@ use mir.Facts.{toZ-ofZ}
 use borrow.Author.Needs.{needs}
 use borrow.Fn.Kinds.{In}
 use borrow.Fn.PlainCycle.{Measures, is, falls, and}
-use Rattle.backoff.specs.Model.{Model, AcceptedModel, backoff}
+use Rattle.backoff.specs.Model.{Model, AcceptedModel, listed, backoff}
 use Rattle.backoff.specs.Rule as rule
 use Rattle.rows.specs.Table.{wordOf, wordsOf}
+use Rattle.rows.proofs.Table.{areWords-drop, areWords-take}
+use Rattle.row_search.specs.Search.{findIn, foundRow}
+use Rattle.row_search.specs.declared.Row.{Row}
 use Rattle.list.specs.ListModel.{modelOf}
-use Rattle.list.proofs.ListModel.{accepted-model}
-use Rattle.plain.specs.Held.{IsRow, IsScore}
-use Rattle.plain.proofs.Newest.{areWords-drop, areWords-take}
+use Rattle.list.proofs.ListModel.{entry-backoff, accepted-model}
+use Rattle.plain.specs.Held.{IsScore}
+use Rattle.plain.proofs.Rows.{row-with-listed, row-with-probability}
 use Rattle.plain.proofs.TextRule.{history-some, probability-fits, backoff-fits, text-fits, sum-fits, shorter-length, shorter-words, score-here, score-shorter}
 use Rattle.plain.proofs.score_after.Reads as score-after
 use Rattle.plain.proofs.score_after.Kinds as score-after-kinds
@@ -70,17 +73,20 @@ module _ (t : ℕ) where
       (c .pre .1 .0, c .pre .1 .1, rw (toZ-ofZ (c .fits .word)) (accepted c .in-words (word c ∷ []) (c .pre .1 .2)))
 
   -- the row of history and word
-  row-is : (c : After-row-with) → IsRow (now (c .before .args .table)) (word (c .before) ∷ reverse (history (c .before))) (c .row-with .result)
+  row-is : (c : After-row-with) → c .row-with .result ≡ foundRow (now (c .before .args .table)) (findIn (now (c .before .args .table)) (history (c .before) ++ (word (c .before) ∷ [])))
   row-is c = rw (toZ-ofZ (c .before .fits .word)) at (c .row-with .ensures)
 
+  listed-is : (c : After-row-with) → listed (model (c .before)) (word (c .before) ∷ reverse (history (c .before))) ≡ c .row-with .result .listed
+  listed-is c = sym (ap (λ (r : Row). r .listed) (row-is c) ∙ row-with-listed _ (history (c .before)) (word (c .before)))
+
   row-p : (c : After-row-with) → toZ w32 (ofZ w32 (c .row-with .result .p)) ≡ c .row-with .result .p
-  row-p c = let f : SFits w32 (c .row-with .result .p) = rw (row-is c .p-is) (probability-fits (accepted (c .before)) _) in toZ-ofZ f
+  row-p c = let f : SFits w32 (c .row-with .result .p) = rw (row-is c, row-with-probability) (probability-fits (accepted (c .before)) _) in toZ-ofZ f
 
   row-few : (c : After-row-with) → c .row-with .result .listed ≡ true → length (now (c .before .args .history)) < 5
   unfolding wordsOf
   row-few c e =
       let s = c .before in
-      omega (arith, accepted s .short _ (sym (row-is c .listed-is) ∙ e), accepted s .order-high, length-reverse (history s), length-map (now (s .args .history)) (λ (z : ℤ). wordOf z))
+      omega (arith, accepted s .short _ (listed-is c ∙ e), accepted s .order-high, length-reverse (history s), length-map (now (s .args .history)) (λ (z : ℤ). wordOf z))
 
   add-t11 : score-after-lts.Need-add-t11 (calls t) (score-after-at t) score-after.Post
   add-t11 c = search needs
@@ -99,7 +105,7 @@ module _ (t : ℕ) where
   unfolding wordsOf
   some c e =
       let s = c .before in
-      omega (arith, history-some (model s) (word s) (history s) (s .pre .1 .2) (sym (row-is c .listed-is) ∙ e), length-map (now (s .args .history)) (λ (z : ℤ). wordOf z))
+      omega (arith, history-some (model s) (word s) (history s) (s .pre .1 .2) (listed-is c ∙ e), length-map (now (s .args .history)) (λ (z : ℤ). wordOf z))
 
   sub-shorter : score-after-lts.Need-sub-shorter (calls t) (score-after-at t) score-after.Post
   sub-shorter c = omega (arith, some (c .before) (c .if1 .left))
@@ -129,8 +135,9 @@ module _ (t : ℕ) where
   owed : (c : After-score-after) → toZ w32 (ofZ w32 (c .before .before .row-of .result .b)) ≡ backoff (model (start c)) (reverse (history (start c)))
   owed c =
       let r = c .before .before .row-of in
-      let f : SFits w32 (r .result .b) = rw (r .ensures .b-is) (backoff-fits (accepted (start c)) _) in
-      toZ-ofZ f ∙ r .ensures .b-is
+      let e : r .result .b ≡ backoff (model (start c)) (reverse (history (start c))) = ap (λ (r : Row). r .b) (r .ensures) ∙ entry-backoff _ (history (start c)) in
+      let f : SFits w32 (r .result .b) = rw e (backoff-fits (accepted (start c)) _) in
+      toZ-ofZ f ∙ e
 
   shorter-is : (c : After-score-after) → IsScore (now (start c .args .table)) (rule.textRule (model (start c)) (drop 1 (history (start c))) (word (start c))) (c .score-after .result)
   shorter-is c = rw (shorter-words (now (start c .args .history)), toZ-ofZ (start c .fits .word)) at (c .score-after .ensures)
@@ -150,7 +157,7 @@ module _ (t : ℕ) where
       let x = c .before .before in
       let e = x .before .before .before .before in
       let s = start x in
-      score-shorter (word s) (now (s .args .history)) (some (e .before) (e .if1 .left)) (sym (row-is (e .before) .listed-is) ∙ e .if1 .left) (toZ-ofZ (add-t17 c) ∙ ap₂ _+ℤ_ (owed x) (shorter-points x)) (shorter-is x)
+      score-shorter (word s) (now (s .args .history)) (some (e .before) (e .if1 .left)) (listed-is (e .before) ∙ e .if1 .left) (toZ-ofZ (add-t17 c) ∙ ap₂ _+ℤ_ (owed x) (shorter-points x)) (shorter-is x)
 
 pub +score-after-spec : {M : Type 1} → statement M
 +score-after-spec =

@@ -13,9 +13,11 @@ use Rattle.backoff.specs.Words.{areWords}
 use Rattle.backoff.specs.Model.{listed}
 use Rattle.backoff.proofs.Words.{words-more}
 use Rattle.rows.specs.Table.{wordsOf}
+use Rattle.rows.proofs.Rows.{wordOf-pos}
+use Rattle.row_search.specs.declared.Row.{Row}
 use Rattle.list.specs.ListModel.{modelOf}
-use Rattle.list.proofs.ListModel.{accepted-model}
-use Rattle.plain.proofs.Words.{wordOf-pos, replaced-known, replaced-unknown, replaced-outside}
+use Rattle.list.proofs.ListModel.{entry-listed, accepted-model}
+use Rattle.plain.proofs.Words.{replaced-known, replaced-unknown, replaced-outside}
 use Rattle.plain.proofs.replaced.Statement.{statement}
 use Rattle.plain.proofs.replaced.Tie as tie
 
@@ -50,7 +52,10 @@ row-of-requires c κs =
 listed-is : (c : tie.After-row-of) → listed (modelOf (now (c .before .before .before .before .args .table))) (c .before .before .before .before .args .word ∷ []) ≡ c .row-of .result .listed
 listed-is c =
     let s = c .before .before .before .before in
-    sym (c .row-of .ensures .listed-is ∙ ap (λ (l : List ℕ). listed (modelOf (now (s .args .table))) (reverse l)) (one-word (c .before .before)))
+    sym
+    (ap (λ (r : Row). r .listed) (c .row-of .ensures)
+    ∙ entry-listed (now (s .args .table)) _
+    ∙ ap (λ (l : List ℕ). listed (modelOf (now (s .args .table))) (reverse l)) (one-word (c .before .before)))
 
 returns-3 : tie.Need-returns-3
 returns-3 c = read-back (c .before .before .before) ∙ ap pos (sym (replaced-known _ _ (listed-is (c .before) ∙ c .if3 .taken)))

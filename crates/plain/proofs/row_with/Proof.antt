@@ -1,11 +1,11 @@
 -- `plain::row_with` meets its contract. Assumes nothing.
 use mathlib.Core.Path.{_≡_, sym, ap, _∙_}
 use mathlib.Core.Bool.{true}
-use mathlib.Core.List.{List, [], _∷_, _++_, map-append, reverse, reverse-append}
+use mathlib.Core.List.{List, [], _∷_, _++_, map-append}
 use Prim.Native.Nat.{_+_}
 use native.Mathlib.Omega.{arith}
 use lib.IntN.{ℤ}
-use lib.ListN.{length, take, length-reverse, length-map}
+use lib.ListN.{length, take, length-append, length-map}
 use lib.Seq.{length-take-le}
 use denote.Ref.{now}
 use mir.Facts.{toZ-ofZ}
@@ -13,9 +13,8 @@ use borrow.Author.Needs.{needs}
 use Rattle.backoff.specs.Words.{areWords}
 use Rattle.backoff.proofs.Words.{words-more, first-some, first-limit, areWords-snoc}
 use Rattle.rows.specs.Table.{wordOf, wordsOf}
-use Rattle.list.proofs.ListModel.{accepted-model}
-use Rattle.plain.proofs.TextRule.{long-row}
-use Rattle.plain.proofs.Rows.{row-unlisted}
+use Rattle.row_search.specs.Search.{foundRow}
+use Rattle.row_search.proofs.Search.{finds-no-longer}
 use Rattle.plain.proofs.row_with.Statement.{statement}
 use Rattle.plain.proofs.row_with.Tie as tie
 
@@ -24,10 +23,6 @@ module _ (h : List ℤ) (z : ℤ) where
   unfolding wordsOf
   joined = map-append (λ (z : ℤ). wordOf z) h (z ∷ [])
 
-  newest-first : reverse (wordsOf (h ++ (z ∷ []))) ≡ wordOf z ∷ reverse (wordsOf h)
-  newest-first =
-      ap reverse joined ∙ reverse-append (wordsOf h) (wordOf z ∷ [])
-
   joined-are-words : areWords (wordsOf h) ≡ true → areWords (wordOf z ∷ []) ≡ true → areWords (wordsOf (h ++ (z ∷ []))) ≡ true
   joined-are-words e f = rw (joined, areWords-snoc) (words-more (wordOf z) (wordsOf h) (first-some (wordOf z) [] f) (first-limit (wordOf z) [] f) e)
 
@@ -35,11 +30,8 @@ unlisted-requires : tie.Need-unlisted-requires
 unlisted-requires c κs = search needs
 
 returns : tie.Need-returns
-unfolding wordsOf
-returns c =
-    let s = c .before .before in
-    rw (c .unlisted .ensures)
-    (row-unlisted _ _ (long-row (accepted-model _ (s .pre .0)) (wordOf (s .args .word) ∷ reverse (wordsOf (now (s .args .history)))) (rw (length-reverse, length-map) (omega (arith, c .before .if1 .taken)))))
+unfolding wordsOf foundRow
+returns c = c .unlisted .ensures ∙ sym (ap (foundRow _) (finds-no-longer _ _ (rw (length-append, length-map) (omega (arith, c .before .if1 .taken)))))
 
 followed-requires : tie.Need-followed-requires
 followed-requires c κs = search needs
@@ -68,7 +60,7 @@ returns-2 : tie.Need-returns-2
 returns-2 c =
     let f = c .before .before in
     let s = f .before .before in
-    rw (joined-is f, newest-first (now (s .args .history)) (s .args .word)) at (c .row-of .ensures)
+    rw (joined-is f, joined (now (s .args .history)) (s .args .word)) at (c .row-of .ensures)
 
 pub row-with-spec : {M : Type 1} → statement M
 row-with-spec =

@@ -12,9 +12,10 @@ use Rattle.backoff.specs.Rule.{replaced}
 use Rattle.backoff.proofs.Words.{first-limit}
 use Rattle.backoff.proofs.Rule.{replaced-listed}
 use Rattle.rows.specs.Table.{wordOf}
+use Rattle.rows.proofs.Rows.{wordOf-pos}
 use Rattle.list.specs.ListModel.{modelOf}
 use Rattle.list.proofs.ListModel.{accepted-model}
-use Rattle.plain.proofs.Words.{wordOf-pos, replaced-is-word}
+use Rattle.plain.proofs.Words.{replaced-is-word}
 use Rattle.plain.proofs.score_next.Statement.{statement}
 use Rattle.plain.proofs.score_next.Tie as tie
 

@@ -1,5 +1,6 @@
 -- The last row of the window that is not above k is the row searched for, or there is none.
-use mathlib.Core.Path.{_≡_, sym, _∙_}
+use mathlib.Core.Path.{_≡_, sym, ap, _∙_}
+use Prim.Native.Nat.{ℕ}
 use native.Mathlib.Omega.{arith}
 use lib.Dec.{eqb}
 use denote.Ref.{now}
@@ -31,7 +32,7 @@ start c = c .before .before .before .before
 
 -- the row at hand is compared with k
 equal : (c : tie.After-key-equal) → eqb (rowKey (now (start c .args .table)) (c .before .before .last-not-above .result)) (keyOf (start c .args .k .high) (start c .args .k .low)) ≡ c .key-equal .result
-equal c = cc (c .key-equal .ensures, c .before .row-key .ensures)
+equal c = sym (c .key-equal .ensures ∙ ap (λ (x : ℕ). eqb x (keyOf (start c .args .k .high) (start c .args .k .low))) (c .before .row-key .ensures))
 
 returns-2 : tie.Need-returns-2
 returns-2 c =

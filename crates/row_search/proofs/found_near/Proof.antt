@@ -1,5 +1,6 @@
 -- Invariant: none is needed: whichever row has the key, it is the only one.
-use mathlib.Core.Path.{_≡_, sym, _∙_}
+use mathlib.Core.Path.{_≡_, sym, ap, _∙_}
+use mathlib.Core.Bool.{false≢true}
 use Prim.Native.Nat.{ℕ, _-_}
 use native.Mathlib.Omega.{arith}
 use lib.Dec.{eqb}
@@ -37,11 +38,12 @@ returns c =
     let r = e .before .before .before in
     let l = r .before in
     let s = l .before .before in
-    let same : eqb (rowKey (now (s .args .part)) (l .before .loop .row)) (keyOf (s .args .k .high) (s .args .k .low)) ≡ e .key-equal .result = cc (e .key-equal .ensures, r .row-key .ensures) in
+    let k = keyOf (s .args .k .high) (s .args .k .low) in
+    let same : eqb (rowKey (now (s .args .part)) (l .before .loop .row)) k ≡ e .key-equal .result = sym (e .key-equal .ensures ∙ ap (λ (x : ℕ). eqb x k) (r .row-key .ensures)) in
     λ a. sym (find-key-hit _ _ _ (l .before .loop .row) (s .pre) (l .loop-test .taken) (eqb-true _ _ (same ∙ c .if2 .taken)))
 
 returns-2 : tie.Need-returns-2 Inv-loop μ-loop
-returns-2 c = λ a. absurd (let z : _≡_ {A = ℕ} 0 1 = cc in omega arith)
+returns-2 c = λ a. absurd (false≢true a)
 
 add-row : tie.Need-add-row Inv-loop μ-loop
 unfolding rowsOf
@@ -54,7 +56,7 @@ loop-again : tie.Need-loop-again Inv-loop μ-loop
 loop-again c = tt
 
 returns-3 : tie.Need-returns-3 Inv-loop μ-loop
-returns-3 c = λ a. absurd (let z : _≡_ {A = ℕ} 0 1 = cc in omega arith)
+returns-3 c = λ a. absurd (false≢true a)
 
 pub found-near-spec : {M : Type 1} → statement M
 found-near-spec =

@@ -1,5 +1,5 @@
 -- Invariant: the rows before `from` are below k, and those behind the next `size` are above k.
-use mathlib.Core.Path.{_≡_, sym, _∙_, subst}
+use mathlib.Core.Path.{_≡_, sym, ap, _∙_, subst}
 use mathlib.Core.Logic.{⊎-elim}
 use mathlib.Core.List.{List}
 use Prim.Native.Nat.{ℕ, _+_, _-_, _/_, _<_}
@@ -59,7 +59,7 @@ loop-again c =
     let k = keyOf (l .before .args .k .high) (l .before .args .k .low) in
     let i = l .loop .inv in
     let two = l .loop .size / 2 in
-    let e : ltb k (rowKey t (l .loop .from + two)) ≡ c .before .key-less .result = cc (c .before .key-less .ensures, c .before .before .row-key .ensures) in
+    let e : ltb k (rowKey t (l .loop .from + two)) ≡ c .before .key-less .result = sym (c .before .key-less .ensures ∙ ap (ltb k) (c .before .before .row-key .ensures)) in
     record {
       some = omega arith;
       window =

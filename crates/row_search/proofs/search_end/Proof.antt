@@ -1,5 +1,5 @@
 -- `row_search::search_end` meets its contract. Assumes nothing.
-use mathlib.Core.Path.{_≡_, _∙_}
+use mathlib.Core.Path.{_≡_, sym, ap, _∙_}
 use native.Mathlib.Omega.{arith}
 use lib.Dec.{ltb}
 use denote.Ref.{now}
@@ -29,7 +29,7 @@ returns-2 c =
     let s = r .before .before in
     let t = now (s .args .table) in
     let k = keyOf (s .args .k .high) (s .args .k .low) in
-    let e : ltb k (rowKey t (s .args .to)) ≡ c .before .key-less .result = cc (c .before .key-less .ensures, r .row-key .ensures) in
+    let e : ltb k (rowKey t (s .args .to)) ≡ c .before .key-less .result = sym (c .before .key-less .ensures ∙ ap (ltb k) (r .row-key .ensures)) in
     window-end t (s .pre) k (s .args .to) (r .before .if1 .left) (ltb-true _ _ (e ∙ c .if2 .taken))
 
 returns-3 : tie.Need-returns-3

@@ -1,5 +1,5 @@
 -- `row_search::search_start` meets its contract. Assumes nothing.
-use mathlib.Core.Path.{_≡_, _∙_, subst}
+use mathlib.Core.Path.{_≡_, sym, ap, _∙_, subst}
 use Prim.Native.Nat.{ℕ, _+_, _-_}
 use native.Mathlib.Omega.{arith}
 use lib.Dec.{ltb}
@@ -41,7 +41,7 @@ returns-3 c =
     let k = keyOf (s .args .k .high) (s .args .k .low) in
     let z = r .before .before .if1 .left in
     let e : s .args .near - 1 + 1 ≡ s .args .near = omega arith in
-    let l : ltb (rowKey t (s .args .near - 1)) k ≡ c .before .key-less .result = cc (c .before .key-less .ensures, r .row-key .ensures) in
+    let l : ltb (rowKey t (s .args .near - 1)) k ≡ c .before .key-less .result = sym (c .before .key-less .ensures ∙ ap (λ (x : ℕ). ltb x k) (r .row-key .ensures)) in
     subst (λ (from : ℕ). Bracket t k from (rowsOf t)) e
     (bracket-up t (s .pre) k 0 (rowsOf t) (s .args .near - 1) (bracket-start t k) (omega arith) (ltb-true _ _ (l ∙ c .if3 .taken)))
 

@@ -1,4 +1,5 @@
 -- `rows::key_of` meets its contract. Assumes nothing.
+use mathlib.Core.Path.{_∙_}
 use denote.Ref.{now}
 use Rattle.rows.proofs.Keys.{key-places}
 use borrow.Author.Needs.{needs}
@@ -31,7 +32,8 @@ returns c =
     let w2 = w3 .before in
     let w1 = w2 .before in
     let s = w1 .before in
-    cc (c .packed .ensures, w1 .word-at .ensures .0, w2 .word-at2 .ensures .0, w3 .word-at3 .ensures .0, w4 .word-at4 .ensures .0, w5 .word-at5 .ensures .0, key-places (now (s .args .words)) (s .pre .0))
+    c .packed .ensures
+    ∙ rw (w1 .word-at .ensures .0, w2 .word-at2 .ensures .0, w3 .word-at3 .ensures .0, w4 .word-at4 .ensures .0, w5 .word-at5 .ensures .0) (key-places (now (s .args .words)) (s .pre .0))
 
 pub key-of-spec : {M : Type 1} → statement M
 key-of-spec =

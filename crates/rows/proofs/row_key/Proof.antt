@@ -1,4 +1,5 @@
 -- `rows::row_key` meets its contract. Assumes nothing.
+use mathlib.Core.Path.{_∙_}
 use denote.Ref.{now}
 use Rattle.rows.proofs.Good.{row-key}
 use borrow.Author.Needs.{needs}
@@ -31,7 +32,8 @@ returns c =
     let d2 = d3 .before in
     let d1 = d2 .before in
     let s = d1 .before in
-    cc (c .packed .ensures, d1 .digit .ensures .0, d2 .digit2 .ensures .0, d3 .digit3 .ensures .0, d4 .digit4 .ensures .0, d5 .digit5 .ensures .0, row-key (now (s .args .table)) (s .args .i) (s .pre .1))
+    c .packed .ensures
+    ∙ rw (d1 .digit .ensures .0, d2 .digit2 .ensures .0, d3 .digit3 .ensures .0, d4 .digit4 .ensures .0, d5 .digit5 .ensures .0) (row-key (now (s .args .table)) (s .args .i) (s .pre .1))
 
 pub row-key-spec : {M : Type 1} → statement M
 row-key-spec =

@@ -7,7 +7,7 @@ use borrow.Author.Needs.{needs}
 use lib.ListN.{length, drop, replicate, length-set, length-replicate}
 use lib.IntN.{ℤ, pos}
 use Rattle.backoff.specs.Run.{written}
-use Rattle.word_step.proofs.Written.{fill-more}
+use Rattle.score.proofs.Written.{fill-more}
 use Rattle.score.proofs.clear.Statement.{statement}
 use Rattle.score.proofs.clear.Tie as tie
 

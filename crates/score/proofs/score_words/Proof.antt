@@ -1,11 +1,10 @@
 -- `score::score_words` meets its contract. The loop's invariant: what is left is the run of the words from the i-th on. Assumes nothing.
-use mathlib.Core.Path.{_≡_, refl, sym, ap, _∙_}
-use mathlib.Core.Bool.{Bool}
-use mathlib.Core.Logic.{⊎-elim}
+use mathlib.Core.Path.{_≡_, sym, ap, _∙_, subst}
 use mathlib.Core.List.{List}
+use mathlib.Core.Option.{Option, none}
 use Prim.Native.Nat.{ℕ, _*_, _-_, _≤_, _<_}
 use native.Mathlib.Omega.{arith}
-use borrow.Author.Needs.{needs, sfits-of}
+use borrow.Author.Needs.{needs}
 use lib.ListN.{length, getD, set, replicate, length-replicate}
 use lib.IntN.{ℤ, pos, negsuc, natAbs}
 use mir.Syntax.{w32, w64}
@@ -22,14 +21,19 @@ use Rattle.double_array.proofs.DoubleArray.{opened-head, opened-order}
 use Rattle.carried_state.specs.declared.Packed.{Packed}
 use Rattle.carried_state.specs.Numbers.{numbersOf}
 use Rattle.carried_state.specs.Packed.{heldIn, Carries}
-use Rattle.carried_state.proofs.Carried.{Four, count-low, all-in-words, all-in-backoff, packed-held, packed-carries, carries-bounded}
-use Rattle.word_step.specs.declared.Kind.{Kind}
+use Rattle.carried_state.proofs.Carried.{Four, packable, packed-held, packed-carries, carries-bounded}
+use Rattle.word_step.specs.declared.Score.{Score}
+use Rattle.word_step.specs.declared.Stepped.the-variants.{Refused}
 use Rattle.word_step.specs.Answers.{byteOf}
 use Rattle.word_step.specs.Inner.{replaced, SteppedTo}
 use Rattle.word_step.proofs.Rows.{rows-in-probability}
-use Rattle.word_step.proofs.Written.{written-set}
-use Rattle.word_step.proofs.Stepping.{told, refused-word, goes-on, begins-anew, start-refused}
-use Rattle.score.proofs.Running.{Running, scored-sizes, running-begins, running-on, running-refused, running-ends}
+use Rattle.word_step.proofs.Stepping.{step-told}
+use Rattle.score.specs.declared.NextState.{NextState}
+use Rattle.score.specs.declared.NextState.the-variants.{Carried as Onward, Refused as NotBegun}
+use Rattle.score.specs.Inner.{nextState, NextIs}
+use Rattle.score.proofs.Written.{written-set}
+use Rattle.score.proofs.Sizes.{scored-sizes}
+use Rattle.score.proofs.Running.{stepTo, step-refused, step-next, Running, running-begins, running-on, running-refused, running-ends}
 use Rattle.score.proofs.score_words.Statement.{statement}
 use Rattle.score.proofs.score_words.Tie as tie
 
@@ -58,12 +62,7 @@ arrays : (s : tie.Start Inv-loop μ-loop) → Four (s .args .state)
 arrays s = record { words = search needs; backoffs = search needs }
 
 pack-requires : tie.Need-pack-requires Inv-loop μ-loop
-pack-requires c κs =
-    let s = c .before .before in
-    let n = s .args .order in
-    let o = limit s in
-    let k = s .pre .1 .1 .0 in
-    (count-low n (s .args .state) (arrays s) o k, (all-in-words n (s .args .state) (arrays s) o k, all-in-backoff n (s .args .state) (arrays s) o k))
+pack-requires c κs = let s = c .before .before in packable (s .args .order) (s .args .state) (arrays s) (limit s) (s .pre .1 .1 .0)
 
 lent-requires : tie.Need-lent-requires Inv-loop μ-loop
 lent-requires c κs = search needs
@@ -125,8 +124,8 @@ held c = heldIn (turn c .loop .carried) (turn c .loop .backoffs)
 step-is : (c : tie.After-step Inv-loop μ-loop) → SteppedTo (entry (turn c) .args .order) (wordStep (S c) (held c) (w c)) (c .step .result) (backoffs c)
 step-is c = c .step .ensures (w c) (turn c .loop .inv .ahead-is (more c))
 
-enum-known-word : tie.Need-enum-known-word Inv-loop μ-loop
-enum-known-word c = search needs
+enum-known-stepped : tie.Need-enum-known-stepped Inv-loop μ-loop
+enum-known-stepped c = search needs
 
 enum-told : tie.Need-enum-told Inv-loop μ-loop
 enum-told c = search needs
@@ -152,78 +151,72 @@ returns c =
     let l = turn d in
     let s = entry l in
     rw (k .refuse-word .ensures .0)
-    (running-refused (S d) (stateIn (numbersOf (s .args .state))) (s .args .words .now) (s .args .points .now) (s .args .lengths .now) (held d) (toZ w64 (l .loop .total)) (l .loop .i) (l .loop .points) (l .loop .lengths) (l .loop .inv .running) (more d) (refused-word (S d) (held d) (w d) (step-is d) (e .enum-told .given .1)) (numbersOf (s .args .state)) (k .refuse-word .last .0) (k .refuse-word .last .1 .0) (k .refuse-word .ensures .1 .0) (k .refuse-word .ensures .1 .1))
+    (running-refused (S d) (stateIn (numbersOf (s .args .state))) (s .args .words .now) (s .args .points .now) (s .args .lengths .now) (held d) (toZ w64 (l .loop .total)) (l .loop .i) (l .loop .points) (l .loop .lengths) (l .loop .inv .running) (more d) (step-refused (S d) (held d) (w d) (step-told (step-is d) Refused (e .enum-told .given .1))) (numbersOf (s .args .state)) (k .refuse-word .last .0) (k .refuse-word .last .1 .0) (k .refuse-word .ensures .1 .0) (k .refuse-word .ensures .1 .1))
 
--- the word's kind and points, and whether its row is extended
-abbrev kind : tie.After-word Inv-loop μ-loop → Kind
-kind c = c .word .given .0 .0
+-- what the word scored, and the state that it leaves
+abbrev score : tie.After-stepped Inv-loop μ-loop → Score
+score c = c .stepped .given .0 .0
 
-abbrev x : tie.After-word Inv-loop μ-loop → ℤ
-x c = c .word .given .0 .1 .0
+abbrev left : tie.After-stepped Inv-loop μ-loop → Packed
+left c = c .stepped .given .0 .1 .0
 
-abbrev extended : tie.After-word Inv-loop μ-loop → Bool
-extended c = c .word .given .0 .1 .1 .0
+abbrev byte : tie.After-stepped Inv-loop μ-loop → ℕ
+byte c = byteOf (score c .kind) (score c .extended)
 
-x-fits : (c : tie.After-known-told Inv-loop μ-loop) → SFits w32 (x (c .before))
-x-fits c = sfits-of (c .known-told .given .1 .0 .1)
+-- as the code has taken it out
+abbrev scored-word : tie.After-struct-told Inv-loop μ-loop → tie.After-stepped Inv-loop μ-loop
+scored-word c = c .before .before .before
 
-sizes : (c : tie.After-word Inv-loop μ-loop) → (natAbs (x c) ≤ orderLimit * largestBackoff) × (byteOf (kind c) (extended c) < 256)
+x-fits : (c : tie.After-struct-told Inv-loop μ-loop) → SFits w32 (score (scored-word c) .points)
+x-fits c = search needs
+
+word-is : (c : tie.After-stepped Inv-loop μ-loop) → wordStep (S (c .before .before)) (held (c .before .before)) (w (c .before .before)) ≡ scored (score c .points) (byte c) (heldIn (left c) (backoffs (c .before .before)))
+word-is c = step-told (step-is (c .before .before)) _ (c .stepped .given .1)
+
+sizes : (c : tie.After-stepped Inv-loop μ-loop) → (natAbs (score c .points) ≤ orderLimit * largestBackoff) × (byte c < 256)
 sizes c =
     let d = c .before .before in
     let l = turn d in
     let s = entry l in
     let o = order-is s .1 in
-    scored-sizes (S d) (rows-in-probability (s .args .base .now) (s .args .check .now)) (S d .order - 1) (omega arith) (held d) (carries-bounded (S d .order) o (l .loop .carried) (l .loop .backoffs) (l .loop .inv .carries)) (w d) (x c) (byteOf (kind c) (extended c)) (heldIn (d .step .result .next) (backoffs d)) (told (step-is d) _ (c .word .given .1))
+    scored-sizes (S d) (rows-in-probability (s .args .base .now) (s .args .check .now)) (S d .order - 1) (omega arith) (held d) (carries-bounded (S d .order) o (l .loop .carried) (l .loop .backoffs) (l .loop .inv .carries)) (w d) (score c .points) (byte c) (heldIn (left c) (backoffs d)) (word-is c)
+
+cast-total : tie.Need-cast-total Inv-loop μ-loop
+cast-total c = to-wide tt (x-fits c)
+
+-- as the cast left them
+x-wide : (c : tie.After-struct-told Inv-loop μ-loop) → toZ w64 (ofZ w64 (toZ w32 (ofZ w32 (score (scored-word c) .points)))) ≡ score (scored-word c) .points
+x-wide c = cc (toZ-ofZ (cast-total c), toZ-ofZ (x-fits c))
+
+add-total : tie.Need-add-total Inv-loop μ-loop
+add-total c =
+    let m = scored-word c in
+    let l = turn (m .before .before) in
+    omega (zarith, x-wide c, sizes m .0, l .loop .inv .running .total-small, abs (score m .points), abs (toZ w64 (l .loop .total)), l .loop .inv .running .at, entry l .pre .1 .1 .1 .0)
 
 write-word-requires : tie.Need-write-word-requires Inv-loop μ-loop
 write-word-requires c κs =
-    let m = c .before .before .before in
+    let m = scored-word (c .before .before) in
     let d = m .before .before in
     let l = turn d in
     let s = entry l in
     ((omega (arith, more d, l .loop .inv .running .points-long, s .pre), omega (arith, more d, l .loop .inv .running .lengths-long, s .pre)), sizes m .1)
 
 -- the word that is written
-abbrev read : tie.After-slice-known3 Inv-loop μ-loop → tie.After-known-told Inv-loop μ-loop
+abbrev read : tie.After-slice-known3 Inv-loop μ-loop → tie.After-struct-told Inv-loop μ-loop
 read c = c .before .before .before .before .before .before
 
+abbrev word : tie.After-slice-known3 Inv-loop μ-loop → tie.After-stepped Inv-loop μ-loop
+word c = scored-word (read c)
+
 abbrev stepped : tie.After-slice-known3 Inv-loop μ-loop → tie.After-step Inv-loop μ-loop
-stepped c = read c .before .before .before
-
-cast-total : tie.Need-cast-total Inv-loop μ-loop
-cast-total c = to-wide tt (x-fits (read c))
-
--- as the cast left them
-x-wide : (c : tie.After-slice-known3 Inv-loop μ-loop) → toZ w64 (ofZ w64 (toZ w32 (ofZ w32 (x (read c .before))))) ≡ x (read c .before)
-x-wide c = cc (toZ-ofZ (cast-total c), toZ-ofZ (x-fits (read c)))
-
-add-total : tie.Need-add-total Inv-loop μ-loop
-add-total c =
-    let m = read c .before in
-    let l = turn (stepped c) in
-    omega (zarith, x-wide c, sizes m .0, l .loop .inv .running .total-small, abs (x m), abs (toZ w64 (l .loop .total)), l .loop .inv .running .at, entry l .pre .1 .1 .1 .0)
-
-ends-sentence-requires : tie.Need-ends-sentence-requires Inv-loop μ-loop
-ends-sentence-requires c κs = more (stepped (c .before))
-
--- the state that the word itself leaves
-carries-on : (c : tie.After-slice-known3 Inv-loop μ-loop) → Carries (entry (turn (stepped c)) .args .order) (stepped c .step .result .next) (backoffs (stepped c))
-carries-on c = let m = read c .before in step-is (stepped c) .carries (kind m) (x m) (extended m) (m .word .given .1)
-
-begin-requires : tie.Need-begin-requires Inv-loop μ-loop
-begin-requires c κs =
-    let d = c .before .before .before .before in
-    let s = entry (turn (stepped d)) in
-    (s .pre .0, (s .pre .1 .0, carries-on d .five))
-
-enum-told-2 : tie.Need-enum-told-2 Inv-loop μ-loop
-enum-told-2 c = search needs
+stepped c = word c .before .before
 
 -- the slices with the word
-points-now : (c : tie.After-slice-known3 Inv-loop μ-loop) → c .before .before .before .write-word .last .0 ≡ set (turn (stepped c) .loop .points) (turn (stepped c) .loop .i) (x (read c .before))
-points-now c = c .before .before .before .write-word .ensures .0 ∙ ap (set (turn (stepped c) .loop .points) (turn (stepped c) .loop .i)) (toZ-ofZ (x-fits (read c)))
+points-now : (c : tie.After-slice-known3 Inv-loop μ-loop) → c .before .before .before .write-word .last .0 ≡ set (turn (stepped c) .loop .points) (turn (stepped c) .loop .i) (score (word c) .points)
+points-now c = c .before .before .before .write-word .ensures .0
 
-lengths-now : (c : tie.After-slice-known3 Inv-loop μ-loop) → c .before .before .before .write-word .last .1 .0 ≡ set (turn (stepped c) .loop .lengths) (turn (stepped c) .loop .i) (byteOf (kind (read c .before)) (extended (read c .before)))
+lengths-now : (c : tie.After-slice-known3 Inv-loop μ-loop) → c .before .before .before .write-word .last .1 .0 ≡ set (turn (stepped c) .loop .lengths) (turn (stepped c) .loop .i) (byte (word c))
 lengths-now c = c .before .before .before .write-word .ensures .1
 
 points-long : (c : tie.After-slice-known3 Inv-loop μ-loop) → length (c .before .before .before .write-word .last .0) ≡ length (entry (turn (stepped c)) .args .points .now)
@@ -232,83 +225,106 @@ points-long c = c .before .before .before .write-word .kept .0 ∙ turn (stepped
 lengths-long : (c : tie.After-slice-known3 Inv-loop μ-loop) → length (c .before .before .before .write-word .last .1 .0) ≡ length (entry (turn (stepped c)) .args .lengths .now)
 lengths-long c = c .before .before .before .write-word .kept .1 .0 ∙ turn (stepped c) .loop .inv .running .lengths-long
 
+mul-next-state : tie.Need-mul-next-state Inv-loop μ-loop
+mul-next-state c = let d = stepped c in omega (arith, more d, entry (turn d) .pre .1 .1 .1 .0)
+
+shared-slice-read-next-state : tie.Need-shared-slice-read-next-state Inv-loop μ-loop
+shared-slice-read-next-state c = more (stepped (c .before))
+
+next-state-requires : tie.Need-next-state-requires Inv-loop μ-loop
+next-state-requires c κs =
+    let d = c .before .before in
+    let m = word d in
+    let s = entry (turn (stepped d)) in
+    (s .pre .0, (s .pre .1 .0, step-is (stepped d) .carries (score m) (left m) (m .stepped .given .1)))
+
+-- the state that the next word is scored from, as `next_state` told it
+abbrev written-word : tie.After-next-state Inv-loop μ-loop → tie.After-slice-known3 Inv-loop μ-loop
+written-word c = c .before .before .before
+
+abbrev backoffs-on : tie.After-next-state Inv-loop μ-loop → List ℤ
+backoffs-on c = c .next-state .last .1 .1 .1 .1 .1 .0
+
+next-is : (c : tie.After-next-state Inv-loop μ-loop) (r : NextState) → c .next-state .result ≡ r → NextIs (entry (turn (stepped (written-word c))) .args .order) (nextState (S (stepped (written-word c))) (w (stepped (written-word c))) (heldIn (left (word (written-word c))) (backoffs (stepped (written-word c))))) r (backoffs-on c)
+next-is c r e =
+    let d = stepped (written-word c) in
+    subst (λ (k : NextState). NextIs (entry (turn d) .args .order) (nextState (S d) (w d) (heldIn (left (word (written-word c))) (backoffs d))) k (backoffs-on c)) e (c .next-state .ensures)
+
+-- the word's step, with that state
+stepped-to : (c : tie.After-slice-known3 Inv-loop μ-loop) (next : Option Carried) → nextState (S (stepped c)) (w (stepped c)) (heldIn (left (word c)) (backoffs (stepped c))) ≡ next → step (S (stepped c)) (held (stepped c)) (w (stepped c)) ≡ stepTo (score (word c) .points) (byte (word c)) next
+stepped-to c next e =
+    let d = stepped c in
+    let m = word c in
+    step-next (S d) (held d) (w d) (score m .points) (byte m) (heldIn (left m) (backoffs d)) (word-is m) ∙ ap (stepTo (score m .points) (byte m)) e
+
+enum-known-onward : tie.Need-enum-known-onward Inv-loop μ-loop
+enum-known-onward c = search needs
+
+enum-told-2 : tie.Need-enum-told-2 Inv-loop μ-loop
+enum-told-2 c = search needs
+
 refuse-word-requires-2 : tie.Need-refuse-word-requires-2 Inv-loop μ-loop
 refuse-word-requires-2 c κs =
-    let d = c .before .before .before .before .before .before .before .before .before in
+    let d = written-word (c .before .before .before .before) in
     let s = entry (turn (stepped d)) in
     ((omega (arith, points-long d, s .pre), omega (arith, lengths-long d, s .pre)), omega (arith, more (stepped d), s .pre .1 .1 .1 .0))
 
 same-length-3 : tie.Need-same-length-3 Inv-loop μ-loop
 same-length-3 c =
     let k = c .before .before .before in
-    k .refuse-word2 .kept .0 ∙ points-long (k .before .before .before .before .before .before .before .before .before .before)
+    k .refuse-word2 .kept .0 ∙ points-long (written-word (k .before .before .before .before .before))
 
 same-length-4 : tie.Need-same-length-4 Inv-loop μ-loop
 same-length-4 c =
     let k = c .before .before .before in
-    k .refuse-word2 .kept .1 .0 ∙ lengths-long (k .before .before .before .before .before .before .before .before .before .before)
+    k .refuse-word2 .kept .1 .0 ∙ lengths-long (written-word (k .before .before .before .before .before))
 
 returns-2 : tie.Need-returns-2 Inv-loop μ-loop
 returns-2 c =
     let k = c .before .before .before in
     let g = k .before .before .before in
     let b = g .before .before in
-    let u = b .before .before .before in
-    let v = u .before .before in
+    let v = written-word b in
     let d = stepped v in
-    let m = read v .before in
+    let m = word v in
     let l = turn d in
     let s = entry l in
     let n = length (s .args .words .now) in
     rw (k .refuse-word2 .ensures .0)
-    (running-refused (S d) (stateIn (numbersOf (s .args .state))) (s .args .words .now) (s .args .points .now) (s .args .lengths .now) (held d) (toZ w64 (l .loop .total)) (l .loop .i) (l .loop .points) (l .loop .lengths) (l .loop .inv .running) (more d)
-    (start-refused (S d) (held d) (w d) (step-is d) (kind m) (x m) (extended m) (m .word .given .1) (b .begin .ensures) (sym (u .ends-sentence .ensures) ∙ b .before .before .if1 .taken) (g .enum-told2 .given .1))
+    (running-refused (S d) (stateIn (numbersOf (s .args .state))) (s .args .words .now) (s .args .points .now) (s .args .lengths .now) (held d) (toZ w64 (l .loop .total)) (l .loop .i) (l .loop .points) (l .loop .lengths) (l .loop .inv .running) (more d) (stepped-to v none (next-is b NotBegun (g .enum-told2 .given .1)))
     (numbersOf (s .args .state)) (k .refuse-word2 .last .0) (k .refuse-word2 .last .1 .0)
-    (k .refuse-word2 .ensures .1 .0 ∙ ap (written (replicate n (pos 0))) (points-now v) ∙ written-set (replicate n (pos 0)) (l .loop .points) (l .loop .i) (x m) (omega (arith, more d, length-replicate n (pos 0))))
-    (k .refuse-word2 .ensures .1 .1 ∙ ap (written (replicate n 0)) (lengths-now v) ∙ written-set (replicate n 0) (l .loop .lengths) (l .loop .i) (byteOf (kind m) (extended m)) (omega (arith, more d, length-replicate {A = ℕ} n 0))))
+    (k .refuse-word2 .ensures .1 .0 ∙ ap (written (replicate n (pos 0))) (points-now v) ∙ written-set (replicate n (pos 0)) (l .loop .points) (l .loop .i) (score m .points) (omega (arith, more d, length-replicate n (pos 0))))
+    (k .refuse-word2 .ensures .1 .1 ∙ ap (written (replicate n 0)) (lengths-now v) ∙ written-set (replicate n 0) (l .loop .lengths) (l .loop .i) (byte m) (omega (arith, more d, length-replicate {A = ℕ} n 0))))
 
-enum-told-3 : tie.Need-enum-told-3 Inv-loop μ-loop
-enum-told-3 c = search needs
+-- the turn's word
+abbrev done : tie.After-onward Inv-loop μ-loop → tie.After-slice-known3 Inv-loop μ-loop
+done c = written-word (c .before .before)
 
 add-i : tie.Need-add-i Inv-loop μ-loop
 add-i c =
-    let d = stepped (c .before .before .before) in
+    let d = stepped (done (c .before)) in
     omega (arith, more d, entry (turn d) .pre .1 .1 .1 .0)
 
 loop-less : tie.Need-loop-less Inv-loop μ-loop
-loop-less c = let d = stepped (c .before .before .before) in omega (arith, more d)
+loop-less c = let d = stepped (done (c .before)) in omega (arith, more d)
 
-again : {check : List ℤ} {S : Store} {s next : Carried} {ws : List ℕ} {points₀ ps qs : List ℤ} {lengths₀ bs cs : List ℕ} {carried : Packed} {backoffs : List ℤ} {total sum : ℤ} {ahead i : ℕ} → sum ≡ total → qs ≡ ps → cs ≡ bs → heldIn carried backoffs ≡ next → Carries (S .order) carried backoffs → Running S s ws points₀ lengths₀ next total i ps bs → (i < length ws → ahead ≡ replaced check (getD ws i 0)) → Loop check S s ws points₀ lengths₀ carried backoffs sum ahead i qs cs
-again d e f g k r a = rw (d, e, f) (record { running = rw g r; carries = k; ahead-is = a })
-
--- the word's step, and the state that is carried on
-carried-on : (c : tie.Joined1 Inv-loop μ-loop) → (step (S (stepped (c .before .before .before))) (held (stepped (c .before .before .before))) (w (stepped (c .before .before .before))) ≡ scored (x (read (c .before .before .before) .before)) (byteOf (kind (read (c .before .before .before) .before)) (extended (read (c .before .before .before) .before))) (heldIn (c .if1 .carried) (c .if1 .backoffs))) × Carries (entry (turn (stepped (c .before .before .before))) .args .order) (c .if1 .carried) (c .if1 .backoffs)
-carried-on c =
-    let u = c .before in
-    let v = u .before .before in
-    let d = stepped v in
-    let m = read v .before in
-    ⊎-elim
-    (λ r.
-    let e = sym (u .ends-sentence .ensures) ∙ r .0 .taken in
-    (rw (r .6, r .7) (begins-anew (S d) (held d) (w d) (step-is d) (kind m) (x m) (extended m) (m .word .given .1) (r .2 .ensures) e _ _ _ (r .4 .given .1)), rw (r .6, r .7) (r .2 .ensures .carries _ _ _ (r .4 .given .1))))
-    (λ r.
-    let e = sym (u .ends-sentence .ensures) ∙ r .0 .left in
-    (rw (r .1, r .2) (goes-on (S d) (held d) (w d) (step-is d) (kind m) (x m) (extended m) (m .word .given .1) e), rw (r .1, r .2) (carries-on v)))
-    (c .if1 .came)
+again : {check : List ℤ} {S : Store} {s : Carried} {ws : List ℕ} {points₀ ps qs : List ℤ} {lengths₀ bs cs : List ℕ} {carried : Packed} {backoffs : List ℤ} {total sum : ℤ} {ahead i : ℕ} → sum ≡ total → qs ≡ ps → cs ≡ bs → Carries (S .order) carried backoffs → Running S s ws points₀ lengths₀ (heldIn carried backoffs) total i ps bs → (i < length ws → ahead ≡ replaced check (getD ws i 0)) → Loop check S s ws points₀ lengths₀ carried backoffs sum ahead i qs cs
+again d e f k r a = rw (d, e, f) (record { running = r; carries = k; ahead-is = a })
 
 loop-again : tie.Need-loop-again Inv-loop μ-loop
 loop-again c =
-    let v = c .before .before .before in
-    let m = read v .before in
+    let u = c .before in
+    let v = done u in
+    let m = word v in
     let d = stepped v in
     let l = turn d in
     let s = entry l in
-    again (cc (toZ-ofZ (add-total v), x-wide v)) (points-now v) (lengths-now v) refl (rw (order-is s .0) (carried-on c .1))
-    (running-on (S d) (stateIn (numbersOf (s .args .state))) (s .args .words .now) (s .args .points .now) (s .args .lengths .now) (held d) (toZ w64 (l .loop .total)) (l .loop .i) (l .loop .points) (l .loop .lengths) (l .loop .inv .running) (x m) (byteOf (kind m) (extended m)) (heldIn (c .if1 .carried) (c .if1 .backoffs)) (more d) (s .pre .1 .1 .1 .1 .0) (s .pre .1 .1 .1 .1 .1) (sizes m .0) (carried-on c .0)) (d .before .before .next-word2 .ensures)
+    let o = next-is (u .before .before) (Onward (u .onward .given .0 .0)) (u .onward .given .1) in
+    again (cc (toZ-ofZ (add-total (read v)), x-wide (read v))) (points-now v) (lengths-now v) (rw (order-is s .0) (o .1))
+    (running-on (S d) (stateIn (numbersOf (s .args .state))) (s .args .words .now) (s .args .points .now) (s .args .lengths .now) (held d) (toZ w64 (l .loop .total)) (l .loop .i) (l .loop .points) (l .loop .lengths) (l .loop .inv .running) (score m .points) (byte m) (heldIn (u .onward .given .0 .0) (backoffs-on (u .before .before))) (more d) (s .pre .1 .1 .1 .1 .0) (s .pre .1 .1 .1 .1 .1) (sizes m .0) (stepped-to v _ (o .0))) (d .before .before .next-word2 .ensures)
 
-unpack-requires : tie.Need-unpack-requires Inv-loop μ-loop
-unpack-requires c κs = let l = c .before in omega (arith, l .loop .inv .carries .few, order-is (entry l))
+all-scored-requires : tie.Need-all-scored-requires Inv-loop μ-loop
+all-scored-requires c κs = let l = c .before in omega (arith, l .loop .inv .carries .few, order-is (entry l))
 
 same-length-5 : tie.Need-same-length-5 Inv-loop μ-loop
 same-length-5 c = search needs
@@ -321,7 +337,8 @@ returns-3 c =
     let n = c .before in
     let l = n .before in
     let s = entry l in
-    running-ends (storeIn (s .args .base .now) (s .args .check .now)) (stateIn (numbersOf (s .args .state))) (s .args .words .now) (s .args .points .now) (s .args .lengths .now) (heldIn (l .loop .carried) (l .loop .backoffs)) (toZ w64 (l .loop .total)) (l .loop .i) (l .loop .points) (l .loop .lengths) (l .loop .inv .running) (n .loop-test .left) (s .pre .1 .1 .1 .1 .0) (s .pre .1 .1 .1 .1 .1) (numbersOf (c .unpack .result)) (c .unpack .ensures) (numbersOf (s .args .state))
+    c .all-scored .ensures _ _
+    ∙ running-ends (storeIn (s .args .base .now) (s .args .check .now)) (stateIn (numbersOf (s .args .state))) (s .args .words .now) (s .args .points .now) (s .args .lengths .now) (heldIn (l .loop .carried) (l .loop .backoffs)) (toZ w64 (l .loop .total)) (l .loop .i) (l .loop .points) (l .loop .lengths) (l .loop .inv .running) (n .loop-test .left) (s .pre .1 .1 .1 .1 .0) (s .pre .1 .1 .1 .1 .1) (numbersOf (s .args .state))
 
 pub score-words-spec : {M : Type 1} → statement M
 score-words-spec =
@@ -336,27 +353,28 @@ score-words-spec =
     add-next-word
     next-word-requires-2
     step-requires
-    enum-known-word
+    enum-known-stepped
     enum-told
     refuse-word-requires
     same-length
     same-length-2
     returns
-    write-word-requires
     cast-total
     add-total
-    ends-sentence-requires
-    begin-requires
+    write-word-requires
+    mul-next-state
+    shared-slice-read-next-state
+    next-state-requires
+    enum-known-onward
     enum-told-2
     refuse-word-requires-2
     same-length-3
     same-length-4
     returns-2
-    enum-told-3
     add-i
     loop-less
     loop-again
-    unpack-requires
+    all-scored-requires
     same-length-5
     same-length-6
     returns-3)

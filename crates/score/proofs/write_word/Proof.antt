@@ -2,6 +2,8 @@
 use mathlib.Core.Path.{ap, _∙_}
 use borrow.Author.Needs.{needs}
 use lib.ListN.{set}
+use mir.Syntax.{w32}
+use mir.Val.{SFits}
 use mir.Facts.{toZ-ofZ}
 use Rattle.score.proofs.write_word.Statement.{statement}
 use Rattle.score.proofs.write_word.Tie as tie
@@ -21,11 +23,14 @@ same-length c = search needs
 same-length-2 : tie.Need-same-length-2
 same-length-2 c = search needs
 
+points-fits : (s : tie.Start) → SFits w32 (s .args .score .points)
+points-fits s = search needs
+
 returns : tie.Need-returns
 returns c =
     let w = c .before .before in
-    let s = w .before .before .before in
-    (w .write-points .ensures ∙ ap (set (s .args .points .now) (s .args .i)) (toZ-ofZ (s .fits .scored)), ap (set (s .args .lengths .now) (s .args .i)) (c .length-byte .ensures))
+    let s = w .before .before .before .before in
+    (w .write-points .ensures ∙ ap (set (s .args .points .now) (s .args .i)) (toZ-ofZ (points-fits s)), ap (set (s .args .lengths .now) (s .args .i)) (c .length-byte .ensures))
 
 pub write-word-spec : {M : Type 1} → statement M
 write-word-spec =

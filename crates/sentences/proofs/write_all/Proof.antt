@@ -1,6 +1,5 @@
 -- `sentences::write_all` meets its contract. The loop's invariant: the sentences of the first g groups are written. Assumes nothing.
 use mathlib.Core.Path.{_≡_, sym, ap, _∙_, subst}
-use mathlib.Core.Bool.{Bool, true, false}
 use mathlib.Core.List.{List}
 use mathlib.Core.Option.{Option}
 use Prim.Native.Nat.{ℕ, _+_, _*_, _-_, _^_, _≤_, _<_}
@@ -11,14 +10,15 @@ use borrow.Author.Tests.{not-true, not-false}
 use borrow.Rule.Slice.PartMut.{midOf, putMid, same-len-mid}
 use lib.ListN.{length, take, length-drop}
 use lib.IntN.{ℤ}
+use Rattle.backoff.specs.Runs.{flat}
 use Rattle.backoff.specs.Store.{Store, Started}
 use Rattle.double_array.specs.DoubleArray.{opened}
 use Rattle.sentences.specs.Sentences.{endedBy, sentencesOf}
 use Rattle.sentences.specs.Inner.{sentenceAt, AllWritten, OneRefused, WrittenOver}
 use Rattle.sentences.proofs.NthSentence.{front-long}
 use Rattle.sentences.proofs.Calls.{start-unscored}
-use Rattle.sentences.proofs.Written.{rest-lent}
-use Rattle.sentences.proofs.Groups.{inGroups, none-done, all-words-long, all-totals-long, all-done, all-room, all-next, all-refused, no-words, none-scored}
+use Rattle.sentences.proofs.Written.{rest-lent, written-none}
+use Rattle.sentences.proofs.Groups.{inGroups, all-words-long, all-totals-long, all-done, all-room, all-next, all-refused, no-words, none-scored}
 use Rattle.sentences.proofs.write_all.Statement.{statement}
 use Rattle.sentences.proofs.write_all.Tie as tie
 
@@ -72,7 +72,7 @@ power-requires c κs = let s = c .before .before .before .before .before .before
 loop-holds : tie.Need-loop-holds Inv-loop μ-loop
 loop-holds c =
     let s = c .before .before .before .before .before .before .before in
-    (omega arith, none-done (array s) (us s) (s .args .k) (s .pre .1 .1 .0 .0) (s .args .words .now) (s .args .totals .now) (words-fit s) (totals-fit s))
+    (omega arith, unfold flat in written-none (array s) (s .args .words .now) (s .args .totals .now))
 
 -- the function's entry, and what start answered
 abbrev entry : tie.At-loop Inv-loop μ-loop → tie.Start Inv-loop μ-loop

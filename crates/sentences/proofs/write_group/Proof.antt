@@ -29,8 +29,9 @@ use Rattle.sentences.specs.Listing.{sentenceTotal, isScored}
 use Rattle.sentences.specs.Inner.{sentenceAt, AllWritten}
 use Rattle.sentences.proofs.Sentences.{length-sentenceAt}
 use Rattle.sentences.proofs.NthSentence.{front-long}
-use Rattle.sentences.proofs.Calls.{model-ok, front-ok, front-unscored, last-unscored, last-scored, total-fits}
-use Rattle.sentences.proofs.Groups.{group-words-long, group-totals-long, group-done, group-room, group-refused, group-next, group-none}
+use Rattle.sentences.proofs.Calls.{start-ok, front-ok, front-unscored, last-unscored, last-scored, total-fits}
+use Rattle.sentences.proofs.Written.{written-none}
+use Rattle.sentences.proofs.Groups.{group-words-long, group-totals-long, group-done, group-room, group-refused, group-next}
 use Rattle.sentences.proofs.write_group.Statement.{statement}
 use Rattle.sentences.proofs.write_group.Tie as tie
 
@@ -95,7 +96,7 @@ sum-words-requires : tie.Need-sum-words-requires Inv-loop μ-loop
 sum-words-requires c κs =
     let n = c .before in
     let s = n .before .before .before in
-    (s .pre .0 .array, (n .before .order-of .ensures, (rw (n .before .order-of .ensures) (unfold modelIn storeIn in model-ok (s .args .base .now) (s .args .check .now) (s .args .state) (s .pre .0)), omega (arith, slice-aggregate-sum-words c, s .pre .1 .1 .0))))
+    (s .pre .0 .array, (n .before .order-of .ensures, (rw (n .before .order-of .ensures) (unfold modelIn storeIn in start-ok (s .args .base .now) (s .args .check .now) (s .args .state) (s .pre .0)), omega (arith, slice-aggregate-sum-words c, s .pre .1 .1 .0))))
 
 -- what they came to
 abbrev entry : tie.After-sum-words Inv-loop μ-loop → tie.Start Inv-loop μ-loop
@@ -117,14 +118,14 @@ returns c =
     let x = c .before .before in
     let s = entry x in
     let a = s .args in
-    group-refused (array s) (us s) (front s) (a .k) (long s) (a .words .now) (a .totals .now) (words-fit s) (totals-fit s) 0 (omega arith) (a .words .now) (a .totals .now) (group-none (array s) (us s) (front s) (a .k) (long s) (a .words .now) (a .totals .now) (words-fit s) (totals-fit s)) (omega (arith, counted s, s .pre .1 .0 .0 .0))
+    group-refused (array s) (us s) (front s) (a .k) (long s) (a .words .now) (a .totals .now) (words-fit s) (totals-fit s) 0 (omega arith) (a .words .now) (a .totals .now) (written-none (array s) (a .words .now) (a .totals .now)) (omega (arith, counted s, s .pre .1 .0 .0 .0))
     (front-unscored (a .base .now) (a .check .now) (a .state) (s .pre .0) (front s) (sum x) (sum-is x) (getD (us s) 0 0) (short s) (c .if1 .taken))
 
 loop-holds : tie.Need-loop-holds Inv-loop μ-loop
 loop-holds c =
     let s = entry (c .before .before .before) in
     let a = s .args in
-    (omega arith, group-none (array s) (us s) (front s) (a .k) (long s) (a .words .now) (a .totals .now) (words-fit s) (totals-fit s))
+    (omega arith, written-none (array s) (a .words .now) (a .totals .now))
 
 mul-last : tie.Need-mul-last Inv-loop μ-loop
 mul-last c = search needs
@@ -257,7 +258,7 @@ both c =
 add-totals : tie.Need-add-totals Inv-loop μ-loop
 add-totals c =
     let s = start (turn (told c) .before) in
-    subst (λ (x : ℤ). SFits w64 x) (sym (both c)) (total-fits (s .args .base .now) (s .args .check .now) (s .pre .0 .array) (front s ++ (w (turn (told c)) ∷ [])))
+    subst (λ (x : ℤ). SFits w64 x) (sym (both c)) (total-fits (s .args .base .now) (s .args .check .now) (front s ++ (w (turn (told c)) ∷ [])))
 
 mul-t26 : tie.Need-mul-t26 Inv-loop μ-loop
 mul-t26 c = let i = turn (told c) in omega (arith, i .loop-test .taken, start (i .before) .pre .1 .0 .0)

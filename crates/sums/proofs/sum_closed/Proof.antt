@@ -1,37 +1,33 @@
 -- `sums::sum_closed` meets its contract. The loop's invariant: what is left are the points of the words from the i-th on. Assumes nothing.
-use mathlib.Core.Path.{_≡_, refl, sym, ap, ap₂, _∙_, subst}
-use mathlib.Core.Bool.{Bool}
+use mathlib.Core.Path.{_≡_, sym, ap, ap₂, _∙_, subst}
 use mathlib.Core.List.{List, [], _∷_}
 use Prim.Native.Nat.{ℕ, _*_, _-_, _≤_, _<_}
 use native.Mathlib.Omega.{arith}
-use borrow.Author.Needs.{needs, sfits-of}
+use borrow.Author.Needs.{needs}
 use lib.ListN.{getD}
-use lib.IntN.{ℤ, pos, natAbs}
+use lib.IntN.{ℤ, pos, negsuc, natAbs}
 use mir.Syntax.{w32, w64}
 use mir.Val.{toZ, ofZ, SFits}
 use mir.Facts.{toZ-ofZ}
 use Rattle.integer.proofs.Arithmetic.{zarith, abs, to-wide}
-use Rattle.backoff.specs.Limits.{unknownWord, endWord, orderLimit, largestBackoff}
+use Rattle.backoff.specs.Limits.{endWord, orderLimit, largestBackoff}
 use Rattle.backoff.specs.NineNumbers.{stateIn}
 use Rattle.backoff.specs.State.{State as Carried}
 use Rattle.backoff.specs.Store.{Store, stuck, wordStep}
-use Rattle.double_array.specs.DoubleArray.{childAt, rootChild, storeIn}
+use Rattle.double_array.specs.DoubleArray.{freeCheck, childAt, storeIn}
 use Rattle.double_array.specs.declared.Child.the-variants.{At}
-use Rattle.double_array.proofs.DoubleArray.{opened-sizes, opened-head, opened-order, child-inside}
+use Rattle.double_array.proofs.DoubleArray.{opened-sizes, opened-head, opened-order, root-child, child-inside}
 use Rattle.carried_state.specs.declared.Packed.{Packed}
 use Rattle.carried_state.specs.Numbers.{numbersOf}
 use Rattle.carried_state.specs.Packed.{heldIn, Carries}
-use Rattle.carried_state.proofs.Carried.{Four, count-low, all-in-words, all-in-backoff, packed-held, packed-carries}
-use Rattle.word_step.specs.declared.First.{First}
-use Rattle.word_step.specs.declared.First.the-variants.{From}
-use Rattle.word_step.specs.declared.Kept.{Kept}
-use Rattle.word_step.specs.declared.Walked.{Walked}
-use Rattle.word_step.specs.declared.Walked.the-variants.{Whole, Stuck}
-use Rattle.word_step.specs.Inner.{firstOf, Read, WalkedOver, ScoredAs}
-use Rattle.word_step.proofs.Stepping.{first-child, first-missing, first-broken, passed-few, word-is-word}
+use Rattle.carried_state.proofs.Carried.{Four, packable, packed-held, packed-carries}
+use Rattle.word_step.specs.declared.Stepped.the-variants.{Scored, Refused as NotScored}
+use Rattle.word_step.specs.Answers.{stepOf}
+use Rattle.word_step.specs.Inner.{WalkedOver, SteppedTo}
+use Rattle.word_step.proofs.Stepping.{missing-refused, step-told, answerable, stepped}
 use Rattle.sums.specs.declared.Closed.the-variants.{Refused}
 use Rattle.sums.specs.Closing.{pointsOver}
-use Rattle.sums.proofs.Closing.{Closing, closing-begins, closing-refused, closing-ends, held, points-small, closing-on}
+use Rattle.sums.proofs.Closing.{Closing, closing-begins, closing-refused, closing-ends, closing-carries, points-small, closing-on}
 use Rattle.sums.proofs.sum_closed.Statement.{statement}
 use Rattle.sums.proofs.sum_closed.Tie as tie
 
@@ -52,10 +48,7 @@ arrays : (s : tie.Start Inv-loop μ-loop) → Four (s .args .state)
 arrays s = record { words = search needs; backoffs = search needs }
 
 pack-requires : tie.Need-pack-requires Inv-loop μ-loop
-pack-requires s κs =
-    let n = s .args .order in
-    let k = s .pre .1 .1 in
-    (count-low n (s .args .state) (arrays s) (limit s) k, (all-in-words n (s .args .state) (arrays s) (limit s) k, all-in-backoff n (s .args .state) (arrays s) (limit s) k))
+pack-requires s κs = packable (s .args .order) (s .args .state) (arrays s) (limit s) (s .pre .1 .1)
 
 lent-requires : tie.Need-lent-requires Inv-loop μ-loop
 lent-requires c κs = search needs
@@ -67,52 +60,55 @@ given c =
     ap₂ heldIn (c .before .pack .ensures) (c .lent .ensures) ∙ packed-held (s .args .order) (s .args .state) (arrays s) (limit s) (s .pre .1 .1)
 
 begins : {S : Store} {ws : List ℕ} {n : ℕ} {packed carried : Packed} {lent backoffs : List ℤ} → S .order ≡ n → carried ≡ packed → backoffs ≡ lent → Carries n packed lent → Closing S (heldIn carried backoffs) ws carried backoffs (pos 0) 0
-begins o d e h = closing-begins _ _ _ _ _ refl (rw (d, e, o) h)
+begins o d e h = closing-begins _ _ _ _ (rw (d, e, o) h)
 
 loop-holds : tie.Need-loop-holds Inv-loop μ-loop
 loop-holds c =
     let s = c .before .before in
     begins (order-is s) (c .before .pack .ensures) (c .lent .ensures) (packed-carries (s .args .order) (s .args .state) (arrays s) (limit s) (s .pre .1 .1))
 
-mul-first-node : tie.Need-mul-first-node Inv-loop μ-loop
-mul-first-node c = search needs
-
-array-read-first-node : tie.Need-array-read-first-node Inv-loop μ-loop
-array-read-first-node c = omega (arith, c .loop-test .taken)
-
 -- the function's entry
 abbrev entry : tie.At-loop Inv-loop μ-loop → tie.Start Inv-loop μ-loop
 entry l = l .before .before .before
 
-first-node-requires : tie.Need-first-node-requires Inv-loop μ-loop
-first-node-requires c κs = let s = entry (c .before) in opened-head (s .args .base .now) (s .args .check .now) (s .pre .0) .root-check
+mul-replaced : tie.Need-mul-replaced Inv-loop μ-loop
+mul-replaced c = search needs
+
+array-read-replaced : tie.Need-array-read-replaced Inv-loop μ-loop
+array-read-replaced c = omega (arith, c .loop-test .taken)
+
+-- slot 1 is the root's marker
+root-check : (s : tie.Start Inv-loop μ-loop) → getD (s .args .check .now) 1 freeCheck ≡ negsuc 0
+root-check s = opened-head (s .args .base .now) (s .args .check .now) (s .pre .0) .root-check
+
+replaced-requires : tie.Need-replaced-requires Inv-loop μ-loop
+replaced-requires c κs = root-check (entry (c .before))
 
 -- a turn has a word
 more : (c : tie.In-loop Inv-loop μ-loop) → c .before .loop .i < 2
 more c = omega (arith, c .loop-test .taken)
 
 -- the loop's turn, its words and the next of them, and the state that it is scored from
-abbrev turn : tie.After-first-node Inv-loop μ-loop → tie.At-loop Inv-loop μ-loop
+abbrev turn : tie.After-replaced Inv-loop μ-loop → tie.At-loop Inv-loop μ-loop
 turn c = c .before .before
 
 abbrev words : tie.At-loop Inv-loop μ-loop → List ℕ
 words l = entry l .args .last ∷ endWord ∷ []
 
-abbrev w : tie.After-first-node Inv-loop μ-loop → ℕ
+abbrev w : tie.After-replaced Inv-loop μ-loop → ℕ
 w c = getD (words (turn c)) (turn c .loop .i) 0
 
-abbrev S : tie.After-first-node Inv-loop μ-loop → Store
+abbrev S : tie.After-replaced Inv-loop μ-loop → Store
 S c = storeIn (entry (turn c) .args .base .now) (entry (turn c) .args .check .now)
 
-abbrev scored-from : tie.After-first-node Inv-loop μ-loop → Carried
+abbrev scored-from : tie.After-replaced Inv-loop μ-loop → Carried
 scored-from c = heldIn (turn c .loop .carried) (turn c .loop .backoffs)
 
--- the first node is what `first_node` answered
-first-told : (c : tie.After-first-node Inv-loop μ-loop) (r : First) → c .first-node .result ≡ r → firstOf (w c) (rootChild (entry (turn c) .args .check .now) (w c)) (rootChild (entry (turn c) .args .check .now) unknownWord) ≡ r
-first-told c r e = sym (c .first-node .ensures) ∙ e
+root-child-requires : tie.Need-root-child-requires Inv-loop μ-loop
+root-child-requires c κs = root-check (entry (turn c))
 
 -- a word that is refused
-refuses : (c : tie.After-first-node Inv-loop μ-loop) → wordStep (S c) (scored-from c) (w c) ≡ stuck → Refused ≡ pointsOver (S c) (words (turn c)) (stateIn (numbersOf (entry (turn c) .args .state)))
+refuses : (c : tie.After-replaced Inv-loop μ-loop) → wordStep (S c) (scored-from c) (w c) ≡ stuck → Refused ≡ pointsOver (S c) (words (turn c)) (stateIn (numbersOf (entry (turn c) .args .state)))
 refuses c e =
     let l = turn c in
     closing-refused (S c) _ (words l) (l .loop .carried) (l .loop .backoffs) (toZ w64 (l .loop .total)) (l .loop .i) (l .loop .inv) (more (c .before)) e
@@ -127,34 +123,32 @@ enum-told c = search needs
 returns : tie.Need-returns Inv-loop μ-loop
 returns c =
     let f = c .before .before in
-    let s = entry (turn f) in
-    refuses f (first-missing (s .args .base .now) (s .args .check .now) (s .pre .0) (w f) (scored-from f) (first-told f _ (c .enum-told .given .1)))
+    let r = f .before in
+    let s = entry (turn r) in
+    refuses r (missing-refused (s .args .base .now) (s .args .check .now) (s .pre .0) (w r) (r .replaced .result) (r .replaced .ensures) (scored-from r) (sym (f .root-child .ensures) ∙ c .enum-told .given .1))
 
--- the first node: the slot of the root's child for the word that is scored
-abbrev first : tie.After-slot Inv-loop μ-loop → tie.After-first-node Inv-loop μ-loop
-first c = c .before .before
+-- the word that is scored, and the slot of the root's child for it
+abbrev chosen : tie.After-slot Inv-loop μ-loop → tie.After-replaced Inv-loop μ-loop
+chosen c = c .before .before .before
+
+abbrev word : tie.After-slot Inv-loop μ-loop → ℕ
+word c = chosen c .replaced .result
 
 abbrev slot : tie.After-slot Inv-loop μ-loop → ℕ
 slot c = c .slot .given .0 .0
 
-abbrev word : tie.After-slot Inv-loop μ-loop → ℕ
-word c = c .slot .given .0 .1 .0
-
-first-is : (c : tie.After-slot Inv-loop μ-loop) → firstOf (w (first c)) (rootChild (entry (turn (first c)) .args .check .now) (w (first c))) (rootChild (entry (turn (first c)) .args .check .now) unknownWord) ≡ From (slot c) (word c)
-first-is c = first-told (first c) _ (c .slot .given .1)
-
-child-is : (c : tie.After-slot Inv-loop μ-loop) → childAt (entry (turn (first c)) .args .base .now) (entry (turn (first c)) .args .check .now) 0 (word c) ≡ At (slot c)
+child-is : (c : tie.After-slot Inv-loop μ-loop) → childAt (entry (turn (chosen c)) .args .base .now) (entry (turn (chosen c)) .args .check .now) 0 (word c) ≡ At (slot c)
 child-is c =
-    let s = entry (turn (first c)) in
-    first-child (s .args .base .now) (s .args .check .now) (s .pre .0) (w (first c)) (slot c) (word c) (first-is c)
+    let s = entry (turn (chosen c)) in
+    sym (root-child (s .args .base .now) (s .args .check .now) (s .pre .0) (word c)) ∙ sym (c .before .before .root-child .ensures) ∙ c .slot .given .1
 
 walk-requires : tie.Need-walk-requires Inv-loop μ-loop
 walk-requires c κs =
     let t = c .before .before in
-    let l = turn (first t) in
+    let l = turn (chosen t) in
     let s = entry l in
     let z = opened-sizes (s .args .base .now) (s .args .check .now) (s .pre .0) in
-    (s .pre .0, (omega (arith, child-inside (s .args .base .now) (s .args .check .now) 0 (word t) (slot t) (child-is t)), held (s .args .base .now) (s .args .check .now) (l .loop .inv)))
+    (s .pre .0, (omega (arith, child-inside (s .args .base .now) (s .args .check .now) 0 (word t) (slot t) (child-is t)), closing-carries (s .args .base .now) (s .args .check .now) (l .loop .inv)))
 
 -- the walk's first node
 abbrev begun : tie.After-walk Inv-loop μ-loop → tie.After-slot Inv-loop μ-loop
@@ -163,25 +157,49 @@ begun c = c .before .before .before
 last-node-requires : tie.Need-last-node-requires Inv-loop μ-loop
 last-node-requires c κs =
     let k = c .before in
-    let l = turn (first (begun k)) in
+    let l = turn (chosen (begun k)) in
     let s = entry l in
     let a = s .args in
-    ((s .pre .0, s .pre .1 .0), (omega (arith, held (a .base .now) (a .check .now) (l .loop .inv) .few, opened-order (a .base .now) (a .check .now) (s .pre .0)), k .walk .ensures .0 .0, k .walk .ensures .0 .1))
+    ((s .pre .0, s .pre .1 .0), (omega (arith, closing-carries (a .base .now) (a .check .now) (l .loop .inv) .few, opened-order (a .base .now) (a .check .now) (s .pre .0)), k .walk .ensures .0 .0, k .walk .ensures .0 .1))
 
 -- the lent back-offs as the walk left them, and what it told
-abbrev walk : tie.After-last-node Inv-loop μ-loop → tie.After-walk Inv-loop μ-loop
-walk c = c .before .before
+abbrev first : tie.After-last-node Inv-loop μ-loop → tie.After-slot Inv-loop μ-loop
+first c = begun (c .before .before)
 
 abbrev backoffs : tie.After-last-node Inv-loop μ-loop → List ℤ
 backoffs c = c .last-node .last .1 .1 .1 .1 .1 .0
 
-walked : (c : tie.After-last-node Inv-loop μ-loop) (r : Walked) → c .last-node .result ≡ r → WalkedOver (S (first (begun (walk c)))) (scored-from (first (begun (walk c)))) (word (begun (walk c))) r (backoffs c)
-walked c r e =
-    let t = begun (walk c) in
-    subst (λ (k : Walked). WalkedOver (S (first t)) (scored-from (first t)) (word t) k (backoffs c)) e (c .last-node .ensures (scored-from (first t)) (word t) (walk c .walk .ensures .1 (word t) (child-is t)))
+walked : (c : tie.After-last-node Inv-loop μ-loop) → WalkedOver (S (chosen (first c))) (scored-from (chosen (first c))) (word (first c)) (c .last-node .result) (backoffs c)
+walked c =
+    let t = first c in
+    c .last-node .ensures (scored-from (chosen t)) (word t) (c .before .before .walk .ensures .1 (word t) (child-is t))
 
-enum-known-walked : tie.Need-enum-known-walked Inv-loop μ-loop
-enum-known-walked c = search needs
+answered-requires : tie.Need-answered-requires Inv-loop μ-loop
+answered-requires c κs =
+    let t = first c in
+    let l = turn (chosen t) in
+    let s = entry l in
+    let a = s .args in
+    answerable (a .base .now) (a .check .now) (s .pre .0) (l .loop .carried) (l .loop .backoffs) (closing-carries (a .base .now) (a .check .now) (l .loop .inv)) (word t) (slot t) (child-is t) (c .last-node .result) (backoffs c) (walked c)
+
+-- the word's answer
+abbrev walk : tie.After-answered Inv-loop μ-loop → tie.After-last-node Inv-loop μ-loop
+walk c = c .before
+
+abbrev picked : tie.After-answered Inv-loop μ-loop → tie.After-replaced Inv-loop μ-loop
+picked c = chosen (first (walk c))
+
+step-is : (c : tie.After-answered Inv-loop μ-loop) → SteppedTo (entry (turn (picked c)) .args .order) (wordStep (S (picked c)) (scored-from (picked c)) (w (picked c))) (c .answered .result) (backoffs (walk c))
+step-is c =
+    let k = walk c in
+    let t = first k in
+    let l = turn (chosen t) in
+    let s = entry l in
+    let a = s .args in
+    stepped (a .base .now) (a .check .now) (s .pre .0) (l .loop .carried) (l .loop .backoffs) (closing-carries (a .base .now) (a .check .now) (l .loop .inv)) (word t) (slot t) (child-is t) (a .order) (w (chosen t)) (s .pre .1 .0) (chosen t .replaced .ensures) (k .last-node .result) (backoffs k) (walked k) (c .answered .result) (c .answered .ensures)
+
+enum-known-stepped : tie.Need-enum-known-stepped Inv-loop μ-loop
+enum-known-stepped c = search needs
 
 enum-told-2 : tie.Need-enum-told-2 Inv-loop μ-loop
 enum-told-2 c = search needs
@@ -189,71 +207,46 @@ enum-told-2 c = search needs
 returns-2 : tie.Need-returns-2 Inv-loop μ-loop
 returns-2 c =
     let k = c .before .before in
-    let t = begun (walk k) in
-    let s = entry (turn (first t)) in
-    refuses (first t) (first-broken (s .args .base .now) (s .args .check .now) (s .pre .0) (w (first t)) (slot t) (word t) (first-is t) (scored-from (first t)) (walked k Stuck (c .enum-told2 .given .1)))
+    refuses (picked k) (step-told (step-is k) NotScored (c .enum-told2 .given .1))
 
--- what the walk has read
-abbrev points : tie.After-walked Inv-loop μ-loop → ℤ
-points c = c .walked .given .0 .0
+-- what the word scored, and the state that it leaves
+abbrev answer : tie.After-stepped Inv-loop μ-loop → tie.After-answered Inv-loop μ-loop
+answer c = c .before .before
 
-abbrev passed : tie.After-walked Inv-loop μ-loop → ℕ
-passed c = c .walked .given .0 .1 .0
+abbrev points : tie.After-stepped Inv-loop μ-loop → ℤ
+points c = c .stepped .given .0 .0 .points
 
-abbrev kept : tie.After-walked Inv-loop μ-loop → Kept
-kept c = c .walked .given .0 .1 .1 .0
+abbrev next : tie.After-stepped Inv-loop μ-loop → Packed
+next c = c .stepped .given .0 .1 .0
 
-abbrev extended : tie.After-walked Inv-loop μ-loop → Bool
-extended c = c .walked .given .0 .1 .1 .1 .0
+word-is : (c : tie.After-stepped Inv-loop μ-loop) → wordStep (S (picked (answer c))) (scored-from (picked (answer c))) (w (picked (answer c))) ≡ stepOf (Scored (c .stepped .given .0 .0) (next c)) (backoffs (walk (answer c)))
+word-is c = step-told (step-is (answer c)) _ (c .stepped .given .1)
 
-abbrev ended : tie.After-walked Inv-loop μ-loop → tie.After-last-node Inv-loop μ-loop
-ended c = c .before .before
+-- as the code has taken it out
+abbrev scored-word : tie.After-struct-told Inv-loop μ-loop → tie.After-stepped Inv-loop μ-loop
+scored-word c = c .before .before .before
 
-read : (c : tie.After-walked Inv-loop μ-loop) → Read (S (first (begun (walk (ended c))))) (scored-from (first (begun (walk (ended c))))) (word (begun (walk (ended c)))) (points c) (passed c) (kept c) (extended c) (backoffs (ended c))
-read c = walked (ended c) (Whole (points c) (passed c) (kept c) (extended c)) (c .walked .given .1)
-
-points-fits : (c : tie.After-known-told2 Inv-loop μ-loop) → SFits w32 (points (c .before))
-points-fits c = sfits-of (c .known-told2 .given .0 .1)
-
-scored-requires : tie.Need-scored-requires Inv-loop μ-loop
-scored-requires c κs =
-    let m = c .before in
-    let t = begun (walk (ended m)) in
-    let l = turn (first t) in
-    let s = entry l in
-    let a = s .args in
-    let k = held (a .base .now) (a .check .now) (l .loop .inv) in (
-      word-is-word (a .base .now) (a .check .now) (s .pre .0) (l .loop .carried) (l .loop .backoffs) k (word t) (slot t) (child-is t) (points m) (passed m) (kept m) (extended m) (backoffs (ended m)) (read m),
-      passed-few (a .base .now) (a .check .now) (s .pre .0) (l .loop .carried) (l .loop .backoffs) k (word t) (slot t) (child-is t) (points m) (passed m) (kept m) (extended m) (backoffs (ended m)) (read m),
-    )
+points-fits : (c : tie.After-struct-told Inv-loop μ-loop) → SFits w32 (points (scored-word c))
+points-fits c = search needs
 
 cast-total : tie.Need-cast-total Inv-loop μ-loop
-cast-total c = to-wide tt (points-fits (c .before))
+cast-total c = to-wide tt (points-fits c)
 
 -- as the cast left them
-points-wide : (c : tie.After-scored Inv-loop μ-loop) → toZ w64 (ofZ w64 (toZ w32 (ofZ w32 (points (c .before .before))))) ≡ points (c .before .before)
-points-wide c = cc (toZ-ofZ (cast-total c), toZ-ofZ (points-fits (c .before)))
+points-wide : (c : tie.After-struct-told Inv-loop μ-loop) → toZ w64 (ofZ w64 (toZ w32 (ofZ w32 (points (scored-word c))))) ≡ points (scored-word c)
+points-wide c = cc (toZ-ofZ (cast-total c), toZ-ofZ (points-fits c))
 
--- the word's answer
-answer : (c : tie.After-scored Inv-loop μ-loop) → ScoredAs (turn (first (begun (walk (ended (c .before .before))))) .loop .carried .words) (word (begun (walk (ended (c .before .before))))) (points (c .before .before)) (passed (c .before .before)) (kept (c .before .before)) (extended (c .before .before)) (c .scored .result)
-answer c =
-    let m = c .before .before in
-    let t = begun (walk (ended m)) in
-    subst (λ (x : ℤ). ScoredAs (turn (first t) .loop .carried .words) (word t) x (passed m) (kept m) (extended m) (c .scored .result)) (toZ-ofZ (points-fits (c .before))) (c .scored .ensures)
-
-small : (c : tie.After-scored Inv-loop μ-loop) → natAbs (points (c .before .before)) ≤ orderLimit * largestBackoff
+small : (c : tie.After-stepped Inv-loop μ-loop) → natAbs (points c) ≤ orderLimit * largestBackoff
 small c =
-    let m = c .before .before in
-    let t = begun (walk (ended m)) in
-    let l = turn (first t) in
+    let l = turn (picked (answer c)) in
     let s = entry l in
-    points-small (s .args .base .now) (s .args .check .now) (s .pre .0) _ (words l) (l .loop .carried) (l .loop .backoffs) (toZ w64 (l .loop .total)) (l .loop .i) (l .loop .inv) (more (first t .before)) (slot t) (word t) (first-is t) (child-is t) (points m) (passed m) (kept m) (extended m) (backoffs (ended m)) (read m) (c .scored .result) (answer c)
+    points-small (s .args .base .now) (s .args .check .now) (s .pre .0) _ (words l) (l .loop .carried) (l .loop .backoffs) (toZ w64 (l .loop .total)) (l .loop .i) (l .loop .inv) (points c) _ (next c) (backoffs (walk (answer c))) (word-is c)
 
 add-total : tie.Need-add-total Inv-loop μ-loop
 add-total c =
-    let m = c .before .before in
-    let l = turn (first (begun (walk (ended m)))) in
-    omega (zarith, points-wide c, small c, l .loop .inv .small, abs (points m), abs (toZ w64 (l .loop .total)), more (first (begun (walk (ended m))) .before))
+    let m = scored-word c in
+    let l = turn (picked (answer m)) in
+    omega (zarith, points-wide c, small m, l .loop .inv .small, abs (points m), abs (toZ w64 (l .loop .total)), more (picked (answer m) .before))
 
 add-i : tie.Need-add-i Inv-loop μ-loop
 add-i c = omega arith
@@ -263,12 +256,12 @@ loop-less c = omega arith
 
 loop-again : tie.Need-loop-again Inv-loop μ-loop
 loop-again c =
-    let m = c .before .before .before in
-    let t = begun (walk (ended m)) in
-    let l = turn (first t) in
+    let m = scored-word c in
+    let k = answer m in
+    let l = turn (picked k) in
     let s = entry l in
-    rw (toZ-ofZ (add-total (c .before)), points-wide (c .before))
-    (closing-on (s .args .base .now) (s .args .check .now) (s .pre .0) _ (words l) (l .loop .carried) (l .loop .backoffs) (toZ w64 (l .loop .total)) (l .loop .i) (l .loop .inv) (more (first t .before)) (slot t) (word t) (first-is t) (child-is t) (points m) (passed m) (kept m) (extended m) (backoffs (ended m)) (read m) (c .before .scored .result) (answer (c .before)))
+    rw (toZ-ofZ (add-total c), points-wide c)
+    (closing-on (s .args .base .now) (s .args .check .now) (s .pre .0) _ (words l) (l .loop .carried) (l .loop .backoffs) (toZ w64 (l .loop .total)) (l .loop .i) (l .loop .inv) (points m) _ (next m) (backoffs (walk k)) (word-is m) (more (picked k .before)) (subst (λ (n : ℕ). Carries n (next m) (backoffs (walk k))) (s .pre .1 .0) (step-is k .carries _ _ (m .stepped .given .1))))
 
 returns-3 : tie.Need-returns-3 Inv-loop μ-loop
 returns-3 c =
@@ -286,18 +279,19 @@ sum-closed-spec =
     pack-requires
     lent-requires
     loop-holds
-    mul-first-node
-    array-read-first-node
-    first-node-requires
+    mul-replaced
+    array-read-replaced
+    replaced-requires
+    root-child-requires
     enum-known-slot
     enum-told
     returns
     walk-requires
     last-node-requires
-    enum-known-walked
+    answered-requires
+    enum-known-stepped
     enum-told-2
     returns-2
-    scored-requires
     cast-total
     add-total
     add-i

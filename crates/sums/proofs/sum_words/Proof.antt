@@ -2,17 +2,17 @@
 -- state that they leave. Assumes nothing.
 use mathlib.Core.Path.{_≡_, refl, sym, ap, _∙_}
 use mathlib.Core.List.{List}
-use Prim.Native.Nat.{ℕ, _*_, _-_, _≤_}
+use Prim.Native.Nat.{ℕ, _-_, _≤_}
 use native.Mathlib.Omega.{arith}
 use borrow.Author.Needs.{needs, sfits-of}
 use lib.ListN.{length, take, drop, length-drop}
 use lib.Seq.{length-take-le}
-use lib.IntN.{ℤ, natAbs, _+ℤ_}
+use lib.IntN.{ℤ, _+ℤ_}
 use mir.Syntax.{w64}
 use mir.Val.{toZ, ofZ}
 use mir.Facts.{toZ-ofZ}
 use Rattle.integer.proofs.Arithmetic.{zarith, abs}
-use Rattle.backoff.specs.Limits.{orderLimit, largestBackoff}
+use Rattle.backoff.specs.Limits.{orderLimit}
 use Rattle.backoff.specs.Run.{Run, Answer}
 use Rattle.backoff.specs.Store.{Store}
 use Rattle.double_array.specs.DoubleArray.{storeIn}
@@ -21,7 +21,7 @@ use Rattle.carried_state.specs.Numbers.{numbersOf}
 use Rattle.carried_state.proofs.Carried.{Four, length-numbers}
 use Rattle.word_step.proofs.Rows.{rows-in-probability, rows-in-backoff, rows-in-words}
 use Rattle.score.specs.Answers.{answerOf}
-use Rattle.sums.proofs.Pieces.{Pieced, pieced-begins, pieced-on, pieced-refused, refused-place, piece-small, pieced-ends}
+use Rattle.sums.proofs.Pieces.{Pieced, PieceTold, pieced-begins, pieced-ends, piece-told}
 use Rattle.sums.proofs.sum_words.Statement.{statement}
 use Rattle.sums.proofs.sum_words.Tie as tie
 
@@ -110,8 +110,8 @@ above c = omega (arith, c .before .before .before .before .piece-end .ensures)
 within : (c : tie.After-score-words Inv-loop μ-loop) → to c ≤ length (entry c .args .words .now)
 within c = c .before .before .before .before .piece-end .ensures .1 .0
 
-refused-place-in : (c : tie.After-score-words Inv-loop μ-loop) → (c .score-words .result .number ≡ 0 → ⊥) → c .score-words .result .place ≤ to c - turn c .loop .a
-refused-place-in c n = refused-place (S c) (numbersOf (entry c .args .state)) (entry c .args .words .now) (rows-in-probability (entry c .args .base .now) (entry c .args .check .now)) (rows-in-backoff (entry c .args .base .now) (entry c .args .check .now)) (rows-in-words (entry c .args .base .now) (entry c .args .check .now)) (order-is (entry c) .1) (numbersOf (turn c .loop .end)) (toZ w64 (turn c .loop .sum)) (turn c .loop .a) (turn c .loop .inv .pieced) (to c) (above c) (within c) (asked c) (answered c) (c .score-words .ensures) n
+told : (c : tie.After-score-words Inv-loop μ-loop) → PieceTold (S c) (numbersOf (entry c .args .state)) (entry c .args .words .now) (toZ w64 (turn c .loop .sum)) (turn c .loop .a) (to c) (answered c)
+told c = piece-told (S c) (numbersOf (entry c .args .state)) (entry c .args .words .now) (rows-in-probability (entry c .args .base .now) (entry c .args .check .now)) (rows-in-backoff (entry c .args .base .now) (entry c .args .check .now)) (rows-in-words (entry c .args .base .now) (entry c .args .check .now)) (order-is (entry c) .1) (numbersOf (turn c .loop .end)) (toZ w64 (turn c .loop .sum)) (turn c .loop .a) (turn c .loop .inv .pieced) (to c) (above c) (within c) (asked c) (answered c) (c .score-words .ensures)
 
 cast-t24 : tie.Need-cast-t24 Inv-loop μ-loop
 cast-t24 c = let l = c .before .before .before .before .before .before .before .before .before .before in omega (arith, l .loop .inv .pieced .at, l .before .before .pre .1 .1 .1)
@@ -119,27 +119,19 @@ cast-t24 c = let l = c .before .before .before .before .before .before .before .
 add-t25 : tie.Need-add-t25 Inv-loop μ-loop
 add-t25 c =
     let d = c .before .before .before .before .before in
-    omega (arith, refused-place-in d (c .before .if1 .taken), within d, above d, entry d .pre .1 .1 .1)
+    omega (arith, told d .place (c .before .if1 .taken), within d, above d, entry d .pre .1 .1 .1)
 
 returns : tie.Need-returns Inv-loop μ-loop
-returns c =
-    let d = c .before .before .before .before .before in
-    sym (pieced-refused (S d) (numbersOf (entry d .args .state)) (entry d .args .words .now) (rows-in-probability (entry d .args .base .now) (entry d .args .check .now)) (rows-in-backoff (entry d .args .base .now) (entry d .args .check .now)) (rows-in-words (entry d .args .base .now) (entry d .args .check .now)) (order-is (entry d) .1) (numbersOf (turn d .loop .end)) (toZ w64 (turn d .loop .sum)) (turn d .loop .a) (turn d .loop .inv .pieced) (to d) (above d) (within d) (asked d) (answered d) (d .score-words .ensures) (c .before .if1 .taken))
+returns c = sym (told (c .before .before .before .before .before) .refused (c .before .if1 .taken))
 
 -- the piece's total, as it is added
 total-back : (c : tie.After-struct-told Inv-loop μ-loop) → toZ w64 (ofZ w64 (c .before .before .before .before .before .before .score-words .result .total)) ≡ c .before .before .before .before .before .before .score-words .result .total
 total-back c = toZ-ofZ (sfits-of (c .struct-told .given .1 .1 .0 .1))
 
-on : (c : tie.After-score-words Inv-loop μ-loop) → c .score-words .result .number ≡ 0 → Pieced (S c) (numbersOf (entry c .args .state)) (entry c .args .words .now) (numbersOf (c .score-words .result .end)) (toZ w64 (turn c .loop .sum) +ℤ c .score-words .result .total) (to c)
-on c n = pieced-on (S c) (numbersOf (entry c .args .state)) (entry c .args .words .now) (rows-in-probability (entry c .args .base .now) (entry c .args .check .now)) (rows-in-backoff (entry c .args .base .now) (entry c .args .check .now)) (rows-in-words (entry c .args .base .now) (entry c .args .check .now)) (order-is (entry c) .1) (numbersOf (turn c .loop .end)) (toZ w64 (turn c .loop .sum)) (turn c .loop .a) (turn c .loop .inv .pieced) (to c) (above c) (within c) (asked c) (answered c) (c .score-words .ensures) n
-
-small : (c : tie.After-score-words Inv-loop μ-loop) → c .score-words .result .number ≡ 0 → natAbs (c .score-words .result .total) ≤ (to c - turn c .loop .a) * (orderLimit * largestBackoff)
-small c n = piece-small (S c) (numbersOf (entry c .args .state)) (entry c .args .words .now) (rows-in-probability (entry c .args .base .now) (entry c .args .check .now)) (rows-in-backoff (entry c .args .base .now) (entry c .args .check .now)) (rows-in-words (entry c .args .base .now) (entry c .args .check .now)) (order-is (entry c) .1) (numbersOf (turn c .loop .end)) (toZ w64 (turn c .loop .sum)) (turn c .loop .a) (turn c .loop .inv .pieced) (to c) (above c) (within c) (asked c) (answered c) (c .score-words .ensures) n
-
 add-sum : tie.Need-add-sum Inv-loop μ-loop
 add-sum c =
     let d = c .before .before .before .before .before .before in
-    rw (total-back c) (omega (zarith, small d (c .before .before .if1 .left), turn d .loop .inv .pieced .small, abs (toZ w64 (turn d .loop .sum)), abs (d .score-words .result .total), above d, within d, entry d .pre .1 .1 .1))
+    rw (total-back c) (omega (zarith, told d .small (c .before .before .if1 .left), turn d .loop .inv .pieced .small, abs (toZ w64 (turn d .loop .sum)), abs (d .score-words .result .total), above d, within d, entry d .pre .1 .1 .1))
 
 loop-less : tie.Need-loop-less Inv-loop μ-loop
 loop-less c = let k = c .before .before .before .before .before .before .before .before .before .before .before in omega (arith, k .piece-end .ensures)
@@ -157,13 +149,13 @@ loop-again : tie.Need-loop-again Inv-loop μ-loop
 loop-again c =
     let t = c .before in
     let d = t .before .before .before .before .before .before in
-    again (toZ-ofZ (add-sum t) ∙ ap (λ (z : ℤ). toZ w64 (turn d .loop .sum) +ℤ z) (total-back t)) (same-points d ∙ turn d .loop .inv .points-long) (same-lengths d ∙ turn d .loop .inv .lengths-long) (on d (t .before .before .if1 .left))
+    again (toZ-ofZ (add-sum t) ∙ ap (λ (z : ℤ). toZ w64 (turn d .loop .sum) +ℤ z) (total-back t)) (same-points d ∙ turn d .loop .inv .points-long) (same-lengths d ∙ turn d .loop .inv .lengths-long) (told d .on (t .before .before .if1 .left))
 
 returns-2 : tie.Need-returns-2 Inv-loop μ-loop
 returns-2 c =
     let l = c .before in
     let s = l .before .before in
-    sym (pieced-ends (storeIn (s .args .base .now) (s .args .check .now)) (numbersOf (s .args .state)) (s .args .words .now) (rows-in-probability (s .args .base .now) (s .args .check .now)) (rows-in-backoff (s .args .base .now) (s .args .check .now)) (rows-in-words (s .args .base .now) (s .args .check .now)) (order-is s .1) (numbersOf (l .loop .end)) (toZ w64 (l .loop .sum)) (l .loop .a) (l .loop .inv .pieced) (c .loop-test .left))
+    sym (pieced-ends (storeIn (s .args .base .now) (s .args .check .now)) (numbersOf (s .args .state)) (s .args .words .now) (order-is s .1) (numbersOf (l .loop .end)) (toZ w64 (l .loop .sum)) (l .loop .a) (l .loop .inv .pieced) (c .loop-test .left))
 
 pub sum-words-spec : {M : Type 1} → statement M
 sum-words-spec =

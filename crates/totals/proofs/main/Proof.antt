@@ -5,7 +5,7 @@ use native.Mathlib.Omega.{arith}
 use borrow.Author.Needs.{needs}
 use lib.ListN.{length}
 use lib.Seq.{length-take-le}
-use Rattle.totals.proofs.Listing.{rows-few}
+use Rattle.totals_list.proofs.Listing.{rows-few}
 use Rattle.totals.proofs.main.Statement.{statement}
 use Rattle.totals.proofs.main.Tie as tie
 

@@ -1,6 +1,7 @@
 -- `totals::print_piece` meets its contract. Assumes nothing.
 use mathlib.Core.Path.{sym}
 use borrow.Author.Needs.{needs}
+use lib.Seq.{length-take-le}
 use Rattle.totals.proofs.print_piece.Statement.{statement}
 use Rattle.totals.proofs.print_piece.Tie as tie
 
@@ -19,7 +20,7 @@ array-share-prefix-out : tie.Need-array-share-prefix-out
 array-share-prefix-out c = search needs
 
 slice-aggregate-print : tie.Need-slice-aggregate-print
-slice-aggregate-print c = search needs
+slice-aggregate-print c = sym (length-take-le _ _ (array-share-prefix-out (c .before)))
 
 print-requires : tie.Need-print-requires
 print-requires c κs = search needs

@@ -6,7 +6,7 @@ use Prim.Native.Nat.{_+_, _*_, _≤_}
 use mathlib.Core.Path.{refl, sym}
 use lib.ListN.{length, take}
 use Rattle.bytes.specs.Bytes.{indexOf}
-use Rattle.totals.specs.Steps.{Begun}
+use Rattle.totals_lines.specs.Steps.{Begun}
 use Rattle.totals.proofs.print_text.Statement.{statement}
 use Rattle.totals.proofs.print_text.Tie as tie
 

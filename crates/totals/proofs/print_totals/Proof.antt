@@ -1,9 +1,6 @@
 -- `totals::print_totals` meets its contract. Assumes nothing.
-use mathlib.Core.Path.{ap, _∙_}
-use denote.Ref.{now}
-use Rattle.backoff.specs.Store.{Started}
-use Rattle.totals.proofs.Scoring.{start-is}
 use borrow.Author.Needs.{needs}
+use Rattle.totals.proofs.BuiltArrays.{ready}
 use Rattle.totals.proofs.print_totals.Statement.{statement}
 use Rattle.totals.proofs.print_totals.Tie as tie
 
@@ -12,8 +9,7 @@ start-requires c κs = search needs
 
 print-file-requires : tie.Need-print-file-requires
 print-file-requires c κs =
-    let s = c .before .before in
-    record { holds = s .pre; state-is = ap (λ (r : Started). r .state) (c .before .start .ensures .0) ∙ start-is (now (s .args .base)) (now (s .args .check)) (s .pre) }
+    ready _ _ (c .before .before .pre) (c .before .start .ensures .0)
 
 returns : tie.Need-returns
 returns c = search needs

@@ -27,20 +27,24 @@ abbrev μ-loop : tie.MeasureT-loop
 loop-holds : tie.Need-loop-holds Inv-loop μ-loop
 loop-holds c = (search needs, ap (allInForm (toZ w32 (ofZ w32 (c .before .args .least)))) (columns-start (c .before .args .width) (c .before .args .line .now) (c .before .args .count)))
 
+-- the column at i ends within the columns
+inside : (c : tie.In-loop Inv-loop μ-loop) → let a = c .before .before .before .args in a .width * c .before .loop .i + a .width ≤ a .width * a .count
+inside c = let a = c .before .before .before .args in column-end (a .width) (a .count) (c .before .loop .i) (c .loop-test .taken)
+
 mul-at : tie.Need-mul-at Inv-loop μ-loop
-mul-at c = let a = c .before .before .before .args in omega (arith, column-end (a .width) (a .count) (c .before .loop .i) (c .loop-test .taken))
+mul-at c = omega (arith, inside c)
 
 add-read-column : tie.Need-add-read-column Inv-loop μ-loop
-add-read-column c = let a = c .before .before .before .args in omega (arith, column-end (a .width) (a .count) (c .before .loop .i) (c .loop-test .taken))
+add-read-column c = omega (arith, inside c)
 
 sub-read-column : tie.Need-sub-read-column Inv-loop μ-loop
-sub-read-column c = let a = c .before .before .before .args in omega (arith, column-end (a .width) (a .count) (c .before .loop .i) (c .loop-test .taken))
+sub-read-column c = omega (arith, inside c)
 
 part-read-column-start : tie.Need-part-read-column-start Inv-loop μ-loop
-part-read-column-start c = let a = c .before .before .before .args in omega (arith, column-end (a .width) (a .count) (c .before .loop .i) (c .loop-test .taken))
+part-read-column-start c = omega (arith, inside c)
 
 part-read-column-end : tie.Need-part-read-column-end Inv-loop μ-loop
-part-read-column-end c = let a = c .before .before .before .args in omega (arith, column-end (a .width) (a .count) (c .before .loop .i) (c .loop-test .taken))
+part-read-column-end c = omega (arith, inside c)
 
 read-column-requires : tie.Need-read-column-requires Inv-loop μ-loop
 read-column-requires c κs = search needs

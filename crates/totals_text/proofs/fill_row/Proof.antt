@@ -1,6 +1,6 @@
 -- `totals_text::fill_row` meets its contract. Assumes nothing.
 use mathlib.Core.Path.{_∙_}
-use Prim.Native.Nat.{_-_}
+use Prim.Native.Nat.{_+_, _*_, _-_, _≤_}
 use native.Mathlib.Omega.{arith}
 use borrow.Author.Needs.{needs, sfits-of}
 use mir.Syntax.{w32}
@@ -22,20 +22,24 @@ loop-holds c =
     let a = c .before .args in
     fill-start columnValue (a .width) (a .line .now) (a .count) (a .row .now)
 
+-- the column at i ends within the columns
+inside : (c : tie.In-loop Inv-loop μ-loop) → let a = c .before .before .before .args in a .width * c .before .loop .i + a .width ≤ a .width * a .count
+inside c = let a = c .before .before .before .args in column-end (a .width) (a .count) (c .before .loop .i) (c .loop-test .taken)
+
 mul-at : tie.Need-mul-at Inv-loop μ-loop
-mul-at c = let a = c .before .before .before .args in omega (arith, column-end (a .width) (a .count) (c .before .loop .i) (c .loop-test .taken))
+mul-at c = omega (arith, inside c)
 
 add-number-in : tie.Need-add-number-in Inv-loop μ-loop
-add-number-in c = let a = c .before .before .before .args in omega (arith, column-end (a .width) (a .count) (c .before .loop .i) (c .loop-test .taken))
+add-number-in c = omega (arith, inside c)
 
 sub-number-in : tie.Need-sub-number-in Inv-loop μ-loop
-sub-number-in c = let a = c .before .before .before .args in omega (arith, column-end (a .width) (a .count) (c .before .loop .i) (c .loop-test .taken))
+sub-number-in c = omega (arith, inside c)
 
 part-number-in-start : tie.Need-part-number-in-start Inv-loop μ-loop
-part-number-in-start c = let a = c .before .before .before .args in omega (arith, column-end (a .width) (a .count) (c .before .loop .i) (c .loop-test .taken))
+part-number-in-start c = omega (arith, inside c)
 
 part-number-in-end : tie.Need-part-number-in-end Inv-loop μ-loop
-part-number-in-end c = let a = c .before .before .before .args in omega (arith, column-end (a .width) (a .count) (c .before .loop .i) (c .loop-test .taken))
+part-number-in-end c = omega (arith, inside c)
 
 number-in-requires : tie.Need-number-in-requires Inv-loop μ-loop
 number-in-requires c κs = search needs

@@ -1,5 +1,5 @@
 -- `totals_text::fill_words` meets its contract. Assumes nothing.
-use Prim.Native.Nat.{_-_}
+use Prim.Native.Nat.{_+_, _*_, _-_, _≤_}
 use native.Mathlib.Omega.{arith}
 use borrow.Author.Needs.{needs}
 use Rattle.totals_text.specs.Lines.{wordOf}
@@ -18,20 +18,24 @@ loop-holds c =
     let a = c .before .before .args in
     fill-start wordOf (a .width) (a .line .now) (a .count) (a .words .now)
 
+-- the column at i ends within the columns
+inside : (c : tie.In-loop Inv-loop μ-loop) → let a = c .before .before .before .before .args in a .width * c .before .loop .i + a .width ≤ a .width * a .count
+inside c = let a = c .before .before .before .before .args in column-end (a .width) (a .count) (c .before .loop .i) (c .loop-test .taken)
+
 mul-at : tie.Need-mul-at Inv-loop μ-loop
-mul-at c = let a = c .before .before .before .before .args in omega (arith, column-end (a .width) (a .count) (c .before .loop .i) (c .loop-test .taken))
+mul-at c = omega (arith, inside c)
 
 add-word-in : tie.Need-add-word-in Inv-loop μ-loop
-add-word-in c = let a = c .before .before .before .before .args in omega (arith, column-end (a .width) (a .count) (c .before .loop .i) (c .loop-test .taken))
+add-word-in c = omega (arith, inside c)
 
 sub-word-in : tie.Need-sub-word-in Inv-loop μ-loop
-sub-word-in c = let a = c .before .before .before .before .args in omega (arith, column-end (a .width) (a .count) (c .before .loop .i) (c .loop-test .taken))
+sub-word-in c = omega (arith, inside c)
 
 part-word-in-start : tie.Need-part-word-in-start Inv-loop μ-loop
-part-word-in-start c = let a = c .before .before .before .before .args in omega (arith, column-end (a .width) (a .count) (c .before .loop .i) (c .loop-test .taken))
+part-word-in-start c = omega (arith, inside c)
 
 part-word-in-end : tie.Need-part-word-in-end Inv-loop μ-loop
-part-word-in-end c = let a = c .before .before .before .before .args in omega (arith, column-end (a .width) (a .count) (c .before .loop .i) (c .loop-test .taken))
+part-word-in-end c = omega (arith, inside c)
 
 word-in-requires : tie.Need-word-in-requires Inv-loop μ-loop
 word-in-requires c κs = search needs

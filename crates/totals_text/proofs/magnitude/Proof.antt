@@ -1,5 +1,5 @@
 -- `totals_text::magnitude` meets its contract: one more than a negative number fits where its size may not. Assumes nothing.
-use mathlib.Core.Path.{_≡_}
+use mathlib.Core.Path.{_≡_, ap, _∙_}
 use Prim.Native.Nat.{_+_}
 use native.Mathlib.Omega.{arith}
 use lib.IntN.{ℤ, pos, natAbs, _+ℤ_, _-ℤ_}
@@ -22,7 +22,7 @@ add-result : tie.Need-add-result
 add-result c = omega (zarith, fit (c .before .fits .z))
 
 next-is : (c : tie.Then1) → next c ≡ z c +ℤ pos 1
-next-is c = cc (toZ-ofZ (add-result c), toZ-ofZ (c .before .fits .z))
+next-is c = toZ-ofZ (add-result c) ∙ ap (λ (y : ℤ). y +ℤ pos 1) (toZ-ofZ (c .before .fits .z))
 
 sub-result : tie.Need-sub-result
 sub-result c = omega (zarith, fit (c .before .fits .z), next-is c, add (z c) (pos 1))

@@ -8,8 +8,8 @@ use Rattle.totals_text.specs.declared.Column.{Column}
 use Rattle.totals_text.specs.declared.Column.the-variants.{NotInForm}
 use Rattle.totals_text.specs.Columns.{readNumeral, readColumn, ColumnMeans}
 use Rattle.totals_text.proofs.Columns.{column-means}
-use Rattle.totals_text.proofs.Scans.{rest-is}
 use borrow.Author.Needs.{needs}
+use borrow.Rule.Slice.PartAt.{part-to-end}
 use Rattle.totals_text.proofs.read_column.Statement.{statement}
 use Rattle.totals_text.proofs.read_column.Tie as tie
 
@@ -44,7 +44,7 @@ returns-2 c =
     let width = b .before .before .args .width in
     let text = b .before .before .args .text .now in
     read width text (c .read-numeral .result)
-    (c .read-numeral .ensures ∙ ap readNumeral (rest-is text (s .skip-spaces .result) ∙ s .skip-spaces .ensures .1)
+    (c .read-numeral .ensures ∙ ap readNumeral (part-to-end text (s .skip-spaces .result) ∙ s .skip-spaces .ensures .1)
     ∙ rw (eq-eqb (length text) width (b .if1 .left)) refl)
 
 pub read-column-spec : {M : Type 1} → statement M

@@ -1,8 +1,9 @@
 -- `totals_text::read_numeral` meets its contract. Assumes nothing.
 use mathlib.Core.Path.{sym, ap, _∙_}
 use Rattle.totals_text.specs.Columns.{readNegative}
-use Rattle.totals_text.proofs.Scans.{numeral-none, numeral-minus, numeral-other, rest-is}
+use Rattle.totals_text.proofs.Scans.{numeral-none, numeral-minus, numeral-other}
 use borrow.Author.Needs.{needs}
+use borrow.Rule.Slice.PartAt.{part-to-end}
 use Rattle.totals_text.proofs.read_numeral.Statement.{statement}
 use Rattle.totals_text.proofs.read_numeral.Tie as tie
 
@@ -28,7 +29,7 @@ returns-2 : tie.Need-returns-2
 returns-2 c =
     let b = c .before .before .before .before in
     let text = b .before .before .args .text .now in
-    c .read-negative .ensures ∙ ap readNegative (rest-is text 1) ∙ sym (numeral-minus text (b .if1 .left) (c .before .before .if2 .taken))
+    c .read-negative .ensures ∙ ap readNegative (part-to-end text 1) ∙ sym (numeral-minus text (b .if1 .left) (c .before .before .if2 .taken))
 
 read-natural-requires : tie.Need-read-natural-requires
 read-natural-requires c κs = search needs

@@ -10,7 +10,8 @@ use Rattle.backoff.specs.Run.{written}
 use Rattle.totals_text.specs.declared.TextLine.{TextLine}
 use Rattle.totals_text.specs.declared.TextLine.the-variants.{Words, NotInForm}
 use Rattle.totals_text.specs.Lines.{textWidth, isTextLine, textWords, textAnswer, TextLineMeans}
-use Rattle.totals_text.proofs.Lines.{length-words, text-line-means, sets-written}
+use Rattle.totals_text.proofs.Lines.{length-words, text-line-means}
+use Rattle.totals_text.proofs.Stores.{sets-written}
 use borrow.Author.Needs.{needs}
 use Rattle.totals_text.proofs.read_text_line.Statement.{statement}
 use Rattle.totals_text.proofs.read_text_line.Tie as tie

@@ -6,8 +6,8 @@ use lib.IntN.{pos}
 use lib.ListN.{length}
 use Rattle.totals_text.specs.Columns.{numeral, column}
 use Rattle.totals_text.specs.Lines.{refusedWord, refusedLine}
-use Rattle.totals_text.proofs.Lines.{length-count, length-refused, sets-written}
-use Rattle.totals_text.proofs.Stores.{front-three}
+use Rattle.totals_text.proofs.Lines.{length-count, length-refused}
+use Rattle.totals_text.proofs.Stores.{front-three, sets-written}
 use borrow.Author.Needs.{needs}
 use Rattle.totals_text.proofs.refused_line.Statement.{statement}
 use Rattle.totals_text.proofs.refused_line.Tie as tie

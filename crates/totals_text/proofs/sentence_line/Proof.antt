@@ -6,8 +6,8 @@ use lib.ListN.{length}
 use mir.Facts.{toZ-ofZ}
 use Rattle.totals_text.specs.Columns.{column}
 use Rattle.totals_text.specs.Lines.{countColumns, sentenceLine}
-use Rattle.totals_text.proofs.Lines.{length-count, length-counts, length-total, length-sentence, sets-written}
-use Rattle.totals_text.proofs.Stores.{front-two}
+use Rattle.totals_text.proofs.Lines.{length-count, length-counts, length-total, length-sentence}
+use Rattle.totals_text.proofs.Stores.{front-two, sets-written}
 use Rattle.totals_text.proofs.sentence_line.Statement.{statement}
 use Rattle.totals_text.proofs.sentence_line.Tie as tie
 

@@ -5,13 +5,12 @@ use mathlib.Core.List.{List}
 use Prim.Native.Nat.{_*_, _≤_}
 use borrow.Author.Needs.{needs, sfits-of}
 use lib.ListN.{set}
-use lib.IntN.{ℤ, pos, natAbs, _+ℤ_}
+use lib.IntN.{ℤ, natAbs, _+ℤ_}
 use mir.Syntax.{w32}
 use mir.Val.{SFits}
 use mir.Facts.{toZ-ofZ}
 use Rattle.integer.proofs.Arithmetic.{zarith, abs, add}
-use Rattle.integer.proofs.Ranges.{between-low, between-high}
-use Rattle.backoff.specs.Limits.{leastProbability, largestBackoff}
+use Rattle.backoff.specs.Limits.{largestBackoff}
 use Rattle.backoff.specs.Model.{inProbability, inBackoff}
 use Rattle.backoff.proofs.Sizes.{backoff-size}
 use Rattle.double_array.specs.DoubleArray.{lookMarker}
@@ -20,6 +19,7 @@ use Rattle.double_array.specs.declared.Marker.the-variants.{Sound, Broken}
 use Rattle.word_step.specs.declared.Walked.{Walked}
 use Rattle.word_step.specs.Rows.{InRange}
 use Rattle.word_step.specs.Inner.{endedAt, storedAt}
+use Rattle.word_step.proofs.Owing.{points-fit}
 use Rattle.word_step.proofs.end_walk.Statement.{statement}
 use Rattle.word_step.proofs.end_walk.Tie as tie
 
@@ -70,13 +70,6 @@ b-fits c = sfits-of (c .known-told .given .1 .0 .1)
 
 sum-fits : (x y : ℤ) → natAbs x ≤ 4 * largestBackoff → inBackoff y ≡ true → SFits w32 (x +ℤ y)
 sum-fits x y small in-backoff = omega (zarith, backoff-size y in-backoff, small, abs x, add x y)
-
-points-fit : (x y : ℤ) → inProbability x ≡ true → natAbs y ≤ 4 * largestBackoff → SFits w32 (x +ℤ y)
-unfolding inProbability
-points-fit x y in-probability small =
-    let low = between-low leastProbability (pos 0) x in-probability in
-    let high = between-high leastProbability (pos 0) x in-probability in
-    omega (zarith, low, high, small, abs y, add x y)
 
 add-longest-live-2 : tie.Need-add-longest-live-2
 add-longest-live-2 c =

@@ -1,7 +1,5 @@
 -- `word_step::last_node` meets its contract. Assumes nothing.
-use mathlib.Core.Path.{_≡_, sym, ap, _∙_, subst}
-use mathlib.Core.Bool.{Bool}
-use mathlib.Core.List.{List}
+use mathlib.Core.Path.{_≡_, refl, ap, _∙_, subst}
 use Prim.Native.Nat.{ℕ, _+_}
 use borrow.Author.Needs.{needs, sfits-of}
 use lib.IntN.{ℤ}
@@ -9,15 +7,14 @@ use mir.Syntax.{w32}
 use mir.Val.{SFits}
 use mir.Facts.{toZ-ofZ}
 use Rattle.backoff.specs.State.{State as Carried}
-use Rattle.backoff.specs.Store.{Store}
 use Rattle.double_array.specs.DoubleArray.{markerAt, storeIn}
 use Rattle.double_array.proofs.DoubleArray.{opened-sizes}
 use Rattle.word_step.specs.declared.Kept.{Kept}
 use Rattle.word_step.specs.declared.Reached.{Reached}
 use Rattle.word_step.specs.declared.Reached.the-variants.{End, Last, Stuck}
-use Rattle.word_step.specs.Inner.{endedAt, storedAt, Read, Readable, ReachedOver}
+use Rattle.word_step.specs.Inner.{endedAt, storedAt, Readable, ReachedOver}
 use Rattle.word_step.proofs.Rows.{at-in-range}
-use Rattle.word_step.proofs.Ending.{walked-as}
+use Rattle.word_step.proofs.Ending.{read-as, walked-as}
 use Rattle.word_step.proofs.last_node.Statement.{statement}
 use Rattle.word_step.proofs.last_node.Tie as tie
 
@@ -75,14 +72,11 @@ end-walk-requires c κs =
 enum-told : tie.Need-enum-told
 enum-told c = search needs
 
-read-as : {S : Store} {s : Carried} {v passed : ℕ} {x y : ℤ} {kept : Kept} {extended : Bool} {bs : List ℤ} → y ≡ x → Read S s v x passed kept extended bs → Read S s v y passed kept extended bs
-read-as e r = rw e r
-
 returns : tie.Need-returns
 returns c = λ t v o.
     let g = c .before .reached .given in
     let fits : SFits w32 (g .0 .0) = sfits-of (c .known-told .given .0 .1) in
-    read-as (toZ-ofZ fits) (reached (c .before .before .before) (End (g .0 .0) (g .0 .1 .0) (g .0 .1 .1 .0) (g .0 .1 .1 .1 .0)) (g .1) t v o)
+    read-as (toZ-ofZ fits) refl refl (reached (c .before .before .before) (End (g .0 .0) (g .0 .1 .0) (g .0 .1 .1 .0) (g .0 .1 .1 .1 .0)) (g .1) t v o)
 
 returns-2 : tie.Need-returns-2
 returns-2 c = λ t v o.

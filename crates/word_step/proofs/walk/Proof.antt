@@ -18,12 +18,9 @@ use mir.Val.{SFits, toZ, ofZ}
 use mir.Facts.{toZ-ofZ}
 use Rattle.integer.specs.Integer.{eqZ, sum}
 use Rattle.integer.proofs.Arithmetic.{zarith, abs, add, sub}
-use Rattle.integer.proofs.Ranges.{and-left, and-both, between-low, between-high}
-use Rattle.backoff.specs.Limits.{leastProbability, largestBackoff}
+use Rattle.integer.proofs.Ranges.{and-left, and-both}
+use Rattle.backoff.specs.Limits.{largestBackoff}
 use Rattle.backoff.specs.Words.{radix}
-use Rattle.backoff.specs.Model.{inProbability}
-use Rattle.backoff.specs.State.{State as Carried}
-use Rattle.backoff.specs.Store.{Store}
 use Rattle.backoff.proofs.Sizes.{backoffs-size}
 use Rattle.double_array.specs.DoubleArray.{childAt, keptMarker, markerAt, orderIn, storeIn}
 use Rattle.double_array.specs.declared.Child.{Child}
@@ -32,20 +29,19 @@ use Rattle.double_array.specs.declared.Marker.{Marker}
 use Rattle.double_array.specs.declared.Marker.the-variants.{Sound, Broken}
 use Rattle.double_array.proofs.DoubleArray.{IsMarker, kept-told, marker-kept, child-inside, Sizes, opened-sizes, opened-order}
 use Rattle.carried_state.specs.Packed.{digits, heldIn}
-use Rattle.carried_state.proofs.Digits.{shifted, length-digits, digit-at}
+use Rattle.carried_state.proofs.Digits.{dropDigits, length-digits, digit-at}
 use Rattle.word_step.specs.declared.Kept.{Kept}
-use Rattle.word_step.specs.Inner.{longestLive, endedAt, storedAt, Read, WalkedOver}
-use Rattle.word_step.proofs.Rows.{at-in-range}
-use Rattle.word_step.proofs.Owing.{Owing, owing-begins, owed-less, total-more, now-owed, owing-on}
+use Rattle.word_step.specs.Inner.{longestLive, endedAt, storedAt, WalkedOver}
+use Rattle.word_step.proofs.Owing.{Owing, owing-begins, owed-less, total-more, now-owed, owing-on, points-fit}
 use Rattle.word_step.proofs.Walking.{Walking, walking-begins, walking-broken, walking-on, walking-stops}
-use Rattle.word_step.proofs.Ending.{walked-as, walk-ends}
+use Rattle.word_step.proofs.Ending.{read-as, walk-ends}
 use Rattle.word_step.proofs.walk.Statement.{statement}
 use Rattle.word_step.proofs.walk.Tie as tie
 
 record Loop (base check : List ℤ) (slot count words : ℕ) (given backoffs : List ℤ) (older : ℕ) (owed : ℤ) (s passed : ℕ) (total : ℤ) (kept : Kept) : Type 0 where
   inside : s < length base
   few : passed ≤ count
-  older-is : older ≡ shifted passed words
+  older-is : older ≡ dropDigits passed words
   owing : Owing count given passed kept total owed backoffs
   walking : (v : ℕ) → childAt base check 0 v ≡ At slot → Walking base check v (take count (digits 4 words)) s passed kept backoffs
 
@@ -94,6 +90,9 @@ length-words s = length-take-le (s .args .carried .count) (digits 4 (s .args .ca
 
 owed-size : (s : Entry) (j : ℕ) → natAbs (sum (drop j (left s))) ≤ 4 * largestBackoff
 owed-size s j = omega (arith, backoffs-size (left s) j (s .pre .1 .1 .in-backoffs), length-take-le (s .args .carried .count) (s .args .backoffs .now) (omega (arith, count-few s, five s)), count-few s)
+
+owed-small : (l : Turn) → natAbs (toZ w32 (l .loop .owed)) ≤ 4 * largestBackoff
+owed-small l = rw (l .loop .inv .owing .owed-is) (owed-size (start l) (l .loop .passed))
 
 owed-fits : (c : tie.After-struct-told Inv-loop μ-loop) → SFits w32 (c .before .args .carried .owed)
 owed-fits c = search needs
@@ -245,19 +244,9 @@ next-is : (c : tie.After-next-node Inv-loop μ-loop) (r : Child) → c .next-nod
 next-is c r e = rw (word-is (c .before .before .before .before .before .before .before)) at (sym (c .next-node .ensures) ∙ e)
 
 add-t30 : tie.Need-add-t30 Inv-loop μ-loop
-unfolding inProbability
 add-t30 c =
     let k = c .before .before .before .before .before in
-    let l = node (k .before) in
-    let s = start l in
-    let low = between-low leastProbability (pos 0) (p (k .before)) (in-range (k .before) .p-in-range) in
-    let high = between-high leastProbability (pos 0) (p (k .before)) (in-range (k .before) .p-in-range) in
-    let owed = l .loop .inv .owing .owed-is in
-    rw (toZ-ofZ (p-fits k)) (omega (zarith, low, high, owed, owed-size s (l .loop .passed), abs (sum (drop (l .loop .passed) (left s)))))
-
--- a sound walk that ends at this node, as the code returns it
-told : {S : Store} {s : Carried} {v passed : ℕ} {points x : ℤ} {kept noted : Kept} {extended : Bool} {bs cs : List ℤ} → x ≡ points → noted ≡ kept → cs ≡ bs → Read S s v points passed kept extended bs → Read S s v x passed noted extended cs
-told e g h r = rw (e, g, h) r
+    rw (toZ-ofZ (p-fits k)) (points-fit (p (k .before)) _ (in-range (k .before) .p-in-range) (owed-small (node (k .before))))
 
 returns-2 : tie.Need-returns-2 Inv-loop μ-loop
 returns-2 c = (
@@ -270,7 +259,7 @@ returns-2 c = (
       let l = node m in
       let s = start l in
       let o = l .loop .inv .owing in
-      told (cc (toZ-ofZ (add-t30 c), toZ-ofZ (p-fits k), o .owed-is)) (noted-is g) (read-is k)
+      read-as (cc (toZ-ofZ (add-t30 c), toZ-ofZ (p-fits k), o .owed-is)) (noted-is g) (read-is k)
       (walking-stops (s .args .base .now) (s .args .check .now) v (words s) (l .loop .s) (l .loop .passed) (l .loop .kept) (l .loop .backoffs) (l .loop .inv .walking v e) (p m) (b m) (extended m) (f m) (marker-sound m) (total m) (left s) (o .long ∙ five s) (omega (arith, passed-inside m, five s))
       (now-owed (s .args .carried .count) (s .args .backoffs .now) (l .loop .passed) (l .loop .kept) (toZ w32 (l .loop .sum)) (toZ w32 (l .loop .owed)) (l .loop .backoffs) o (passed-inside m) (b m) (in-range m .b-in-range) (live m))
       (omega (arith, length-words s, passed-few (m .before .before .before)))
@@ -351,7 +340,7 @@ returns-3 c =
     let all = all-passed c in
     let deep : suc (l .loop .passed) ≡ s .args .carried .count + 1 = omega (arith, all) in
     let m = markerAt (s .args .base .now) (s .args .check .now) (s .args .carried .count + 1) (l .loop .s) in (
-      (long l, (l .loop .inv .inside, rw (o .owed-is) (owed-size s (l .loop .passed)), omega (arith, o .total-small, l .loop .inv .few, count-few s))),
+      (long l, (l .loop .inv .inside, owed-small l, omega (arith, o .total-small, l .loop .inv .few, count-few s))),
       λ v e.
           subst (λ (j : ℕ). WalkedOver (storeIn (s .args .base .now) (s .args .check .now)) (heldIn (s .args .carried) (s .args .backoffs .now)) v (endedAt m j (toZ w32 (l .loop .owed)) (toZ w32 (l .loop .sum)) (l .loop .kept)) (storedAt m j (l .loop .backoffs))) all
           (walk-ends (s .args .base .now) (s .args .check .now) v (words s) (l .loop .s) (l .loop .passed) (l .loop .kept) (l .loop .backoffs) (l .loop .inv .walking v e) (s .args .carried .count) (s .args .backoffs .now) (toZ w32 (l .loop .sum)) (toZ w32 (l .loop .owed)) o (five s) (all ∙ sym (length-words s)) (omega (arith, length-words s, count-few s)) m

@@ -1,0 +1,4 @@
+-- The laws of lines, and of reading LIST.
+pub mod Lines
+pub mod Listing
+pub mod EnoughBytes

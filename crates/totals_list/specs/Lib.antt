@@ -1,0 +1,2 @@
+-- The lines of a text, and what LIST holds.
+pub mod List
