@@ -39,7 +39,7 @@ fn rows_of(page: &str, head: &str) -> Vec<Vec<String>> {
 fn printed_parts_stand_in_their_files() {
     let parts = printed(&page());
     let files: Vec<&str> = parts.iter().map(|(path, _)| path.as_str()).collect();
-    assert_eq!(files, ["crates/plain/src/lib.rt", "crates/backoff/specs/Rule.antt", "crates/plain/specs/Held.antt"]);
+    assert_eq!(files, ["crates/plain_word/src/lib.rt", "crates/backoff/specs/Rule.antt", "crates/plain_word/specs/Score.antt"]);
     for (path, code) in &parts {
         let whole = file(path);
         for part in code.split("\n\n") {

@@ -9,15 +9,16 @@ use lib.ListN.{length, replicate}
 use Rattle.backoff.specs.declared.Verdict.{Verdict}
 use Rattle.backoff.specs.declared.Verdict.the-variants.{Accepted, Refused}
 use Rattle.list.specs.Check.{verdictFor}
-use Rattle.arpa_text.specs.Parts.{parts}
+use Rattle.text_parts.specs.Parts.{parts}
 use Rattle.arpa_words.specs.Words.{recordsOf, storeWith}
-use Rattle.arpa_lines.specs.Reading.{Reading, unread, Lines, done, stopped, readLines}
+use Rattle.arpa_words.proofs.Stores.{zeroed-length}
+use Rattle.arpa_sections.specs.Sections.{Reading, unread}
+use Rattle.arpa_lines.specs.Reading.{Lines, done, stopped, readLines}
 use Rattle.arpa.specs.Outcome.{refusedOutcome, ordered, judged, linesOutcome, readArpa, Leaves}
 use Rattle.arpa.specs.Held.{EndHeld, LinesHeld, Judged, Concluded}
 use Rattle.arpa.specs.declared.Ending.{Ending}
 use Rattle.arpa.specs.declared.Rows.{Rows}
 use Rattle.arpa.specs.declared.Rows.the-variants.{Read, Refused as NotRead}
-use Rattle.arpa_words.proofs.Stores.{zeroed-length}
 
 not-read : (rows number place : ℕ) → NotRead number place ≡ Read rows → ⊥
 not-read rows number place e = let z : _≡_ {A = ℕ} 0 1 = cc in omega arith

@@ -15,16 +15,18 @@ use Rattle.backoff.specs.Limits.{orderLimit}
 use Rattle.backoff.specs.Refusal.{shortSlice, lineForm, unlistedText, sectionCount}
 use Rattle.backoff.specs.Words.{sameWords}
 use Rattle.backoff.proofs.Words.{same-eq, same-refl}
-use Rattle.arpa_text.specs.declared.Count.{Count}
-use Rattle.arpa_text.specs.declared.Count.the-variants.{Announced, NotInForm}
-use Rattle.arpa_text.specs.Parts.{before, parts}
-use Rattle.arpa_text.specs.Lines.{dataLine, sectionLine, endLine, readCount, Listed, readRow}
+use Rattle.text_parts.specs.Parts.{before, parts}
+use Rattle.text_parts.proofs.Parts.{parts-some}
+use Rattle.arpa_headings.specs.declared.Count.{Count}
+use Rattle.arpa_headings.specs.declared.Count.the-variants.{Announced, NotInForm}
+use Rattle.arpa_headings.specs.Headings.{dataLine, sectionLine, endLine, readCount}
+use Rattle.arpa_text.specs.Lines.{Listed, readRow}
 use Rattle.arpa_words.specs.Words.{numberMet, someMissing}
-use Rattle.arpa_lines.specs.Reading.{Reading, Step, goes, refusedBy, announce, enter, firstSection, countStep, dataStep, closes, closeSection, rowOf, addRow, rowFits, recordFits, wordStep, longerStep, rowStep, sectionStep, stageStep, lineStep, Lines, done, stopped, onward, lastPiece, readLines, unread}
-use Rattle.arpa_lines.specs.declared.Stage.{Stage}
-use Rattle.arpa_lines.specs.declared.Stage.the-variants.{Start, Counts, Section, Ended}
+use Rattle.arpa_sections.specs.Sections.{Reading, Step, goes, refusedBy, announce, enter, firstSection, countStep, dataStep, closes, closeSection, rowOf, unread}
+use Rattle.arpa_sections.specs.declared.Stage.{Stage}
+use Rattle.arpa_sections.specs.declared.Stage.the-variants.{Start, Counts, Section, Ended}
+use Rattle.arpa_lines.specs.Reading.{addRow, rowFits, recordFits, wordStep, longerStep, rowStep, sectionStep, stageStep, lineStep, Lines, done, stopped, onward, lastPiece, readLines}
 use Rattle.arpa.specs.Meaning.{rowLines, Position, at-start, in-counts, in-section, at-end, Leads, skipped, data-line, count-line, first-heading, row-of, next-heading, end-line, numberBy, HasLine, LineMeets, not-in-form, no-word-line, heading-count, end-count, row-no-longer-fits, text-no-longer-fits, ReadTo, no-lines, one-more, linesIn, lastIn, AllRead, ReadRefusedBy, at-line, no-end-line, no-line-end, bad-list}
-use Rattle.arpa_lines.proofs.Fields.{parts-some}
 use Rattle.arpa.proofs.RowLines.{NoTab, other-line, empty-no-tab, data-no-tab, end-no-tab, section-no-tab, count-no-tab, row-has-tab}
 use Rattle.arpa.proofs.NewTexts.{known-met}
 use Rattle.arpa.proofs.LineRows.{onlyText, onlyNumber, textsWith, no-row-more, row-more, Fresh, Holds, holds-begun, row-count, word-held, word-number, only-text, word-there, all-listed, longer-held}

@@ -13,20 +13,21 @@ use lib.Seq.{getD-set-same, getD-set-other, getD-append-seam}
 use borrow.Author.Tests.{leb-true, eq-eqb, ne-eqb}
 use Rattle.integer.proofs.Each.{map-equal}
 use Rattle.integer.proofs.Ranges.{and-left, and-right, lt-or-ge, equal-or-not}
+use Rattle.integer.specs.Integer.{orElse}
 use Rattle.backoff.specs.Words.{sameWords}
 use Rattle.row_search.specs.declared.Found.the-variants.{At}
-use Rattle.list.specs.Check.{orElse}
 use Rattle.word_index.specs.Texts.{searchFrom, givenBy}
-use Rattle.arpa_text.specs.Parts.{before}
+use Rattle.text_parts.specs.Parts.{before}
 use Rattle.arpa_text.specs.Lines.{Listed, readRow, isText, areTexts}
 use Rattle.arpa_words.specs.Words.{numberMet, numberGiven, withText, someMissing, unknownText, startText, endText, reservedNumber}
 use Rattle.arpa_words.specs.Held.{TextsSound}
-use Rattle.arpa_lines.specs.Reading.{Reading, rowOf, addRow, rowFits, recordFits, unread}
-use Rattle.arpa_lines.specs.declared.Stage.{Stage}
-use Rattle.arpa_lines.specs.declared.Stage.the-variants.{Start, Counts, Section, Ended}
-use Rattle.arpa.specs.Meaning.{rowLines, wordCount, lineTexts, lineRow, wordTexts, withNew, newTexts, numberBy}
 use Rattle.arpa_words.proofs.Words.{text-not-empty, none-met, no-texts-sound}
+use Rattle.arpa_sections.specs.Sections.{Reading, rowOf, unread}
+use Rattle.arpa_sections.specs.declared.Stage.{Stage}
+use Rattle.arpa_sections.specs.declared.Stage.the-variants.{Start, Counts, Section, Ended}
+use Rattle.arpa_lines.specs.Reading.{addRow, rowFits, recordFits}
 use Rattle.arpa_lines.proofs.Fields.{read-texts, one-text}
+use Rattle.arpa.specs.Meaning.{rowLines, wordCount, lineTexts, lineRow, wordTexts, withNew, newTexts, numberBy}
 use Rattle.arpa.proofs.RowLines.{NoTab, row-line, other-line, count-of-row, row-read, texts-of-row, numbers-of-row, row-same-numbers}
 use Rattle.arpa.proofs.NewTexts.{numberIn, Known, RecordsFit, TextRead, text-read, met-is-number, met-known, known-number}
 

@@ -10,20 +10,20 @@ use lib.ListN.{length, getD, take, drop, replicate, length-drop}
 use lib.Seq.{drop-drop}
 use borrow.Author.Tests.{eqb-true, eq-eqb, ne-eqb}
 use Rattle.backoff.specs.Refusal.{lineForm}
-use Rattle.arpa_text.specs.Parts.{parts, before}
-use Rattle.arpa_text.proofs.Parts.{parts-one, parts-front}
+use Rattle.text_parts.specs.Parts.{parts, before}
+use Rattle.text_parts.proofs.Parts.{parts-one, parts-front, parts-some}
 use Rattle.arpa_words.specs.Words.{noTexts, zeroed, recordOf, recordsOf, storeWith}
-use Rattle.arpa_lines.specs.Reading.{Reading, unread, Step, goes, refusedBy, lineStep, done, stopped, onward, lastPiece, readLines}
-use Rattle.arpa_lines.specs.Held.{TableHeld, onesOf, Held, StepHeld}
-use Rattle.arpa.specs.Held.{EndHeld, LinesHeld}
-use Rattle.arpa_lines.specs.declared.Stage.{Stage}
-use Rattle.arpa_lines.specs.declared.Stage.the-variants.{Start, Counts, Section, Ended}
-use Rattle.arpa_lines.specs.declared.Progress.{Progress}
-use Rattle.arpa_lines.specs.declared.Stepped.{Stepped}
-use Rattle.arpa.specs.declared.Ending.{Ending}
-use Rattle.arpa_lines.proofs.Stages.{announced-at, held-at}
-use Rattle.arpa_lines.proofs.Fields.{parts-some}
 use Rattle.arpa_words.proofs.Words.{none-met, no-texts-sound}
+use Rattle.arpa_sections.specs.Sections.{Reading, unread, Step, goes, refusedBy}
+use Rattle.arpa_sections.specs.Held.{TableHeld, onesOf, Held, StepHeld}
+use Rattle.arpa_sections.specs.declared.Stage.{Stage}
+use Rattle.arpa_sections.specs.declared.Stage.the-variants.{Start, Counts, Section, Ended}
+use Rattle.arpa_sections.specs.declared.Progress.{Progress}
+use Rattle.arpa_sections.specs.declared.Stepped.{Stepped}
+use Rattle.arpa_sections.proofs.Stages.{announced-at, held-at}
+use Rattle.arpa_lines.specs.Reading.{lineStep, done, stopped, onward, lastPiece, readLines}
+use Rattle.arpa.specs.Held.{EndHeld, LinesHeld}
+use Rattle.arpa.specs.declared.Ending.{Ending}
 
 -- ---- before the first line
 zeroed-zeros : (n k : ℕ) → zeroed n (replicate k 0) ≡ replicate n 0

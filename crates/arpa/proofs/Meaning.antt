@@ -11,6 +11,7 @@ use lib.ListN.{length, getD, take, drop, replicate, length-drop, length-replicat
 use lib.Seq.{getD-drop, take-at}
 use Rattle.integer.proofs.Each.{map-equal}
 use Rattle.integer.proofs.Ranges.{and-left, and-right, lt-or-ge}
+use Rattle.integer.specs.Integer.{orElse}
 use Rattle.backoff.specs.Limits.{textLimit, unknownWord, startWord, endWord}
 use Rattle.backoff.specs.Model.{AcceptedModel}
 use Rattle.backoff.specs.Refusal.{numberOf}
@@ -23,26 +24,28 @@ use Rattle.rows.specs.Table.{rowsOf, words}
 use Rattle.row_search.specs.Search.{findIn, isAt}
 use Rattle.row_search.specs.declared.Found.{Found}
 use Rattle.row_search.proofs.Search.{found-words, is-at}
-use Rattle.list.specs.Check.{reservedListed, verdictFor, orElse}
+use Rattle.list.specs.Check.{reservedListed, verdictFor}
 use Rattle.list.specs.ListModel.{modelOf}
 use Rattle.list.proofs.Check.{checked-reserved, accepted-refused, checked-number}
 use Rattle.list.proofs.ListModel.{accepted-model}
 use Rattle.list.proofs.Meaning.{refused-verdict}
-use Rattle.row_order.specs.RowOrder.{rowAt, joined, sortBy, rowBefore}
+use Rattle.row_codes.specs.Rows.{rowAt}
+use Rattle.row_order.specs.RowOrder.{joined, sortBy, rowBefore}
 use Rattle.row_order.proofs.Tags.{alone-words}
 use Rattle.word_index.specs.Texts.{textOf, textsFrom, searchFrom, givenBy}
-use Rattle.arpa_text.specs.Parts.{parts}
+use Rattle.text_parts.specs.Parts.{parts}
 use Rattle.arpa_text.specs.Lines.{Listed, isText, allAbove}
 use Rattle.arpa_words.specs.Words.{unknownText, startText, endText, reservedNumber, numberMet, recordsOf, storeWith}
-use Rattle.arpa_lines.specs.Reading.{Reading, unread, Lines, done, stopped, readLines, rowOf}
+use Rattle.arpa_words.proofs.Searches.{search-told, texts-are}
+use Rattle.arpa_words.proofs.Words.{text-some, text-short, reserved-same, placed-at}
+use Rattle.arpa_words.proofs.Stores.{zeroed-length, record-text-there}
+use Rattle.arpa_sections.specs.Sections.{Reading, unread, rowOf}
+use Rattle.arpa_lines.specs.Reading.{Lines, done, stopped, readLines}
+use Rattle.arpa_lines.proofs.JoinedRows.{Eights, row-eight, joined-length}
 use Rattle.arpa.specs.Outcome.{Outcome, refusedOutcome, ordered, judged, linesOutcome, readArpa, Leaves, readNumber, readPlace, rowCount}
 use Rattle.arpa.specs.Meaning.{rowLines, textsIn, lineTexts, rowWith, lineRow, wordTexts, newTexts, numberStored, EachItsOwn, ReadsTheLines, numberBy, AllRead, listOf, ReadRefusedBy, bad-list, ReadMeans}
 use Rattle.arpa.specs.declared.Rows.{Rows}
 use Rattle.arpa.specs.declared.Rows.the-variants.{Read}
-use Rattle.arpa_words.proofs.Searches.{search-told, texts-are}
-use Rattle.arpa_words.proofs.Words.{text-some, text-short, reserved-same, placed-at}
-use Rattle.arpa_words.proofs.Stores.{zeroed-length, record-text-there}
-use Rattle.arpa_lines.proofs.JoinedRows.{Eights, row-eight, joined-length}
 use Rattle.arpa.proofs.RowsHeld.{padded-zeros, order-length}
 use Rattle.arpa.proofs.RowLines.{row-same-numbers}
 use Rattle.arpa.proofs.NewTexts.{numberIn, Known, search-more, known-is-number, known-number}

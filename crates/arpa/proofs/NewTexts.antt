@@ -10,19 +10,19 @@ use lib.ListN.{length, getD, drop, set, length-append, length-drop, length-set, 
 use lib.Seq.{getD-set-same, getD-set-other, drop-set-lt, drop-append-le, getD-append-seam}
 use borrow.Author.Tests.{eq-eqb, ne-eqb}
 use Rattle.integer.proofs.Ranges.{lt-or-ge, equal-or-not}
+use Rattle.integer.specs.Integer.{orElse}
 use Rattle.backoff.specs.Words.{sameWords}
 use Rattle.backoff.proofs.Words.{same-refl}
 use Rattle.row_search.specs.declared.Found.{Found}
 use Rattle.row_search.specs.declared.Found.the-variants.{At, Nothing}
-use Rattle.list.specs.Check.{orElse}
 use Rattle.word_index.specs.Texts.{searchFrom, givenBy}
 use Rattle.arpa_text.specs.Lines.{isText}
 use Rattle.arpa_words.specs.Words.{reservedNumber, numberMet, numberGiven, withText}
-use Rattle.arpa.specs.Meaning.{withNew}
 use Rattle.arpa_words.specs.Held.{TextsSound}
 use Rattle.arpa_words.proofs.Searches.{Absent, Placed, search-told}
 use Rattle.arpa_words.proofs.Words.{text-not-empty, reserved-small, reserved-same, met-reserved, met-or-not, met-other, given-is}
 use Rattle.arpa_words.proofs.TextSteps.{with-met, with-reserved, with-next, sound-reserved, sound-next}
+use Rattle.arpa.specs.Meaning.{withNew}
 
 -- the number of a text, where `news` are the texts from word 4 on
 unfoldable pub numberIn : List (List ℕ) → List ℕ → ℕ

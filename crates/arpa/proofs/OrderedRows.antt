@@ -13,10 +13,11 @@ use Rattle.backoff.specs.Limits.{orderLimit, wordLimit}
 use Rattle.backoff.specs.NineNumbers.{padded}
 use Rattle.rows.specs.Table.{rowsOf, field, lengthOf, wordsOf, words}
 use Rattle.rows.proofs.Table.{words-length}
-use Rattle.row_order.specs.RowOrder.{rowAt, rowsAt, joined, sortBy, rowBefore, listOrder}
+use Rattle.row_codes.specs.Rows.{rowAt}
+use Rattle.row_order.specs.RowOrder.{rowsAt, joined, sortBy, rowBefore, listOrder}
 use Rattle.row_order.proofs.Sorts.{sort-from}
 use Rattle.row_order.proofs.Rows.{member-of-row}
-use Rattle.arpa_lines.specs.Reading.{rowOf}
+use Rattle.arpa_sections.specs.Sections.{rowOf}
 use Rattle.arpa_lines.proofs.JoinedRows.{Eights, row-eight, joined-length}
 
 -- ---- the rows of a table that is rows one after the other

@@ -11,10 +11,11 @@ use lib.ListN.{length, length-append}
 use borrow.Author.Tests.{lt-ltb, le-ltb}
 use Rattle.backoff.proofs.Words.{same-refl}
 use Rattle.list.specs.Meaning.{NoneMeets}
-use Rattle.arpa_text.specs.declared.Count.{Count}
-use Rattle.arpa_text.specs.declared.Count.the-variants.{Announced, NotInForm}
-use Rattle.arpa_text.specs.Parts.{parts, before}
-use Rattle.arpa_text.specs.Lines.{sectionLine, endLine, readCount, Listed, readRow}
+use Rattle.text_parts.specs.Parts.{parts, before}
+use Rattle.arpa_headings.specs.declared.Count.{Count}
+use Rattle.arpa_headings.specs.declared.Count.the-variants.{Announced, NotInForm}
+use Rattle.arpa_headings.specs.Headings.{sectionLine, endLine, readCount}
+use Rattle.arpa_text.specs.Lines.{Listed, readRow}
 use Rattle.arpa.specs.Meaning.{Position, at-start, in-counts, in-section, at-end, Leads, skipped, data-line, count-line, first-heading, row-of, next-heading, end-line, LineMeets, ReadTo, no-lines, one-more, linesIn, AllRead, listOf, ReadRefusedBy, at-line, no-end-line, no-line-end, bad-list}
 use Rattle.arpa.proofs.RowLines.{empty-no-tab, section-no-tab, end-no-tab, row-has-tab}
 use Rattle.arpa.proofs.LineByLine.{row-only}

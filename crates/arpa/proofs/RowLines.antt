@@ -13,19 +13,22 @@ use borrow.Author.Tests.{eqb-true, lt-ltb, le-ltb, ne-eqb}
 use Rattle.integer.proofs.Each.{map-equal}
 use Rattle.backoff.specs.Words.{sameWords}
 use Rattle.backoff.proofs.Words.{same-eq}
-use Rattle.arpa_text.specs.Parts.{parts, before}
-use Rattle.arpa_text.specs.Logs.{digitsUpTo, readPoints}
-use Rattle.arpa_text.specs.Lines.{dataLine, sectionLine, endLine, countHead, isCountHead, withoutSpace, countIn, readCount, Listed, listedWith, listedIn, readRow, areTexts}
-use Rattle.arpa_text.specs.declared.Points.{Points}
-use Rattle.arpa_text.specs.declared.Points.the-variants.{Of, NotInForm}
-use Rattle.arpa_text.specs.declared.Count.the-variants.{Announced, NotInForm as NoCount}
-use Rattle.arpa_text.proofs.Parts.{parts-one, parts-more, before-other, lacks-or-has}
-use Rattle.arpa_text.proofs.Logs.{all-digits, digits-lack}
-use Rattle.arpa_text.proofs.Lines.{no-row, count-fields}
-use Rattle.arpa_lines.specs.Reading.{rowOf}
-use Rattle.arpa.specs.Meaning.{rowLines, wordCount, textsIn, lineTexts, rowWith, lineRow}
-use Rattle.arpa_lines.proofs.Fields.{read-texts}
+use Rattle.decimal.specs.Digits.{digitsUpTo}
+use Rattle.decimal.proofs.Digits.{all-digits}
+use Rattle.text_parts.specs.Parts.{parts, before}
+use Rattle.text_parts.proofs.Parts.{parts-one, parts-more, before-other, lacks-or-has, digits-lack}
+use Rattle.arpa_headings.specs.Headings.{dataLine, sectionLine, endLine, countHead, isCountHead, withoutSpace, countIn, readCount}
+use Rattle.arpa_headings.specs.declared.Count.the-variants.{Announced, NotInForm as NoCount}
+use Rattle.arpa_headings.proofs.Headings.{count-fields}
+use Rattle.arpa_logs.specs.Logs.{readPoints}
+use Rattle.arpa_logs.specs.declared.Points.{Points}
+use Rattle.arpa_logs.specs.declared.Points.the-variants.{Of, NotInForm}
+use Rattle.arpa_text.specs.Lines.{Listed, listedWith, listedIn, readRow, areTexts}
+use Rattle.arpa_text.proofs.Lines.{no-row}
 use Rattle.arpa_words.proofs.RowWords.{texts-count}
+use Rattle.arpa_sections.specs.Sections.{rowOf}
+use Rattle.arpa_lines.proofs.Fields.{read-texts}
+use Rattle.arpa.specs.Meaning.{rowLines, wordCount, textsIn, lineTexts, rowWith, lineRow}
 
 -- no tab stands in the line
 abbrev pub NoTab : List ℕ → Type 0

@@ -17,23 +17,25 @@ use Rattle.backoff.specs.NineNumbers.{padded}
 use Rattle.backoff.proofs.NineNumbers.{length-padded}
 use Rattle.backoff.specs.Refusal.{tableLength}
 use Rattle.backoff.specs.declared.Verdict.the-variants.{Refused}
-use Rattle.double_array.proofs.Items.{getD-in}
 use Rattle.rows.specs.Table.{rowsOf, field, lengthOf, placeFits, placesFit}
 use Rattle.rows.specs.Good.{GoodRow}
+use Rattle.rows.proofs.Table.{field-stored, field-kept}
 use Rattle.list.specs.Check.{tableFits, verdictFor}
 use Rattle.list.proofs.Check.{fitting-table, verdict-refused}
-use Rattle.row_order.specs.RowOrder.{rowAt, rowsAt, joined, insertBy, sortBy, rowBefore, listOrder}
+use Rattle.row_codes.specs.Rows.{rowAt}
+use Rattle.row_codes.proofs.Rows.{row-field, row-length}
+use Rattle.row_order.specs.RowOrder.{rowsAt, joined, insertBy, sortBy, rowBefore, listOrder}
 use Rattle.row_order.specs.Sorting.{Numbered}
 use Rattle.row_order.proofs.Sorts.{sort-from}
-use Rattle.row_order.proofs.Rows.{row-field, row-length, row-of-member}
+use Rattle.row_order.proofs.Rows.{row-of-member}
 use Rattle.word_index.specs.Index.{cleared}
-use Rattle.rows.proofs.Table.{field-stored, field-kept}
 use Rattle.word_index.proofs.Indexes.{cleared-length, cleared-head, cleared-rows}
-use Rattle.arpa_lines.specs.Reading.{Reading, rowOf}
-use Rattle.arpa.specs.Outcome.{ordered}
-use Rattle.arpa_lines.specs.Held.{TableHeld, FreeRow, RowSound}
-use Rattle.arpa.specs.Held.{Ordering}
+use Rattle.double_array.proofs.Items.{getD-in}
+use Rattle.arpa_sections.specs.Sections.{Reading, rowOf}
+use Rattle.arpa_sections.specs.Held.{TableHeld, FreeRow, RowSound}
 use Rattle.arpa_lines.proofs.JoinedRows.{Eights, sound-eights, joined-length}
+use Rattle.arpa.specs.Outcome.{ordered}
+use Rattle.arpa.specs.Held.{Ordering}
 
 -- ---- padded lists
 pub getD-padded : (n q : ℕ) (xs : List ℤ) → q < n → getD (padded n xs) q (pos 0) ≡ getD xs q (pos 0)

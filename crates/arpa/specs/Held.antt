@@ -13,8 +13,9 @@ use Rattle.list.specs.Check.{verdictFor}
 use Rattle.row_order.specs.RowOrder.{SortableFront}
 use Rattle.row_order.specs.Sorting.{AllNumbered}
 use Rattle.arpa_words.specs.Words.{storeWith}
-use Rattle.arpa_lines.specs.Reading.{Reading, Lines, done, stopped}
-use Rattle.arpa_lines.specs.Held.{TableHeld, FreeRow, RowSound}
+use Rattle.arpa_sections.specs.Sections.{Reading}
+use Rattle.arpa_sections.specs.Held.{TableHeld, FreeRow, RowSound}
+use Rattle.arpa_lines.specs.Reading.{Lines, done, stopped}
 use Rattle.arpa.specs.Outcome.{linesOutcome, ordered}
 use Rattle.arpa.specs.declared.Ending.{Ending}
 use Rattle.arpa.specs.declared.Rows.{Rows}

@@ -18,11 +18,12 @@ use Rattle.list.specs.ListModel.{modelOf}
 use Rattle.list.specs.Meaning.{VerdictMeans}
 use Rattle.row_order.specs.RowOrder.{sortBy, rowBefore, joined}
 use Rattle.word_index.specs.Texts.{textsFrom}
-use Rattle.arpa_text.specs.Parts.{parts, before}
-use Rattle.arpa_text.specs.Lines.{dataLine, sectionLine, endLine, readCount, Listed, readRow}
-use Rattle.arpa_text.specs.declared.Count.the-variants.{Announced}
+use Rattle.text_parts.specs.Parts.{parts, before}
+use Rattle.arpa_headings.specs.Headings.{dataLine, sectionLine, endLine, readCount}
+use Rattle.arpa_headings.specs.declared.Count.the-variants.{Announced}
+use Rattle.arpa_text.specs.Lines.{Listed, readRow}
 use Rattle.arpa_words.specs.Words.{unknownText, startText, endText, reservedNumber, numberMet, storeWith}
-use Rattle.arpa_lines.specs.Reading.{rowOf}
+use Rattle.arpa_sections.specs.Sections.{rowOf}
 
 -- the lines that have a tab: those of rows
 unfoldable pub rowLines : List (List ℕ) → List (List ℕ)

@@ -10,9 +10,10 @@ use Rattle.backoff.specs.declared.Verdict.{Verdict}
 use Rattle.backoff.specs.declared.Verdict.the-variants.{Accepted, Refused}
 use Rattle.list.specs.Check.{verdictFor}
 use Rattle.row_order.specs.RowOrder.{joined, listOrder}
-use Rattle.arpa_text.specs.Parts.{parts}
+use Rattle.text_parts.specs.Parts.{parts}
 use Rattle.arpa_words.specs.Words.{storeWith}
-use Rattle.arpa_lines.specs.Reading.{Reading, unread, Lines, done, stopped, readLines}
+use Rattle.arpa_sections.specs.Sections.{Reading, unread}
+use Rattle.arpa_lines.specs.Reading.{Lines, done, stopped, readLines}
 use Rattle.arpa.specs.declared.Rows.{Rows}
 use Rattle.arpa.specs.declared.Rows.the-variants.{Read, Refused as NotRead}
 

@@ -7,14 +7,15 @@ ghost use Prim.Native.Nat.{ℕ, _+_, _*_, _<_};
 ghost use lib.IntN.{ℤ, pos};
 ghost use lib.ListN.{length, take, drop, replicate};
 ghost use Rattle.row_order.specs.RowOrder.{listOrder};
-ghost use Rattle.arpa_text.specs.Parts.{parts};
-ghost use Rattle.arpa_lines.specs.Reading.{Reading, unread, Lines, lastPiece, readLines};
+ghost use Rattle.text_parts.specs.Parts.{parts};
+ghost use Rattle.arpa_sections.specs.Sections.{Reading, unread};
+ghost use Rattle.arpa_sections.specs.Held.{Held};
+ghost use Rattle.arpa_lines.specs.Reading.{Lines, lastPiece, readLines};
 ghost use Rattle.arpa.specs.Outcome.{readArpa, Leaves, readNumber, readPlace, rowCount};
 ghost use Rattle.arpa.specs.Meaning.{ReadMeans};
-ghost use Rattle.arpa_lines.specs.Held.{Held};
 ghost use Rattle.arpa.specs.Held.{EndHeld, LinesHeld, Ordering, Judged, Concluded};
-use arpa_lines::Progress;
-use arpa_lines::Stage;
+use arpa_sections::Progress;
+use arpa_sections::Stage;
 use backoff::LINE_FORM;
 use backoff::ROW_LIMIT;
 use backoff::TABLE_LENGTH;
@@ -99,7 +100,7 @@ fn read_lines(text: &[u8], table: &mut [i32], store: &mut [u8]) -> Ending
     let mut place: u64 = 1;
     let mut at = 0;
     loop {
-        let end = arpa_text::part_end(text, at, b'\n');
+        let end = text_parts::part_end(text, at, b'\n');
         if end == text.len() {
             return last_piece(at == end, place, progress);
         }

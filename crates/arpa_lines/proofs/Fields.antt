@@ -5,45 +5,23 @@ use mathlib.Core.List.{List, [], _∷_, map}
 use mathlib.Core.Option.{none, some}
 use Prim.Native.Nat.{ℕ, _-_}
 use native.Mathlib.Omega.{arith}
-use lib.Dec.{eqb}
 use lib.IntN.{ℤ, pos}
 use lib.ListN.{take, drop}
 use borrow.Author.Tests.{eq-eqb, ne-eqb}
 use Rattle.integer.proofs.Ranges.{and-left, and-right}
 use Rattle.backoff.specs.Refusal.{lineForm}
-use Rattle.arpa_text.specs.Parts.{parts, inFront}
-use Rattle.arpa_text.specs.Logs.{readPoints}
+use Rattle.text_parts.specs.Parts.{parts}
+use Rattle.text_parts.proofs.Parts.{one-part}
+use Rattle.arpa_logs.specs.Logs.{readPoints}
+use Rattle.arpa_logs.specs.declared.Points.{Points}
+use Rattle.arpa_logs.specs.declared.Points.the-variants.{Of, NotInForm}
 use Rattle.arpa_text.specs.Lines.{Listed, listedWith, listedIn, readRow, isText, areTexts}
 use Rattle.arpa_text.specs.Held.{listedAt}
-use Rattle.arpa_text.specs.declared.Points.{Points}
-use Rattle.arpa_text.specs.declared.Points.the-variants.{Of, NotInForm}
 use Rattle.arpa_text.specs.declared.RowLine.{RowLine}
 use Rattle.arpa_text.specs.declared.RowLine.the-variants.{Row, NotInForm as NoRow}
 use Rattle.arpa_words.specs.Words.{numberMet, numberGiven}
-use Rattle.arpa_lines.specs.Reading.{Reading, refusedBy, wordStep, longerStep, rowStep}
-
--- ---- the parts of a text
-pub parts-some : (c : ℕ) (text : List ℕ) → parts c text ≡ [] → ⊥
-unfolding parts
-parts-some c [] e = let z : _≡_ {A = ℕ} 0 1 = cc in omega arith
-parts-some c (x ∷ text) e = go (eqb x c) (parts c text) e
-  where
-    go : (b : Bool) (ps : List (List ℕ)) → cond b ([] ∷ ps) (inFront x ps) ≡ [] → ⊥
-    go true ps e = let z : _≡_ {A = ℕ} 0 1 = cc in omega arith
-    go false [] e = let z : _≡_ {A = ℕ} 0 1 = cc in omega arith
-    go false (p ∷ ps) e = let z : _≡_ {A = ℕ} 0 1 = cc in omega arith
-
--- a text of one part is that part
-one-part : (c : ℕ) (text part : List ℕ) → parts c text ≡ part ∷ [] → text ≡ part
-unfolding parts
-one-part c [] part e = cc
-one-part c (x ∷ text) part e = go (eqb x c) (parts c text) refl (λ q f. one-part c text q f) e
-  where
-    go : (b : Bool) (ps : List (List ℕ)) → parts c text ≡ ps → ((q : List ℕ) → parts c text ≡ q ∷ [] → text ≡ q) → cond b ([] ∷ ps) (inFront x ps) ≡ part ∷ [] → x ∷ text ≡ part
-    go true ps f rest e = let z : ps ≡ [] = cc in absurd (parts-some c text (f ∙ z))
-    go false [] f rest e = absurd (parts-some c text f)
-    go false (p ∷ []) f rest e = let z : x ∷ p ≡ part = cc in ap (λ (l : List ℕ). x ∷ l) (rest p f) ∙ z
-    go false (p ∷ q ∷ ps) f rest e = let z : _≡_ {A = List (List ℕ)} (q ∷ ps) [] = cc in let y : _≡_ {A = ℕ} 0 1 = cc in absurd (omega arith)
+use Rattle.arpa_sections.specs.Sections.{Reading, refusedBy}
+use Rattle.arpa_lines.specs.Reading.{wordStep, longerStep, rowStep}
 
 -- ---- what is read are texts
 with-texts : (m : ℕ) (p : Points) (texts : List (List ℕ)) (b : Points) (l : Listed) → listedWith m p texts b ≡ some l → areTexts m (l .texts) ≡ true

@@ -8,19 +8,19 @@ use native.Mathlib.Omega.{arith}
 use lib.IntN.{ℤ}
 use lib.ListN.{length, getD, List·getD-eq-default}
 use Rattle.integer.proofs.Ranges.{lt-or-ge}
+use Rattle.integer.specs.Integer.{orElse}
 use Rattle.backoff.specs.Limits.{textLimit}
-use Rattle.list.specs.Check.{orElse}
 use Rattle.word_index.specs.Texts.{textOf, textsFrom}
 use Rattle.word_index.specs.Index.{linkLimit, Indexed}
 use Rattle.arpa_text.specs.Lines.{isText}
 use Rattle.arpa_words.specs.Words.{reservedNumber, numberMet, numberGiven, storeWith}
-use Rattle.arpa_lines.specs.Reading.{Reading}
 use Rattle.arpa_words.specs.Held.{TextsSound, Searchable}
-use Rattle.arpa_lines.specs.Held.{Held}
-use Rattle.arpa_lines.specs.declared.Progress.{Progress}
 use Rattle.arpa_words.proofs.Searches.{texts-are}
 use Rattle.arpa_words.proofs.Words.{text-short, reserved-short, given-is}
 use Rattle.arpa_words.proofs.Stores.{store-byte, record-text-there, record-text-none}
+use Rattle.arpa_sections.specs.Sections.{Reading}
+use Rattle.arpa_sections.specs.Held.{Held}
+use Rattle.arpa_sections.specs.declared.Progress.{Progress}
 
 module _ (room size : ℕ) (t : List ℤ) (s : List ℕ) (p : Progress) (a : Reading) (h : Held room size t s p a) where
   -- word k's length byte, where the store has it

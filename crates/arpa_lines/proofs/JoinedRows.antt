@@ -14,8 +14,9 @@ use Rattle.backoff.proofs.NineNumbers.{length-padded}
 use Rattle.rows.specs.Table.{field}
 use Rattle.row_order.specs.RowOrder.{joined}
 use Rattle.word_index.specs.Index.{Indexed}
-use Rattle.arpa_lines.specs.Reading.{rowOf}
-use Rattle.arpa_lines.specs.Held.{wordField, wordRow, TableHeld, FreeRow, RowSound}
+use Rattle.arpa_sections.specs.Sections.{rowOf}
+use Rattle.arpa_sections.specs.Held.{TableHeld, FreeRow, RowSound}
+use Rattle.arpa_lines.specs.Held.{wordField, wordRow}
 
 -- every row has eight numbers
 abbrev pub Eights : List (List ℤ) → Type 0

@@ -3,7 +3,6 @@ pub mod HeldTexts
 pub mod JoinedRows
 pub mod WordSteps
 pub mod Tables
-pub mod Stages
+pub mod LineSteps
 pub mod Fields
-pub mod Counts
 pub mod LongSteps

@@ -19,18 +19,20 @@ use Rattle.word_index.specs.Texts.{textsFrom}
 use Rattle.word_index.specs.Index.{linkLimit, Indexed}
 use Rattle.arpa_text.specs.Lines.{Listed, areTexts}
 use Rattle.arpa_words.specs.Words.{numberMet, zeroed, someMissing}
-use Rattle.arpa_lines.specs.Reading.{Reading, rowOf, addRow, rowFits, longerStep}
-use Rattle.arpa_lines.specs.Held.{Held, StageHeld, LaterHeld, StepHeld, RowSound, onesOf, wordField, longRow, added}
-use Rattle.arpa_lines.specs.declared.Stage.{Stage}
-use Rattle.arpa_lines.specs.declared.Stage.the-variants.{Section}
-use Rattle.arpa_lines.specs.declared.Progress.{Progress}
-use Rattle.arpa_lines.specs.declared.Stepped.{Stepped}
 use Rattle.arpa_words.proofs.Searches.{search-told}
 use Rattle.arpa_words.proofs.Stores.{zeroed-length}
 use Rattle.arpa_words.proofs.RowWords.{texts-count}
+use Rattle.arpa_sections.specs.Sections.{Reading, rowOf}
+use Rattle.arpa_sections.specs.Held.{Held, StageHeld, LaterHeld, StepHeld, RowSound, onesOf}
+use Rattle.arpa_sections.specs.declared.Stage.{Stage}
+use Rattle.arpa_sections.specs.declared.Stage.the-variants.{Section}
+use Rattle.arpa_sections.specs.declared.Progress.{Progress}
+use Rattle.arpa_sections.specs.declared.Stepped.{Stepped}
+use Rattle.arpa_sections.proofs.Stages.{held-at}
+use Rattle.arpa_lines.specs.Reading.{addRow, rowFits, longerStep}
+use Rattle.arpa_lines.specs.Held.{wordField, longRow, added}
 use Rattle.arpa_lines.proofs.HeldTexts.{held-texts}
 use Rattle.arpa_lines.proofs.JoinedRows.{row-eight, sound-eights, row-more-held, free-kept, indexed-kept}
-use Rattle.arpa_lines.proofs.Stages.{held-at}
 
 -- ---- numbers stored one behind the other
 sets-other : (l : List ℤ) (i q : ℕ) (vs : List ℤ) → (q < i) ⊎ (i + length vs ≤ q) → getD (sets l i vs) q (pos 0) ≡ getD l q (pos 0)

@@ -6,7 +6,7 @@ use native.Mathlib.Omega.{arith}
 use lib.IntN.{ℤ, pos}
 use lib.ListN.{length, getD, drop, set, length-map, drop-of-length-le}
 use lib.Seq.{drop-cons, sets}
-use Rattle.totals_text.proofs.Stores.{sets-append}
+use Rattle.integer.proofs.Stores.{sets-append}
 use Rattle.arpa_lines.specs.Held.{wordField, longRow}
 
 module _ (t₀ : List ℤ) (i : ℕ) (words : List ℕ) where

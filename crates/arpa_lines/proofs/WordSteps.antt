@@ -10,26 +10,28 @@ use lib.IntN.{ℤ, pos}
 use lib.ListN.{length, length-append}
 use borrow.Author.Tests.{le-leb, lt-leb, lt-ltb, le-ltb}
 use Rattle.integer.proofs.Arithmetic.{and-no}
+use Rattle.integer.specs.Integer.{orElse}
 use Rattle.backoff.specs.Limits.{rowLimit}
 use Rattle.backoff.specs.Refusal.{shortSlice}
 use Rattle.rows.specs.Table.{field}
-use Rattle.list.specs.Check.{orElse}
 use Rattle.word_index.specs.Texts.{textsFrom}
 use Rattle.word_index.specs.Index.{linkLimit, Indexed}
 use Rattle.arpa_text.specs.Lines.{Listed, isText}
 use Rattle.arpa_words.specs.Words.{reservedNumber, numberMet, numberGiven, withText, recordsOf, storeWith}
-use Rattle.arpa_lines.specs.Reading.{Reading, rowOf, addRow, rowFits, recordFits, wordStep}
 use Rattle.arpa_words.specs.Held.{Searchable, Adding, TextAdded}
-use Rattle.arpa_lines.specs.Held.{wordField, wordRow, TableHeld, RowSound, Held, StageHeld, FirstHeld, StepHeld, added}
-use Rattle.arpa_lines.specs.declared.Stage.{Stage}
-use Rattle.arpa_lines.specs.declared.Stage.the-variants.{Section}
-use Rattle.arpa_lines.specs.declared.Progress.{Progress}
-use Rattle.arpa_lines.specs.declared.Stepped.{Stepped}
 use Rattle.arpa_words.proofs.Searches.{Absent, Placed}
 use Rattle.arpa_words.proofs.Words.{reserved-small, met-or-not}
 use Rattle.arpa_words.proofs.Stores.{zeroed-length}
-use Rattle.arpa_lines.proofs.HeldTexts.{held-texts, held-searchable, held-given}
 use Rattle.arpa_words.proofs.TextSteps.{TextHeld, text-again, text-reserved, text-next}
+use Rattle.arpa_sections.specs.Sections.{Reading, rowOf}
+use Rattle.arpa_sections.specs.Held.{TableHeld, RowSound, Held, StageHeld, FirstHeld, StepHeld}
+use Rattle.arpa_sections.specs.declared.Stage.{Stage}
+use Rattle.arpa_sections.specs.declared.Stage.the-variants.{Section}
+use Rattle.arpa_sections.specs.declared.Progress.{Progress}
+use Rattle.arpa_sections.specs.declared.Stepped.{Stepped}
+use Rattle.arpa_lines.specs.Reading.{addRow, rowFits, recordFits, wordStep}
+use Rattle.arpa_lines.specs.Held.{wordField, wordRow, added}
+use Rattle.arpa_lines.proofs.HeldTexts.{held-texts, held-searchable, held-given}
 use Rattle.arpa_lines.proofs.JoinedRows.{free-more, word-row-free, row-eight, sound-eights, field-behind, row-more-held, word-row-length, word-row-other, word-row-here, word-row-indexed}
 
 more-words : (words next : ℕ) (row : List ℤ) → words ≤ next → RowSound words row → RowSound next row

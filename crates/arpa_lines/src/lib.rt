@@ -1,48 +1,25 @@
 // One line of an ARPA text, read into the lent table and the lent store. The definitions that the contracts cite are in specs/.
 ghost use mathlib.Core.Path.{_≡_};
 ghost use mathlib.Core.Bool.{true};
-ghost use mathlib.Core.List.{List, [], _∷_, map};
-ghost use Prim.Native.Nat.{ℕ, _+_, _*_, _-_, _<_, _≤_};
-ghost use lib.IntN.{ℤ};
+ghost use mathlib.Core.List.{[], _∷_, map};
+ghost use Prim.Native.Nat.{_+_, _*_, _<_, _≤_};
 ghost use lib.ListN.{length, set};
 ghost use Rattle.backoff.specs.Limits.{orderLimit};
-ghost use Rattle.arpa_text.specs.Parts.{parts};
+ghost use Rattle.text_parts.specs.Parts.{parts};
 ghost use Rattle.arpa_text.specs.Lines.{isText, areTexts, readRow};
 ghost use Rattle.arpa_words.specs.Words.{numberMet, numberGiven};
-ghost use Rattle.arpa_lines.specs.Reading.{Reading, firstSection, dataStep, closes, closeSection, wordStep, longerStep, rowStep, sectionStep, lineStep};
-ghost use Rattle.arpa_lines.specs.declared.Stage.the-variants.{Counts, Section};
-ghost use Rattle.arpa_lines.specs.Held.{bucketsFor, wordField, wordRow, longRow, Held, StepHeld, entered, announcing, added};
-use arpa_text::Count;
+ghost use Rattle.arpa_sections.specs.Sections.{Reading};
+ghost use Rattle.arpa_sections.specs.Held.{Held, StepHeld};
+ghost use Rattle.arpa_sections.specs.declared.Stage.the-variants.{Section};
+ghost use Rattle.arpa_lines.specs.Reading.{wordStep, longerStep, rowStep, sectionStep, lineStep};
+ghost use Rattle.arpa_lines.specs.Held.{wordField, wordRow, longRow, added};
+use arpa_sections::Progress;
+use arpa_sections::Stage;
+use arpa_sections::Stepped;
 use arpa_text::RowLine;
 use backoff::LINE_FORM;
-use backoff::SECTION_COUNT;
 use backoff::SHORT_SLICE;
 use backoff::UNLISTED_TEXT;
-
-// Where the reading stands: before the data section, in it, in the section of a length, or behind the end line.
-pub enum Stage {
-    Start,
-    Counts,
-    Section(usize),
-    Ended,
-}
-
-// What was read so far: the counts announced and how many they are, the lines of this section, all rows, the next word's number, and the index's chains.
-pub struct Progress {
-    pub stage: Stage,
-    pub counts: [u32; 5],
-    pub order: usize,
-    pub lines: usize,
-    pub rows: usize,
-    pub words: usize,
-    pub buckets: usize,
-}
-
-// What a line came to: a refusal's number, or 0 and the progress with it.
-pub struct Stepped {
-    pub fault: u32,
-    pub progress: Progress,
-}
 
 // A word's number as a row holds it; 0 where it is too large, of which no list is accepted.
 fn word_field(k: usize) -> i32
@@ -91,48 +68,6 @@ fn write_long_row(table: &mut [i32], i: usize, m: usize, words: [usize; 5], p: i
     write_backoff(table, i, b);
 }
 
-// The line is refused.
-fn refused(fault: u32, progress: Progress) -> Stepped
-    ensures { λ r. ⌜ r .fault ≡ fault ⌝ }
-{
-    Stepped { fault, progress }
-}
-
-// Another stage begins.
-fn enter(progress: Progress, stage: Stage) -> Stepped
-    ensures { λ r. ⌜ r ≡ entered progress stage ⌝ }
-{
-    let counts = progress.counts;
-    Stepped {
-        fault: 0,
-        progress: Progress {
-            stage,
-            counts,
-            order: progress.order,
-            lines: 0,
-            rows: progress.rows,
-            words: progress.words,
-            buckets: progress.buckets,
-        },
-    }
-}
-
-// A count is announced.
-fn announce(progress: Progress, count: u32) -> Stepped
-    requires { ⌜ progress .order < orderLimit ⌝ }
-    ensures { λ r. ⌜ r ≡ announcing progress count ⌝ }
-{
-    let mut next = progress;
-    let at = next.order;
-    next.counts[at] = count;
-    next.order = at + 1;
-    next.lines = 0;
-    Stepped {
-        fault: 0,
-        progress: next,
-    }
-}
-
 // One row more; `words` is then the next word's number.
 fn row_added(progress: Progress, words: usize) -> Stepped
     requires { ⌜ (progress .rows < 18446744073709551615) × (progress .lines < 18446744073709551615) ⌝ }
@@ -146,72 +81,6 @@ fn row_added(progress: Progress, words: usize) -> Stepped
         fault: 0,
         progress: next,
     }
-}
-
-// How many chains the index has: as many as one-word lines are announced, as far as the table has rows for them, and one at least.
-fn buckets_for(announced: u32, rows: usize) -> usize
-    ensures { λ r. ⌜ r ≡ bucketsFor announced rows ⌝ }
-{
-    let mut buckets = announced as usize;
-    if rows < buckets {
-        buckets = rows;
-    }
-    if buckets == 0 { 1 } else { buckets }
-}
-
-// The heading of the one-word section, behind one count at least.
-fn first_section(line: &[u8], room: usize, progress: Progress) -> Stepped
-    ensures { λ r. ⌜ ((a : Reading) (size : ℕ) (t : List ℤ) (s : List ℕ) → progress .stage ≡ Counts → Held room size t s progress a → StepHeld room size t s (firstSection a (now (line .entry))) r) ⌝ }
-{
-    if progress.order == 0 {
-        return refused(LINE_FORM, progress);
-    }
-    if !arpa_text::is_section_line(line, 1) {
-        return refused(LINE_FORM, progress);
-    }
-    let mut next = progress;
-    next.buckets = buckets_for(progress.counts[0], room / 8);
-    enter(next, Stage::Section(1))
-}
-
-// A line of the data section.
-fn data_step(line: &[u8], room: usize, progress: Progress) -> Stepped
-    requires { ⌜ progress .order ≤ orderLimit ⌝ }
-    ensures { λ r. ⌜ ((a : Reading) (size : ℕ) (t : List ℤ) (s : List ℕ) → progress .stage ≡ Counts → Held room size t s progress a → StepHeld room size t s (dataStep a (now (line .entry))) r) ⌝ }
-{
-    let order = progress.order;
-    if order < 5 {
-        if let Count::Announced(count) = arpa_text::read_count(line, order + 1) {
-            return announce(progress, count);
-        }
-    }
-    first_section(line, room, progress)
-}
-
-// Whether the line closes the section of length m: the next heading, or the end line behind the last.
-fn closes_section(line: &[u8], m: usize, order: usize) -> bool
-    requires { ⌜ order ≤ orderLimit ⌝ }
-    ensures { λ r. ⌜ r ≡ closes m order (now (line .entry)) ⌝ }
-{
-    if m < order {
-        return arpa_text::is_section_line(line, m + 1);
-    }
-    arpa_text::is_end_line(line)
-}
-
-// The section of length m ends.
-fn close_section(m: usize, progress: Progress) -> Stepped
-    requires { ⌜ (1 ≤ m) × (m ≤ orderLimit) ⌝ }
-    ensures { λ r. ⌜ ((a : Reading) (room size : ℕ) (t : List ℤ) (s : List ℕ) → progress .stage ≡ Section m → Held room size t s progress a → StepHeld room size t s (closeSection m a) r) ⌝ }
-{
-    let announced = progress.counts[m - 1] as usize;
-    if progress.lines != announced {
-        return refused(SECTION_COUNT, progress);
-    }
-    if m < progress.order {
-        return enter(progress, Stage::Section(m + 1));
-    }
-    enter(progress, Stage::Ended)
 }
 
 // A line of the one-word section that has the text, p and b.
@@ -230,10 +99,10 @@ fn word_step(
     let met = arpa_words::number_met(text, table, store, progress.buckets, words);
     let word = arpa_words::number_given(text, met, words);
     if table.len() / 8 <= progress.rows {
-        return refused(SHORT_SLICE, progress);
+        return arpa_sections::refused(SHORT_SLICE, progress);
     }
     if store.len() / 64 <= word {
-        return refused(SHORT_SLICE, progress);
+        return arpa_sections::refused(SHORT_SLICE, progress);
     }
     if met == 0 {
         arpa_words::add_text(text, word, table, store, progress.buckets, words);
@@ -261,10 +130,10 @@ fn longer_step(
     let words = progress.words;
     let numbers = arpa_words::numbers_met(text, m, table, store, progress.buckets, words);
     if numbers.missing {
-        return refused(UNLISTED_TEXT, progress);
+        return arpa_sections::refused(UNLISTED_TEXT, progress);
     }
     if table.len() / 8 <= progress.rows {
-        return refused(SHORT_SLICE, progress);
+        return arpa_sections::refused(SHORT_SLICE, progress);
     }
     let row = numbers.words;
     write_long_row(table, progress.rows, m, row, p, b);
@@ -283,7 +152,7 @@ fn row_step(
     ensures { λ r. ⌜ ((a : Reading) → Held (length (now (table .entry))) (length (now (store .entry))) (now (table .entry)) (now (store .entry)) progress a → StepHeld (length (now (table .entry))) (length (now (store .entry))) (now (table .exit)) (now (store .exit)) (rowStep (length (now (table .entry))) (length (now (store .entry))) m a (readRow m (now (line .entry)))) r) ⌝ }
 {
     let RowLine::Row { p, b, from, to } = arpa_text::read_row(line, m) else {
-        return refused(LINE_FORM, progress);
+        return arpa_sections::refused(LINE_FORM, progress);
     };
     if m == 1 {
         return word_step(&line[from..to], p, b, table, store, progress);
@@ -302,8 +171,8 @@ fn section_step(
     requires { ⌜ ((a : Reading) × Held (length (now table)) (length (now store)) (now table) (now store) progress a) × (progress .stage ≡ Section m) ⌝ }
     ensures { λ r. ⌜ ((a : Reading) → Held (length (now (table .entry))) (length (now (store .entry))) (now (table .entry)) (now (store .entry)) progress a → StepHeld (length (now (table .entry))) (length (now (store .entry))) (now (table .exit)) (now (store .exit)) (sectionStep (length (now (table .entry))) (length (now (store .entry))) m a (now (line .entry))) r) ⌝ }
 {
-    if closes_section(line, m, progress.order) {
-        return close_section(m, progress);
+    if arpa_sections::closes_section(line, m, progress.order) {
+        return arpa_sections::close_section(m, progress);
     }
     row_step(line, m, table, store, progress)
 }
@@ -319,13 +188,13 @@ pub fn line_step(line: &[u8], table: &mut [i32], store: &mut [u8], progress: Pro
     let stage = progress.stage;
     match stage {
         Stage::Start => {
-            if arpa_text::is_data_line(line) {
-                return enter(progress, Stage::Counts);
+            if arpa_headings::is_data_line(line) {
+                return arpa_sections::enter(progress, Stage::Counts);
             }
-            refused(LINE_FORM, progress)
+            arpa_sections::refused(LINE_FORM, progress)
         }
-        Stage::Counts => data_step(line, table.len(), progress),
+        Stage::Counts => arpa_sections::data_step(line, table.len(), progress),
         Stage::Section(m) => section_step(line, m, table, store, progress),
-        Stage::Ended => refused(LINE_FORM, progress),
+        Stage::Ended => arpa_sections::refused(LINE_FORM, progress),
     }
 }

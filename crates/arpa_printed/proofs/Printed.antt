@@ -21,23 +21,27 @@ use Rattle.backoff.proofs.Words.{same-refl}
 use Rattle.rows.specs.Table.{rowsOf, lengthOf, orderOf, words, probabilityAt, backoffAt}
 use Rattle.rows.proofs.Table.{row-in, order-limit, words-length}
 use Rattle.rows.proofs.Good.{lengths-ascend}
+use Rattle.row_fields.proofs.Fields.{backoff-in}
 use Rattle.list.specs.Check.{verdict}
-use Rattle.list.proofs.Check.{accepted-row, accepted-good, accepted-size, backoff-in}
-use Rattle.row_order.specs.RowOrder.{rowAt, rowsAt, listOrder}
+use Rattle.list.proofs.Check.{accepted-row, accepted-good, accepted-size}
+use Rattle.row_codes.specs.Rows.{rowAt}
+use Rattle.row_order.specs.RowOrder.{rowsAt, listOrder}
 use Rattle.row_order.proofs.Rows.{joined-all}
 use Rattle.row_order.proofs.Sorted.{accepted-listOrder}
 use Rattle.word_index.specs.Texts.{searchFrom}
-use Rattle.arpa_text.specs.Parts.{parts, before}
-use Rattle.arpa_text.specs.Lines.{dataLine, sectionLine, endLine, Listed, readCount, readRow, areTexts}
+use Rattle.text_parts.specs.Parts.{parts, before}
+use Rattle.arpa_headings.specs.Headings.{dataLine, sectionLine, endLine, readCount}
+use Rattle.arpa_text.specs.Lines.{Listed, readRow, areTexts}
 use Rattle.arpa_words.specs.Words.{unknownText, startText, endText, noTexts, reservedNumber, numberGiven, withText, storeWith}
-use Rattle.arpa_lines.specs.Reading.{Reading, unread, goes, announce, enter, firstSection, countStep, dataStep, closes, closeSection, rowOf, addRow, rowFits, recordFits, wordStep, longerStep, rowStep, sectionStep, stageStep, lineStep, done, onward, lastPiece, readLines}
+use Rattle.arpa_sections.specs.Sections.{Reading, unread, goes, announce, enter, firstSection, countStep, dataStep, closes, closeSection, rowOf}
+use Rattle.arpa_sections.specs.declared.Stage.{Stage}
+use Rattle.arpa_sections.specs.declared.Stage.the-variants.{Counts, Section, Ended}
+use Rattle.arpa_lines.specs.Reading.{addRow, rowFits, recordFits, wordStep, longerStep, rowStep, sectionStep, stageStep, lineStep, done, onward, lastPiece, readLines}
 use Rattle.arpa.specs.Outcome.{ordered, linesOutcome, judged, readArpa}
 use Rattle.arpa.proofs.RowsHeld.{rows-count}
 use Rattle.arpa.proofs.Meaning.{first-three}
-use Rattle.arpa_printed.specs.Printed.{printCount, rowsWith, wordText, rowLine, countLines, sectionLines, printed, Printable, ReadsBack}
-use Rattle.arpa_lines.specs.declared.Stage.{Stage}
-use Rattle.arpa_lines.specs.declared.Stage.the-variants.{Counts, Section, Ended}
 use Rattle.arpa.specs.declared.Rows.the-variants.{Read}
+use Rattle.arpa_printed.specs.Printed.{printCount, rowsWith, wordText, rowLine, countLines, sectionLines, printed, Printable, ReadsBack}
 use Rattle.arpa_printed.proofs.PrintedLines.{Lacks, AllLack, parts-of-lines, count-read, count-some, count-lacks, row-lead, row-lacks, row-read, row-closes-none}
 use Rattle.arpa_printed.proofs.PrintedRows.{countUp, count-rows, count-length, sectionRows, section-rows, one-word-rows, AllOf, all-of-length, row-of-words, AllKnown, words-known}
 use Rattle.arpa_printed.proofs.PrintedWords.{numbers-of-words, number-of-next, known-none-missing, words-texts, with-next-text}

@@ -14,17 +14,18 @@ use Rattle.integer.proofs.Ranges.{and-left, and-right}
 use Rattle.backoff.specs.Limits.{largestBackoff, textLimit}
 use Rattle.backoff.specs.Words.{sameWords}
 use Rattle.backoff.proofs.Words.{same-refl}
-use Rattle.totals_text.specs.Columns.{digits, allDigits, valueFrom}
-use Rattle.totals_text.proofs.Digits.{digits-lead, digits-le, digits-all, value-append, value-digits, all-append, one-digit, digit-range}
-use Rattle.arpa_text.specs.Parts.{parts, before}
-use Rattle.arpa_text.specs.Logs.{digitsUpTo, decimals, fraction, unsigned, readLog, pointDecimals, unitsOfPoint, nearest, roundLog, readPoints}
-use Rattle.arpa_text.specs.Lines.{countHead, isCountHead, countIn, readCount, allAbove, isText, areTexts, listedIn, readRow}
-use Rattle.arpa_text.specs.declared.Points.the-variants.{Of}
-use Rattle.arpa_text.specs.declared.Count.the-variants.{Announced}
-use Rattle.arpa_text.proofs.Parts.{parts-one, before-other}
-use Rattle.arpa_text.proofs.Logs.{few-enough, digits-lack, unsigned-point, round-negative}
-use Rattle.arpa_text.proofs.Lines.{count-fields, space-absent}
-use Rattle.arpa_lines.specs.Reading.{closes}
+use Rattle.decimal.specs.Digits.{digits, allDigits, valueFrom, digitsUpTo}
+use Rattle.decimal.proofs.Digits.{digits-lead, digits-le, digits-all, value-append, value-digits, all-append, one-digit, digit-range, few-enough}
+use Rattle.text_parts.specs.Parts.{parts, before}
+use Rattle.text_parts.proofs.Parts.{parts-one, before-other, digits-lack}
+use Rattle.arpa_headings.specs.Headings.{countHead, isCountHead, countIn, readCount}
+use Rattle.arpa_headings.specs.declared.Count.the-variants.{Announced}
+use Rattle.arpa_headings.proofs.Headings.{count-fields, space-absent}
+use Rattle.arpa_logs.specs.Logs.{decimals, fraction, unsigned, readLog, pointDecimals, unitsOfPoint, nearest, roundLog, readPoints}
+use Rattle.arpa_logs.specs.declared.Points.the-variants.{Of}
+use Rattle.arpa_logs.proofs.Logs.{unsigned-point, round-negative}
+use Rattle.arpa_text.specs.Lines.{allAbove, isText, areTexts, listedIn, readRow}
+use Rattle.arpa_sections.specs.Sections.{closes}
 use Rattle.arpa_printed.specs.Printed.{withEnds, lastDigits, printSize, printLog, spaced, printRow, printCount}
 
 -- ---- parts

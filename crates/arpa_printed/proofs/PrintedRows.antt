@@ -24,9 +24,10 @@ use Rattle.rows.proofs.Table.{row-in, words-length, words-cons, words-snoc}
 use Rattle.rows.proofs.Good.{place-range, place-of}
 use Rattle.list.specs.Check.{verdict}
 use Rattle.list.proofs.Check.{first-listed, last-listed}
-use Rattle.row_order.specs.RowOrder.{rowAt, rowsAt}
-use Rattle.row_order.proofs.Rows.{row-field, row-length}
-use Rattle.arpa_lines.specs.Reading.{rowOf}
+use Rattle.row_codes.specs.Rows.{rowAt}
+use Rattle.row_codes.proofs.Rows.{row-field, row-length}
+use Rattle.row_order.specs.RowOrder.{rowsAt}
+use Rattle.arpa_sections.specs.Sections.{rowOf}
 use Rattle.arpa.proofs.RowsHeld.{getD-padded}
 use Rattle.arpa_printed.specs.Printed.{rowsWith}
 

@@ -13,16 +13,21 @@ use Rattle.backoff.specs.NineNumbers.{padded}
 use Rattle.rows.specs.Table.{rowsOf, field, lengthOf, orderOf, wordsOf, words, withoutFirst, withoutLast, placeFits, placesFit}
 use Rattle.rows.specs.Order.{lastLess, precedes}
 use Rattle.row_search.specs.Search.{findBelow, findIn}
+use Rattle.row_fields.specs.Fields.{backoffFits, fieldFault}
+use Rattle.rows_before.specs.Faults.{isAfter, withoutFirsts, shorterListed, orderFault, rowFault}
 use Rattle.list.specs.Sample.{sample}
-use Rattle.list.specs.Check.{tableFits, backoffFits, fieldFault, isAfter, withoutFirsts, shorterListed, orderFault, rowFault, reservedListed, scan, verdictFor}
-use Rattle.row_order.specs.RowOrder.{insertBy, sortBy, rowAt, rowsAt, joined, numbersOf, rowBefore, listOrder}
+use Rattle.list.specs.Check.{tableFits, reservedListed, scan, verdictFor}
+use Rattle.row_codes.specs.Rows.{rowAt}
+use Rattle.row_order.specs.RowOrder.{insertBy, sortBy, rowsAt, joined, numbersOf, rowBefore, listOrder}
 use Rattle.word_index.specs.Texts.{searchFrom}
-use Rattle.totals_text.specs.Columns.{allDigits, valueFrom}
-use Rattle.arpa_text.specs.Parts.{parts}
-use Rattle.arpa_text.specs.Logs.{digitsUpTo, fraction, unsigned, readLog, nearest, roundLog, readPoints}
-use Rattle.arpa_text.specs.Lines.{isCountHead, withoutSpace, countIn, readCount, allAbove, isText, areTexts, listedIn, readRow}
+use Rattle.decimal.specs.Digits.{allDigits, valueFrom, digitsUpTo}
+use Rattle.text_parts.specs.Parts.{parts}
+use Rattle.arpa_headings.specs.Headings.{isCountHead, withoutSpace, countIn, readCount}
+use Rattle.arpa_logs.specs.Logs.{fraction, unsigned, readLog, nearest, roundLog, readPoints}
+use Rattle.arpa_text.specs.Lines.{allAbove, isText, areTexts, listedIn, readRow}
 use Rattle.arpa_words.specs.Words.{unknownText, startText, endText, reservedNumber, numberMet, numberGiven, withText, zeroed, recordOf, recordsOf, storeWith, someMissing}
-use Rattle.arpa_lines.specs.Reading.{announce, enter, firstSection, dataStep, closes, closeSection, rowOf, addRow, rowFits, recordFits, wordStep, longerStep, rowStep, sectionStep, lineStep, readLines}
+use Rattle.arpa_sections.specs.Sections.{announce, enter, firstSection, dataStep, closes, closeSection, rowOf}
+use Rattle.arpa_lines.specs.Reading.{addRow, rowFits, recordFits, wordStep, longerStep, rowStep, sectionStep, lineStep, readLines}
 use Rattle.arpa.specs.Outcome.{refusedOutcome, ordered, readArpa}
 use Rattle.arpa_printed.specs.Printed.{withEnds, Printable}
 use Rattle.arpa_printed.specs.Sample.{the, cat, SampleRead}

@@ -10,9 +10,10 @@ use Rattle.backoff.specs.NineNumbers.{padded}
 use Rattle.backoff.specs.declared.Verdict.the-variants.{Accepted}
 use Rattle.rows.specs.Table.{rowsOf, lengthOf, orderOf, words, probabilityAt, backoffAt}
 use Rattle.list.specs.Check.{verdict}
-use Rattle.totals_text.specs.Columns.{digits}
-use Rattle.arpa_text.specs.Logs.{pointDecimals}
-use Rattle.arpa_text.specs.Lines.{dataLine, sectionLine, endLine, countHead, isText}
+use Rattle.decimal.specs.Digits.{digits}
+use Rattle.arpa_headings.specs.Headings.{dataLine, sectionLine, endLine, countHead}
+use Rattle.arpa_logs.specs.Logs.{pointDecimals}
+use Rattle.arpa_text.specs.Lines.{isText}
 use Rattle.arpa_words.specs.Words.{unknownText, startText, endText, storeWith}
 use Rattle.arpa.specs.Outcome.{readArpa}
 use Rattle.arpa.specs.declared.Rows.the-variants.{Read}

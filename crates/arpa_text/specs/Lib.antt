@@ -1,6 +1,3 @@
--- What must be believed of one line of an ARPA text: its parts, its logs, and the forms that it may have. Held is cited by contracts of inner
--- functions alone.
-pub mod Parts
-pub mod Logs
+-- What must be believed of a line of a section of an ARPA text. Held is cited by contracts of inner functions alone.
 pub mod Lines
 pub mod Held

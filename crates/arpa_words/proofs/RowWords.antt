@@ -11,9 +11,9 @@ use lib.Seq.{length-take-le, take-all, take-suc, drop-cons, drop-drop}
 use borrow.Author.Tests.{eq-eqb, ne-eqb}
 use Rattle.integer.proofs.Ranges.{and-left, and-right}
 use Rattle.backoff.specs.Limits.{orderLimit}
-use Rattle.arpa_text.specs.Parts.{parts, before}
+use Rattle.text_parts.specs.Parts.{parts, before}
+use Rattle.text_parts.proofs.Parts.{parts-one, parts-more, lacks-or-has}
 use Rattle.arpa_text.specs.Lines.{isText, areTexts}
-use Rattle.arpa_text.proofs.Parts.{parts-one, parts-more, lacks-or-has}
 use Rattle.arpa_words.specs.Words.{zeroed, someMissing}
 use Rattle.arpa_words.proofs.Stores.{zeroed-set}
 

@@ -9,12 +9,12 @@ use lib.Dec.{eqb, leb, lit≤}
 use lib.ListN.{length, getD, drop}
 use borrow.Author.Tests.{leb-true, ne-eqb}
 use Rattle.integer.proofs.Ranges.{and-left, and-right, lt-or-ge}
+use Rattle.integer.specs.Integer.{orElse}
 use Rattle.backoff.specs.Limits.{textLimit}
 use Rattle.backoff.specs.Words.{sameWords}
 use Rattle.backoff.proofs.Words.{same-eq, same-ne}
 use Rattle.row_search.specs.declared.Found.{Found}
 use Rattle.row_search.specs.declared.Found.the-variants.{Nothing}
-use Rattle.list.specs.Check.{orElse}
 use Rattle.word_index.specs.Texts.{searchFrom, givenBy}
 use Rattle.arpa_text.specs.Lines.{isText, allAbove}
 use Rattle.arpa_words.specs.Words.{unknownText, startText, endText, noTexts, reservedNumber, numberMet, numberGiven}

@@ -10,10 +10,10 @@ use lib.IntN.{ℤ, pos}
 use lib.ListN.{length, getD, take, drop, length-append, length-take, length-drop}
 use lib.Seq.{length-take-le, getD-drop, drop-drop, drop-append-add}
 use borrow.Author.Tests.{ne-eqb, le-leb, lt-leb}
+use Rattle.integer.specs.Integer.{orElse}
 use Rattle.backoff.specs.Limits.{textLimit}
 use Rattle.row_search.specs.declared.Found.{Found}
 use Rattle.row_search.specs.declared.Found.the-variants.{Nothing}
-use Rattle.list.specs.Check.{orElse}
 use Rattle.word_index.specs.Texts.{textOf, textsFrom, textsOf, searchFrom, recordWith, givenBy, recorded}
 use Rattle.word_index.specs.Index.{linkLimit, bucketOf, latest, Indexed, Room, linked}
 use Rattle.word_index.proofs.Records.{record-length}

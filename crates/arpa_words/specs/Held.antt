@@ -7,8 +7,8 @@ use Prim.Native.Nat.{ℕ, suc, _+_, _*_, _-_, _<_, _≤_}
 use lib.Dec.{leb}
 use lib.IntN.{ℤ}
 use lib.ListN.{length, getD}
+use Rattle.integer.specs.Integer.{orElse}
 use Rattle.backoff.specs.Limits.{textLimit}
-use Rattle.list.specs.Check.{orElse}
 use Rattle.word_index.specs.Texts.{textsFrom, recorded}
 use Rattle.word_index.specs.Index.{linkLimit, Indexed, bucketOf, linked}
 use Rattle.arpa_text.specs.Lines.{isText}

@@ -4,9 +4,9 @@ use mathlib.Core.List.{List, [], _∷_, _++_}
 use Prim.Native.Nat.{ℕ, zero, suc, _-_}
 use lib.Dec.{eqb, leb}
 use lib.ListN.{length, set}
+use Rattle.integer.specs.Integer.{orElse}
 use Rattle.backoff.specs.Limits.{unknownWord, startWord, endWord}
 use Rattle.backoff.specs.Words.{sameWords}
-use Rattle.list.specs.Check.{orElse}
 use Rattle.word_index.specs.Texts.{searchFrom, givenBy}
 
 -- `<unk>`, `<s>` and `</s>`

@@ -5,10 +5,10 @@ ghost use lib.Dec.{eqb};
 ghost use mathlib.Core.List.{map};
 ghost use Prim.Native.Nat.{_+_, _*_, _-_, _<_, _≤_};
 ghost use lib.ListN.{length, getD};
+ghost use Rattle.integer.specs.Integer.{orElse};
 ghost use Rattle.backoff.specs.Limits.{orderLimit};
-ghost use Rattle.list.specs.Check.{orElse};
 ghost use Rattle.word_index.specs.Texts.{textsFrom, recordWith};
-ghost use Rattle.arpa_text.specs.Parts.{parts};
+ghost use Rattle.text_parts.specs.Parts.{parts};
 ghost use Rattle.arpa_text.specs.Lines.{isText, areTexts};
 ghost use Rattle.arpa_words.specs.Words.{reservedNumber, numberMet, zeroed, someMissing};
 ghost use Rattle.arpa_words.specs.Held.{ShortTexts, Searchable, Adding, TextAdded};
@@ -28,13 +28,13 @@ fn reserved_number(text: &[u8]) -> usize
     ensures number { λ r. ⌜ r ≡ reservedNumber (now (text .entry)) ⌝ }
     ensures small { λ r. ⌜ r ≤ 3 ⌝ }
 {
-    if arpa_text::same_bytes(text, b"<unk>") {
+    if text_parts::same_bytes(text, b"<unk>") {
         return 1;
     }
-    if arpa_text::same_bytes(text, b"<s>") {
+    if text_parts::same_bytes(text, b"<s>") {
         return 2;
     }
-    if arpa_text::same_bytes(text, b"</s>") {
+    if text_parts::same_bytes(text, b"</s>") {
         return 3;
     }
     0
@@ -147,7 +147,7 @@ pub fn numbers_met(
     let mut at = 0;
     let mut j = 0;
     while j < m {
-        let end = arpa_text::part_end(text, at, b' ');
+        let end = text_parts::part_end(text, at, b' ');
         let word = number_met(&text[at..end], table, store, buckets, words);
         if word == 0 {
             return Numbers {

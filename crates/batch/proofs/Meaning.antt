@@ -13,13 +13,15 @@ use borrow.Author.Tests.{eq-eqb, eqb-true, eqb-false}
 use Rattle.backoff.specs.Run.{Run, written}
 use Rattle.backoff.specs.Store.{Store}
 use Rattle.double_array.specs.DoubleArray.{opened}
-use Rattle.batch.specs.Sheet.{sentences, lastEnd, wordPoints, wordBytes, totalOf, unknownOf, matchedOf, firstRefused, met, Outcome, refusedSheet, brokenSheet, fullSheet, acceptedSheet, scoredSheet, sheetOutcome}
+use Rattle.sentence_ends.specs.Ends.{lastEnd}
+use Rattle.stretches.specs.Stretches.{sentences, wordPoints, wordBytes, totalOf, firstRefused}
+use Rattle.stretches.proofs.Stretches.{points-long, bytes-long}
+use Rattle.stretches.proofs.FirstRefused.{none-refused}
+use Rattle.stretches.proofs.MatchedLengths.{five-words, five-closing}
+use Rattle.batch.specs.Sheet.{unknownOf, matchedOf, met, Outcome, refusedSheet, brokenSheet, fullSheet, acceptedSheet, scoredSheet, sheetOutcome}
 use Rattle.batch.specs.Meaning.{allMatched, AddsUp, FullSheet, SheetMeans, IsRuns}
-use Rattle.batch.proofs.Calls.{points-long, bytes-long}
 use Rattle.batch.proofs.Outcome.{passed}
 use Rattle.batch.proofs.Refusals.{refused-by-12}
-use Rattle.batch.proofs.FirstRefused.{none-refused}
-use Rattle.batch.proofs.MatchedLengths.{five-words, five-closing}
 use Rattle.batch.proofs.OwnRuns.{own, own-own, own-fits, each-run}
 use Rattle.batch.proofs.Verdict.{broken-met, none-met, early-met}
 

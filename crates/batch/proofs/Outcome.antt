@@ -15,24 +15,16 @@ use Rattle.backoff.specs.Run.{Run, written}
 use Rattle.backoff.specs.Store.{Store}
 use Rattle.double_array.specs.DoubleArray.{isArray, opened}
 use Rattle.double_array.proofs.DoubleArray.{opened-some, opened-none}
-use Rattle.batch.specs.declared.Refusal.{Refusal}
+use Rattle.sentence_ends.specs.declared.Refusal.{Refusal}
+use Rattle.sentence_ends.specs.Ends.{lastEnd, badEnd, earlyRefusal}
+use Rattle.sentence_ends.proofs.Ends.{good-within, Fits, fits}
+use Rattle.stretches.specs.Stretches.{sentences, wordBytes, closingBytes, firstRefused}
+use Rattle.stretches.specs.Inner.{AllScored, OneRefused}
 use Rattle.batch.specs.declared.Sheet.{Sheet}
-use Rattle.batch.specs.Sheet.{sentences, lastEnd, badEnd, sheetSize, earlyRefusal, met, Outcome, wordBytes, closingBytes, unknownOf, matchedOf, firstRefused, refusedSheet, brokenSheet, acceptedSheet, scoredSheet, sheetOutcome}
-use Rattle.batch.specs.Inner.{bytesSheet, AllScored, OneRefused}
-use Rattle.batch.proofs.Ends.{Fits, fits, good-within}
+use Rattle.batch.specs.Sheet.{met, Outcome, unknownOf, matchedOf, refusedSheet, brokenSheet, acceptedSheet, scoredSheet, sheetOutcome}
+use Rattle.batch.specs.Inner.{bytesSheet}
 
--- ---- what comes early
-
-module _ (base check : List ℤ) (words : ℕ) (ends : List ℕ) (points lengths : ℕ) where
-  pub array-refused : isArray base check ≡ false → record { number = arrayHead; place = 0 } ≡ earlyRefusal (opened base check) words ends points lengths
-  array-refused e = rw (opened-none base check e)
-
-  module _ (h : isArray base check ≡ true) where
-    pub end-refused : (k : ℕ) → k ≡ badEnd words 1 0 ends → (k ≡ 0 → ⊥) → record { number = sentenceEnd; place = k } ≡ earlyRefusal (opened base check) words ends points lengths
-    end-refused k e n = rw (opened-some base check h, sym e, ne-eqb k 0 n)
-
-    pub sizes-refused : (k : ℕ) → k ≡ badEnd words 1 0 ends → k ≡ 0 → (number : ℕ) → number ≡ sheetSize words (length ends) (lastEnd 0 ends) points lengths → record { number = number; place = 0 } ≡ earlyRefusal (opened base check) words ends points lengths
-    sizes-refused k e z number f = rw (opened-some base check h, sym e, eq-eqb k 0 z, f)
+-- ---- nothing comes early, or something does
 
 -- what is known where nothing comes early
 pub record Passed (base check : List ℤ) (ends : List ℕ) (r : Run) : Type 0 where

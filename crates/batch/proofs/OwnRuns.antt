@@ -17,14 +17,17 @@ use Rattle.backoff.proofs.Store.{runOutcome-blind}
 use Rattle.double_array.specs.DoubleArray.{storeIn, opened}
 use Rattle.score.specs.Answers.{startedOver}
 use Rattle.score.specs.Meaning.{StuckSentence}
-use Rattle.batch.specs.Sheet.{stretch, sentence, sentences, lastEnd, closingRun, wordsRun, closed, isScored, sentenceTotal, wordPoints, wordBytes, firstRefused, met, acceptedSheet}
+use Rattle.sentence_ends.specs.Ends.{lastEnd}
+use Rattle.sentence_ends.proofs.Ends.{lastEnd-next, good-end, good-last}
+use Rattle.closed_sentence.specs.Sentence.{closingRun, wordsRun, closed, isScored, sentenceTotal}
+use Rattle.closed_sentence.proofs.Calls.{words-keep, scored-parts}
+use Rattle.stretches.specs.Stretches.{stretch, sentence, sentences, wordPoints, wordBytes, firstRefused}
+use Rattle.stretches.proofs.Stretches.{length-stretch, stretch-whole, points-each, bytes-each}
+use Rattle.stretches.proofs.FirstRefused.{each-scored}
+use Rattle.batch.specs.Sheet.{met, acceptedSheet}
 use Rattle.batch.specs.Meaning.{from, to, OwnRun, IsRun}
-use Rattle.batch.proofs.Ends.{lastEnd-next, good-end, good-last}
-use Rattle.batch.proofs.Stretches.{length-stretch, stretch-whole}
-use Rattle.batch.proofs.Calls.{words-keep, points-each, bytes-each}
 use Rattle.batch.proofs.Outcome.{Passed, passed}
 use Rattle.batch.proofs.Refusals.{fits-full, Judged, scored, refused, judged}
-use Rattle.batch.proofs.FirstRefused.{scored-parts, each-scored}
 
 pub standing-whole : {A : Type 0} (q : Run) (slice : List A) {number : ℕ} → number ≡ 0 → length slice ≡ length (q .words) → standing number q slice ≡ slice
 unfolding standing

@@ -16,14 +16,14 @@ use Rattle.backoff.specs.Run.{Run, refusal, runEnd}
 use Rattle.backoff.specs.NineNumbers.{nine}
 use Rattle.backoff.specs.Store.{Store}
 use Rattle.double_array.specs.DoubleArray.{isArray, storeIn, opened}
-use Rattle.word_step.specs.Rows.{arrayModel}
+use Rattle.word_walk.specs.Rows.{arrayModel}
 use Rattle.score.specs.Answers.{startedOver}
 use Rattle.score.specs.Meaning.{Unwalkable, StuckWords, StuckSentence}
 use Rattle.score.proofs.Refusals.{stuck-split, stuck-both}
 use Rattle.score.proofs.Sentence.{Twelve, not-met, met, start-twelve, start-state, run-twelve, run-state}
-use Rattle.batch.specs.Sheet.{closingRun, wordsRun, closed, isScored}
+use Rattle.closed_sentence.specs.Sentence.{closingRun, wordsRun, closed, isScored}
+use Rattle.closed_sentence.proofs.Calls.{start-refuses, words-refuse, closing-refuses, none-refuses}
 use Rattle.batch.specs.Meaning.{FullRun, ByTwelve}
-use Rattle.batch.proofs.Calls.{start-refuses, words-refuse, closing-refuses, none-refuses}
 
 -- a run whose slices are as long as its words
 pub fits-full : (q : Run) → length (q .words) ≤ runLimit → FullRun q → refusal q ≡ 0

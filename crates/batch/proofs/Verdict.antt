@@ -18,11 +18,13 @@ use Rattle.backoff.specs.Store.{Store}
 use Rattle.backoff.proofs.FirstMet.{met-when, not-when, not-false, met-at, not-at}
 use Rattle.double_array.specs.DoubleArray.{isArray, opened}
 use Rattle.double_array.proofs.DoubleArray.{opened-some, opened-none}
-use Rattle.batch.specs.Sheet.{sentences, lastEnd, badEnd, firstRefused, sheetSize, earlyRefusal, met}
+use Rattle.sentence_ends.specs.Ends.{lastEnd, badEnd, sheetSize, earlyRefusal}
+use Rattle.sentence_ends.proofs.Ends.{good-end, FirstBad, first-bad}
+use Rattle.stretches.specs.Stretches.{sentences, firstRefused}
+use Rattle.stretches.proofs.FirstRefused.{each-scored, first-refused}
+use Rattle.batch.specs.Sheet.{met}
 use Rattle.batch.specs.Meaning.{BadEnd, sheetRefusals}
-use Rattle.batch.proofs.Ends.{good-end, FirstBad, first-bad}
 use Rattle.batch.proofs.Outcome.{Passed, passed}
-use Rattle.batch.proofs.FirstRefused.{each-scored, first-refused}
 use Rattle.batch.proofs.OwnRuns.{own-stuck, own-scored}
 
 module _ (base check : List ℤ) (ends : List ℕ) (r : Run) where

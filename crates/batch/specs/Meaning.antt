@@ -17,8 +17,11 @@ use Rattle.backoff.specs.Store.{Store}
 use Rattle.double_array.specs.DoubleArray.{isArray, storeIn, opened}
 use Rattle.score.specs.Answers.{startedOver}
 use Rattle.score.specs.Meaning.{StuckSentence}
+use Rattle.sentence_ends.specs.Ends.{lastEnd}
+use Rattle.closed_sentence.specs.Sentence.{wordsRun, closed, isScored, sentenceTotal}
+use Rattle.stretches.specs.Stretches.{stretch, sentence, sentences, closingBytes}
 use Rattle.batch.specs.declared.Sheet.{Sheet}
-use Rattle.batch.specs.Sheet.{stretch, sentence, sentences, lastEnd, wordsRun, closed, isScored, sentenceTotal, closingBytes, Outcome, refusedSheet, met, sheetOutcome}
+use Rattle.batch.specs.Sheet.{Outcome, refusedSheet, met, sheetOutcome}
 
 -- how many words all five matched lengths have
 abbrev pub allMatched : Sheet → ℕ

@@ -21,9 +21,9 @@ use Rattle.list.specs.Check.{verdict}
 use Rattle.list.specs.ListModel.{entryAt, modelOf}
 use Rattle.list.proofs.ListModel.{accepted-model}
 use Rattle.double_array.specs.DoubleArray.{lookRow, orderIn, storeIn}
-use Rattle.double_array.specs.Lookup.{lookupOf, lookupOutcome}
-use Rattle.double_array.specs.declared.Lookup.the-variants.{NotFound, Refused}
 use Rattle.double_array.proofs.DoubleArray.{opened-some}
+use Rattle.lookup.specs.Lookup.{lookupOf, lookupOutcome}
+use Rattle.lookup.specs.declared.Lookup.the-variants.{NotFound, Refused}
 use Rattle.build.specs.Build.{buildOutcome}
 use Rattle.build.specs.Listed.{answerAt, listedAnswer}
 use Rattle.build.proofs.Built.{HoldsList, build-accepted, build-holds}

@@ -13,7 +13,9 @@ use Rattle.backoff.specs.declared.Verdict.the-variants.{Accepted, Refused}
 use Rattle.rows.specs.Table.{rowsOf, field, lengthOf, orderOf, wordsOf, words, withoutFirst, withoutLast, placeFits, placesFit}
 use Rattle.rows.specs.Order.{lastLess, precedes}
 use Rattle.row_search.specs.Search.{findBelow, findIn}
-use Rattle.list.specs.Check.{tableFits, backoffFits, fieldFault, isAfter, withoutFirsts, shorterListed, orderFault, rowFault, reservedListed, scan, verdictFor}
+use Rattle.row_fields.specs.Fields.{backoffFits, fieldFault}
+use Rattle.rows_before.specs.Faults.{isAfter, withoutFirsts, shorterListed, orderFault, rowFault}
+use Rattle.list.specs.Check.{tableFits, reservedListed, scan, verdictFor}
 use Rattle.list.specs.ListModel.{anyBelow, extendedIn, continuedIn}
 use Rattle.list.specs.Sample.{sample}
 use Rattle.double_array.specs.DoubleArray.{freeCheck, sizesOk}

@@ -12,8 +12,8 @@ use Rattle.row_search.specs.Search.{findIn}
 use Rattle.row_search.specs.declared.Found.{Found as Row}
 use Rattle.row_search.specs.declared.Found.the-variants.{At, Nothing}
 use Rattle.list.specs.ListModel.{extendedIn}
-use Rattle.double_array.specs.declared.Lookup.{Lookup}
-use Rattle.double_array.specs.declared.Lookup.the-variants.{Found, NotFound, Refused}
+use Rattle.lookup.specs.declared.Lookup.{Lookup}
+use Rattle.lookup.specs.declared.Lookup.the-variants.{Found, NotFound, Refused}
 
 -- the row's own p and b, and whether some listed row puts a further word in front of the words
 abbrev pub answerAt : List ℤ → List ℕ → Row → Lookup

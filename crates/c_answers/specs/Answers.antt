@@ -1,13 +1,18 @@
--- Answers as they cross to C, as numbers. Assumes nothing.
+-- Answers as they cross to C, as numbers; that of a run or of plain scoring with its slices at exit. Assumes nothing.
 use mathlib.Core.Path.{_≡_}
+use mathlib.Core.List.{List}
+use Prim.Native.Nat.{ℕ}
+use lib.IntN.{ℤ}
 use Rattle.backoff.specs.Refusal.{numberOf, placeOf}
 use Rattle.backoff.specs.declared.Verdict.{Verdict}
-use Rattle.double_array.specs.Lookup as lookup
-use Rattle.double_array.specs.declared.Lookup.{Lookup}
+use Rattle.backoff.specs.Run.{Answer}
+use Rattle.lookup.specs.Lookup as lookup
+use Rattle.lookup.specs.declared.Lookup.{Lookup}
 use Rattle.arpa.specs.Outcome as arpa
 use Rattle.arpa.specs.declared.Rows.{Rows}
 use Rattle.c_answers.specs.declared.Status.{Status}
 use Rattle.c_answers.specs.declared.Found.{Found}
+use Rattle.c_answers.specs.declared.Total.{Total}
 use Rattle.c_answers.specs.declared.RowCount.{RowCount}
 
 -- a verdict as its number and place
@@ -29,3 +34,11 @@ pub record RowCountIs (a : Rows) (r : RowCount) : Type 0 where
   pub number : r .number ≡ arpa.readNumber a
   pub rows : r .rows ≡ arpa.rowCount a
   pub place : r .place ≡ arpa.readPlace a
+
+-- a run's answer or that of plain scoring, and the slices of points and of length bytes at exit
+pub record TotalIs {S : Type 0} (a : Answer S) (r : Total) (points : List ℤ) (lengths : List ℕ) : Type 0 where
+  pub number : r .number ≡ a .number
+  pub place : r .place ≡ a .place
+  pub total : r .total ≡ a .total
+  pub points-are : points ≡ a .points
+  pub lengths-are : lengths ≡ a .lengths

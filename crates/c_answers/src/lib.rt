@@ -1,11 +1,7 @@
-// Answers and states as they cross to C, where all are numbers. The definitions that the contracts cite are in specs/.
+// Answers as they cross to C, where all are numbers. The definitions that the contracts cite are in specs/.
 use arpa::Rows;
 use backoff::Verdict;
-use carried_state::State;
-use double_array::Lookup;
-ghost use mathlib.Core.Path.{_≡_};
-ghost use lib.ListN.{length};
-ghost use Rattle.carried_state.specs.Numbers.{numbersOf};
+use lookup::Lookup;
 ghost use Rattle.c_answers.specs.Answers.{StatusIs, FoundIs, RowCountIs};
 
 // The refusal's number and place, 0 and 0 where nothing is refused.
@@ -103,35 +99,4 @@ pub fn row_count_of(a: Rows) -> RowCount
             place,
         },
     }
-}
-
-// The state that nine numbers are.
-pub fn load(numbers: &[i32]) -> State
-    requires { ⌜ length (now numbers) ≡ 9 ⌝ }
-    ensures { λ r. ⌜ numbersOf r ≡ now (numbers .entry) ⌝ }
-{
-    State {
-        count: numbers[0],
-        words: [numbers[1], numbers[2], numbers[3], numbers[4]],
-        backoffs: [numbers[5], numbers[6], numbers[7], numbers[8]],
-    }
-}
-
-// Writes a state as nine numbers.
-pub fn store(state: State, numbers: &mut [i32])
-    requires { ⌜ length (now numbers) ≡ 9 ⌝ }
-    ensures { λ _. ⌜ now (numbers .exit) ≡ numbersOf state ⌝ }
-{
-    let count = state.count;
-    let words = state.words;
-    let backoffs = state.backoffs;
-    numbers[0] = count;
-    numbers[1] = words[0];
-    numbers[2] = words[1];
-    numbers[3] = words[2];
-    numbers[4] = words[3];
-    numbers[5] = backoffs[0];
-    numbers[6] = backoffs[1];
-    numbers[7] = backoffs[2];
-    numbers[8] = backoffs[3];
 }

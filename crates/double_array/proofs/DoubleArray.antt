@@ -1,4 +1,4 @@
--- Laws of specs/DoubleArray.antt: markers packed and read, children, the head, the walk. Of a definition by tests, the law `..-told` says in plain
+-- Laws of specs/DoubleArray.antt: a node's marker, children, the head, the walk. Of a definition by tests, the law `..-told` says in plain
 -- facts what holds where it answers, and `..-shown` is the converse. Assumes nothing.
 use mathlib.Core.Path.{_≡_, refl, sym, ap, _∙_}
 use mathlib.Core.Logic.{_≢_}
@@ -10,20 +10,20 @@ use native.Mathlib.Omega.{arith}
 use native.Mathlib.Decide.{ℕ-discrete}
 use lib.Dec.{eqb, leb, ltb}
 use lib.ListN.{length, getD}
-use lib.IntN.{ℤ, pos, negsuc, negℤ, natAbs, _+ℤ_, _*ℤ_, pos-ne-negsuc}
+use lib.IntN.{ℤ, pos, negsuc, negℤ, natAbs, _+ℤ_, pos-ne-negsuc}
 use lib.Signed.{leZ, ltZ, _≤ℤ_}
 use borrow.Author.Tests.{leb-true, leb-false, ltb-true, lt-ltb, le-ltb, le-leb, eq-eqb, ne-eqb}
-use Rattle.integer.specs.Integer.{eqZ, between, bit, twice, half, odd}
-use Rattle.integer.proofs.Arithmetic.{zarith, add, sub, mul, shr, abs}
+use Rattle.integer.specs.Integer.{eqZ, between, half, odd}
+use Rattle.integer.proofs.Arithmetic.{zarith, sub, shr, abs}
 use Rattle.integer.proofs.Ranges.{and-left, and-right, and-both, between-low, between-high, between-yes}
-use Rattle.integer.proofs.Halving.{half-twice, odd-twice, half-odd, bit-bounds}
 use Rattle.backoff.specs.Limits.{leastProbability, largestBackoff, wordLimit, orderLimit, rowLimit, slotLimit}
 use Rattle.backoff.specs.Words.{isWord, radix}
 use Rattle.backoff.specs.Model.{inProbability, inBackoff}
 use Rattle.backoff.specs.Store.{absent, broken, here}
-use Rattle.double_array.specs.DoubleArray.{freeCheck, headCheck, markerCheck, markerBase, markerOf, childSlot, wordAt, baseAt, checkAt, keptMarker, ownMarker, markerAt, ownedBy, orElse, onEitherSide, childAt, rootChild, downTo, lookFrom, sizesOk, orderOk, headOk, isArray, orderIn, lookRow, storeIn, opened}
-use Rattle.double_array.specs.declared.Marker.{Marker}
-use Rattle.double_array.specs.declared.Marker.the-variants.{Sound, Broken}
+use Rattle.markers.specs.Markers.{markerCheck, markerBase, markerOf}
+use Rattle.markers.specs.declared.Marker.the-variants.{Sound, Broken}
+use Rattle.markers.proofs.Markers.{marker-sound, guarded, sound-read}
+use Rattle.double_array.specs.DoubleArray.{freeCheck, headCheck, childSlot, wordAt, baseAt, checkAt, keptMarker, ownMarker, markerAt, ownedBy, orElse, onEitherSide, childAt, rootChild, downTo, lookFrom, sizesOk, orderOk, headOk, isArray, orderIn, lookRow, storeIn, opened}
 use Rattle.double_array.specs.declared.Child.{Child}
 use Rattle.double_array.specs.declared.Child.the-variants.{At, Nothing}
 
@@ -35,42 +35,6 @@ all-four true false c d h = absurd (false≢true h)
 all-four false b c d h = absurd (false≢true h)
 
 -- ---- markers
-
-module _ (check base : ℤ) where
-  pub marker-sound : (inProbability (check +ℤ pos 1) && inBackoff (half (half base))) ≡ true → markerOf check base ≡ Sound (check +ℤ pos 1) (half (half base)) (odd (half base)) (odd base)
-  unfolding markerOf
-  marker-sound e = rw e
-
-  pub marker-broken : (inProbability (check +ℤ pos 1) && inBackoff (half (half base))) ≡ false → markerOf check base ≡ Broken
-  unfolding markerOf
-  marker-broken e = rw e
-
-twice-half : (z : ℤ) → twice (half z) (odd z) ≡ z
-twice-half z = omega (zarith, half-odd z, add (pos 2 *ℤ half z) (bit (odd z)), mul 2 (half z), bit-bounds (odd z))
-
--- a sound marker behind two tests
-guarded : (t u : Bool) (m : Marker) (p b : ℤ) (e f : Bool) → cond (t && u) m Broken ≡ Sound p b e f → (t ≡ true) × (u ≡ true) × (m ≡ Sound p b e f)
-guarded true true m p b e f h = (refl, refl, h)
-guarded true false m p b e f h = absurd (false≢true (cc))
-guarded false u m p b e f h = absurd (false≢true (cc))
-
--- what is read was packed, and is in range
-sound-read : (check base p b : ℤ) (e f : Bool) → markerOf check base ≡ Sound p b e f → (check ≡ markerCheck p) × (base ≡ markerBase b e f) × (inProbability p ≡ true) × (inBackoff b ≡ true)
-unfolding markerOf
-sound-read check base p b e f h =
-    let upper = half base in
-    let tests = guarded (inProbability (check +ℤ pos 1)) (inBackoff (half upper)) (Sound (check +ℤ pos 1) (half upper) (odd upper) (odd base)) p b e f h in
-    let q : check +ℤ pos 1 ≡ p = cc in
-    let r : half upper ≡ b = cc in
-    (omega (zarith, add check (pos 1), sub p (pos 1)), cc (twice-half base, twice-half upper), rw q at (tests .0), rw r at (tests .1))
-
--- what was packed is read
-pub marker-round-trip : (p b : ℤ) (e f : Bool) → inProbability p ≡ true → inBackoff b ≡ true → markerOf (markerCheck p) (markerBase b e f) ≡ Sound p b e f
-marker-round-trip p b e f hp hb =
-    let q : markerCheck p +ℤ pos 1 ≡ p = omega (zarith, sub p (pos 1), add (markerCheck p) (pos 1)) in
-    let upper : half (markerBase b e f) ≡ twice b e = half-twice (twice b e) f in
-    marker-sound (markerCheck p) (markerBase b e f) (and-both _ _ (ap inProbability q ∙ hp) (ap inBackoff (ap half upper ∙ half-twice b e) ∙ hb))
-    ∙ rw (q, upper, half-twice b e, odd-twice b e, odd-twice (twice b e) f)
 
 -- "A marker is sound if 1 ≤ d < N and the p and b read from it are in range."
 pub record IsMarker (base check : List ℤ) (s : ℕ) (p b : ℤ) (e f : Bool) : Type 0 where

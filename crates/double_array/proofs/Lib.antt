@@ -1,4 +1,3 @@
--- The laws of the double array and of lookup.
+-- The laws of the double array.
 pub mod Items
 pub mod DoubleArray
-pub mod LookupMeaning

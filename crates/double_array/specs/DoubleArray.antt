@@ -1,20 +1,20 @@
--- The double array of document 01: two lists of numbers, BASE and CHECK, of which nothing is known. Markers, children, the walk, the head, and the
--- array as a store. Slots are natural numbers; words are newest first on a walk. Assumes nothing.
+-- The double array of document 01: two lists of numbers, BASE and CHECK, of which nothing is known. The nodes' markers and children, the walk, the head,
+-- and the array as a store. Slots are natural numbers; words are newest first on a walk. Assumes nothing.
 use mathlib.Core.Bool.{Bool, true, false, cond, _&&_}
 use mathlib.Core.List.{List, [], _∷_}
 use mathlib.Core.Option.{Option, none, some}
 use Prim.Native.Nat.{ℕ, suc, _+_, _-_}
 use lib.Dec.{eqb, leb, ltb}
 use lib.ListN.{length, getD}
-use lib.IntN.{ℤ, pos, negsuc, natAbs, _+ℤ_, _-ℤ_}
+use lib.IntN.{ℤ, pos, negsuc, natAbs}
 use lib.Signed.{leZ, ltZ}
-use Rattle.integer.specs.Integer.{eqZ, between, twice, half, odd}
+use Rattle.integer.specs.Integer.{eqZ, between}
 use Rattle.backoff.specs.Limits.{orderLimit, rowLimit, slotLimit}
 use Rattle.backoff.specs.Words.{isWord}
-use Rattle.backoff.specs.Model.{inProbability, inBackoff}
-use Rattle.backoff.specs.Store.{Look, absent, broken, here, Store}
-use Rattle.double_array.specs.declared.Marker.{Marker}
-use Rattle.double_array.specs.declared.Marker.the-variants.{Sound, Broken}
+use Rattle.backoff.specs.Store.{Look, absent, broken, Store}
+use Rattle.markers.specs.Markers.{markerOf, lookMarker}
+use Rattle.markers.specs.declared.Marker.{Marker}
+use Rattle.markers.specs.declared.Marker.the-variants.{Sound, Broken}
 use Rattle.double_array.specs.declared.Child.{Child}
 use Rattle.double_array.specs.declared.Child.the-variants.{At, Nothing}
 
@@ -33,20 +33,6 @@ headCheck n = pos (n + headOffset)
 unfoldable pub orderIn : List ℤ → ℕ
 orderIn check = natAbs (getD check 0 freeCheck) - headOffset
 
--- "A row's marker has CHECK = p − 1", and "BASE becomes 4 × b + 2 × e + f"
-abbrev pub markerCheck : ℤ → ℤ
-markerCheck p = p -ℤ pos 1
-
-abbrev pub markerBase : ℤ → Bool → Bool → ℤ
-markerBase b e f = twice (twice b e) f
-
--- What a marker says, from its CHECK and BASE. The paper's "sound": "the p and b read from it are in range"
-unfoldable pub markerOf : ℤ → ℤ → Marker
-markerOf check base =
-    cond (inProbability (check +ℤ pos 1) && inBackoff (half (half base)))
-    (Sound (check +ℤ pos 1) (half (half base)) (odd (half base)) (odd base))
-    Broken
-
 -- "the children's slots d − w (all ≥ 1) are tried first, then d + w": the slot of the child for word w, behind d or ahead of it
 abbrev pub childSlot : Bool → ℕ → ℕ → ℕ
 childSlot true d w = d - w
@@ -63,6 +49,11 @@ ownedBy check s t = cond (ltb t (length check) && eqZ (getD check t freeCheck) (
 abbrev pub orElse : Child → Child → Child
 orElse (At t) other = At t
 orElse Nothing other = other
+
+-- whether there is a child
+abbrev pub isChild : Child → Bool
+isChild (At t) = true
+isChild Nothing = false
 
 -- "A walk looks at d + w, then at d − w if that is at least 1", from the node in slot s
 abbrev pub onEitherSide : List ℤ → ℕ → ℕ → ℕ → Child
@@ -94,10 +85,6 @@ module _ (base check : List ℤ) where
 -- the root's child for w, where BASE[0] is 1, so that no slot behind it is at least 1
 abbrev pub rootChild : List ℤ → ℕ → Child
 rootChild check w = cond (isWord w) (ownedBy check 0 (childSlot false 1 w)) Nothing
-
-abbrev pub lookMarker : Marker → Look
-lookMarker (Sound p b e f) = here (record { p = p; b = b; e = e; f = f })
-lookMarker Broken = broken
 
 -- the rest of a walk past a node, which needs a sound marker
 abbrev pub past : Marker → Look → Look

@@ -1,3 +1,2 @@
--- What must be believed of a double array and of lookup.
+-- What must be believed of a double array.
 pub mod DoubleArray
-pub mod Lookup

@@ -1,15 +1,14 @@
-// The double array of document 01, lent as two slices of which nothing is known: markers, children, the walk, and lookup.
+// The double array of document 01, lent as two slices of which nothing is known: its head, and the markers and children of its nodes. The definitions that the
+// contracts cite are in specs/.
+use markers::Marker;
 ghost use mathlib.Core.Path.{_≡_};
 ghost use mathlib.Core.Bool.{true, cond};
-ghost use mathlib.Core.List.{reverse};
 ghost use Prim.Native.Nat.{ℕ, _≤_, _<_};
 ghost use lib.Dec.{ltb};
 ghost use lib.ListN.{length, getD, replicate};
 ghost use lib.IntN.{negsuc};
 ghost use Rattle.backoff.specs.Limits.{wordLimit, orderLimit, slotLimit};
-ghost use Rattle.backoff.specs.Model.{inProbability, inBackoff};
-ghost use Rattle.double_array.specs.DoubleArray.{freeCheck, headCheck, markerCheck, markerBase, markerOf, keptMarker, markerAt, childSlot, wordAt, ownedBy, onEitherSide, childAt, rootChild, lookMarker, lookFrom, sizesOk, orderOk, headOk, isArray, orderIn};
-ghost use Rattle.double_array.specs.Lookup.{lookupOf, lookupOutcome, lookupNumber, lookupPlace, foundOf, pOf, bOf, leftOf, LookupMeans};
+ghost use Rattle.double_array.specs.DoubleArray.{freeCheck, headCheck, keptMarker, markerAt, childSlot, wordAt, ownedBy, onEitherSide, childAt, rootChild, sizesOk, orderOk, headOk, isArray, orderIn};
 
 // CHECK of a free slot; its BASE is 0.
 pub const FREE: i32 = -2147483648;
@@ -21,35 +20,13 @@ const LEAST_HEAD: i32 = 1 + HEAD_OFFSET;
 
 const LARGEST_HEAD: i32 = backoff::ORDER_LIMIT + HEAD_OFFSET;
 
-// CHECK of a marker whose p is in range is negative and at least this.
-const LEAST_CHECK: i32 = backoff::LEAST_PROBABILITY - 1;
-
-// BASE of a marker whose b is in range lies between these.
-const LEAST_BASE: i32 = 4 * backoff::LEAST_BACKOFF;
-
-const LARGEST_BASE: i32 = 4 * backoff::LARGEST_BACKOFF + 3;
-
 // The largest number of 32 bits.
 const ONES: usize = 4294967295;
-
-// What a marker says. The paper's "sound" marker holds a p and a b in range; `e` is set where some row puts a further word in front of this one, `f` where
-// some row is this row followed by one more word.
-pub enum Marker {
-    Sound { p: i32, b: i32, e: bool, f: bool },
-    Broken,
-}
 
 // The slot of a child.
 pub enum Child {
     At(usize),
     Nothing,
-}
-
-// The answer of a lookup: `left` says whether some row puts a further word in front of the one that was found.
-pub enum Lookup {
-    Found { p: i32, b: i32, left: bool },
-    NotFound,
-    Refused { number: u32, place: u32 },
 }
 
 // CHECK[0] of an array of this order.
@@ -58,43 +35,6 @@ pub fn head_check(order: usize) -> i32
     ensures { λ r. ⌜ r ≡ headCheck order ⌝ }
 {
     order as i32 + HEAD_OFFSET
-}
-
-// CHECK of the marker of a row with this p.
-pub fn marker_check(p: i32) -> i32
-    requires { ⌜ inProbability p ≡ true ⌝ }
-    ensures { λ r. ⌜ r ≡ markerCheck p ⌝ }
-{
-    p - 1
-}
-
-// BASE of the marker of a row with this b, e and f.
-pub fn marker_base(b: i32, e: bool, f: bool) -> i32
-    requires { ⌜ inBackoff b ≡ true ⌝ }
-    ensures { λ r. ⌜ r ≡ markerBase b e f ⌝ }
-{
-    4 * b + 2 * (e as i32) + (f as i32)
-}
-
-// What a marker's CHECK and BASE say.
-fn marker_of(check: i32, base: i32) -> Marker
-    ensures { λ r. ⌜ r ≡ markerOf check base ⌝ }
-{
-    let inside = (LEAST_CHECK <= check)
-        & (check < 0)
-        & (LEAST_BASE <= base)
-        & (base <= LARGEST_BASE);
-    if !inside {
-        return Marker::Broken;
-    }
-    let p = check + 1;
-    let upper = base >> 1;
-    Marker::Sound {
-        p,
-        b: upper >> 1,
-        e: upper & 1 == 1,
-        f: base & 1 == 1,
-    }
 }
 
 // The marker of the node in slot s, which keeps one.
@@ -111,7 +51,7 @@ pub fn kept_marker(base: &[i32], check: &[i32], s: usize) -> Marker
     if check.len() <= t {
         return Marker::Broken;
     }
-    marker_of(check[t], base[t])
+    markers::marker_of(check[t], base[t])
 }
 
 // What the node in slot s says, to which `depth` words lead. One of n words has no marker: its own BASE holds p − 1.
@@ -122,7 +62,7 @@ pub fn read_marker(base: &[i32], check: &[i32], order: usize, depth: usize, s: u
     ensures { λ r. ⌜ r ≡ markerAt (now (base .entry)) (now (check .entry)) depth s ⌝ }
 {
     if depth == order {
-        return marker_of(base[s], 0);
+        return markers::marker_of(base[s], 0);
     }
     kept_marker(base, check, s)
 }
@@ -263,70 +203,6 @@ pub fn order_of(check: &[i32]) -> usize
     ensures { λ r. ⌜ r ≡ orderIn (now (check .entry)) ⌝ }
 {
     (check[0] - HEAD_OFFSET) as usize
-}
-
-// The answer of a lookup that ends at a node with this marker.
-fn found_at(marker: Marker) -> Lookup
-    ensures { λ r. ⌜ r ≡ lookupOf (lookMarker marker) ⌝ }
-{
-    let Marker::Sound { p, b, e, f: _ } = marker else {
-        return Lookup::Refused {
-            number: backoff::BROKEN_NODE,
-            place: 0,
-        };
-    };
-    Lookup::Found { p, b, left: e }
-}
-
-// The answer of the walk from the root over the words, newest first, of which there are no more than n, so that every node on it but the last keeps its marker. The
-// root's is sound in every array.
-fn walk(base: &[i32], check: &[i32], order: usize, words: &[u32]) -> Lookup
-    requires { ⌜ isArray (now base) (now check) ≡ true ⌝ }
-    requires { ⌜ order ≡ orderIn (now check) ⌝ }
-    requires { ⌜ (1 ≤ length (now words)) × (length (now words) ≤ order) ⌝ }
-    ensures { λ r. ⌜ r ≡ lookupOf (lookFrom (now (base .entry)) (now (check .entry)) 0 0 (reverse (now (words .entry)))) ⌝ }
-{
-    let mut left = words.len() - 1;
-    let Child::At(first) = root_child(check, words[left]) else {
-        return Lookup::NotFound;
-    };
-    let mut s = first;
-    while 0 < left {
-        let Marker::Sound { .. } = kept_marker(base, check, s) else {
-            return found_at(Marker::Broken);
-        };
-        left -= 1;
-        let Child::At(t) = find_child(base, check, s, words[left]) else {
-            return Lookup::NotFound;
-        };
-        s = t;
-    }
-    found_at(read_marker(base, check, order, words.len(), s))
-}
-
-// The paper's lookup: the p, b and left extension of the row that the words are, oldest first.
-pub fn look_up(base: &[i32], check: &[i32], words: &[u32]) -> Lookup
-    ensures outcome { λ r. ⌜ r ≡ lookupOutcome (now (base .entry)) (now (check .entry)) (now (words .entry)) ⌝ }
-    ensures meaning { λ r. ⌜ LookupMeans (now (base .entry)) (now (check .entry)) (now (words .entry)) (lookupNumber r) (lookupPlace r) (foundOf r) (pOf r) (bOf r) (leftOf r) ⌝ }
-{
-    if !is_array(base, check) {
-        return Lookup::Refused {
-            number: backoff::ARRAY_HEAD,
-            place: 0,
-        };
-    }
-    let count = words.len();
-    if count < 1 || (backoff::ORDER_LIMIT as usize) < count {
-        return Lookup::Refused {
-            number: backoff::WORD_COUNT,
-            place: 0,
-        };
-    }
-    let order = order_of(check);
-    if order < count {
-        return Lookup::NotFound;
-    }
-    walk(base, check, order, words)
 }
 
 // Writes one value everywhere.

@@ -1,52 +1,27 @@
 -- What filling means. Assumes nothing.
 use mathlib.Core.Path.{_≡_, refl, sym, ap, _∙_}
-use mathlib.Core.Bool.{true, _&&_}
-use mathlib.Core.List.{List, [], _∷_}
+use mathlib.Core.Bool.{true}
+use mathlib.Core.List.{List}
 use Prim.Native.Nat.{ℕ, _*_, _≤_}
 use native.Mathlib.Omega.{arith}
 use lib.ListN.{length, take, drop}
 use lib.Seq.{take-at, drop-at}
 use lib.IntN.{ℤ}
-use Rattle.integer.proofs.Ranges.{and-left}
-use Rattle.backoff.specs.Limits.{unknownWord, startWord, endWord}
-use Rattle.backoff.specs.Model.{listed}
-use Rattle.backoff.specs.Rule.{rule}
 use Rattle.backoff.specs.Refusal.{numberOf, placeOf}
 use Rattle.backoff.specs.Run.{written}
 use Rattle.backoff.proofs.Slices.{length-written}
 use Rattle.backoff.specs.declared.Verdict.{Verdict}
 use Rattle.backoff.specs.declared.Verdict.the-variants.{Accepted, Refused}
-use Rattle.row_search.specs.Search.{findIn, isAt}
 use Rattle.row_search.proofs.Search.{find-unique}
-use Rattle.list.specs.Check.{reservedListed, verdictFor}
-use Rattle.list.specs.ListModel.{modelOf}
-use Rattle.list.proofs.Check.{checked-good, checked-reserved, checked-size, accepted-refused}
-use Rattle.list.proofs.ListModel.{listed-found}
-use Rattle.filling.specs.Added.{Extends}
-use Rattle.filling.specs.Filled.{filledRows, filledTable}
+use Rattle.list.proofs.Check.{checked-good, checked-size, accepted-refused}
+use Rattle.filled_list.specs.Filled.{filledRows, filledTable}
+use Rattle.filled_list.proofs.FilledTable.{filled-length, filled-rows, filled-checked}
+use Rattle.filled_list.proofs.FilledModel.{filled-order, filled-scores-alike}
 use Rattle.filling.specs.Fill.{fillVerdict, Filled, filledBy, fillOutcome, IsFilled}
 use Rattle.filling.specs.Meaning.{FilledList, FillMeans}
-use Rattle.filling.proofs.Alike.{rule-alike}
-use Rattle.filling.proofs.FilledTable.{filled-length, filled-rows, filled-good}
-use Rattle.filling.proofs.FilledModel.{filled-order, filled-extends, filled-adds-only}
+use Rattle.filling.proofs.AddsOnly.{filled-adds-only}
 use Rattle.filling.proofs.Refusals.{fill-accepted, fill-number, refused-told}
 use Rattle.filling.proofs.FilledAccepted.{filled-accepted}
-
--- of a list that the checks let pass for filling, whether or not 5, 1 or 15 then refuse it
-module _ (t : List ℤ) (a : verdictFor true t ≡ Accepted) where
-  unknown-listed : listed (modelOf t) (unknownWord ∷ []) ≡ true
-  unfolding reservedListed
-  unknown-listed =
-      let u = isAt (findIn t (unknownWord ∷ [])) in
-      let s = isAt (findIn t (startWord ∷ [])) in
-      listed-found t (unknownWord ∷ []) ∙ and-left u s (and-left (u && s) (isAt (findIn t (endWord ∷ []))) (checked-reserved true t a))
-
-  extends : Extends (modelOf t) (modelOf (filledTable t))
-  extends = filled-extends t (checked-good true t a) (checked-size true t a .0)
-
-  -- "Points by the back-off rule are equal before and after, for each word and history."
-  pub filled-scores-alike : (h : List ℕ) (w : ℕ) → rule (modelOf (filledTable t)) h w .points ≡ rule (modelOf t) h w .points
-  filled-scores-alike = rule-alike (modelOf t) (modelOf (filledTable t)) extends unknown-listed
 
 filled-list : (t : List ℤ) (size : ℕ) → fillVerdict t size ≡ Accepted → FilledList t (filledTable t)
 filled-list t size e =
@@ -56,7 +31,7 @@ filled-list t size e =
       accepted = filled-accepted t size f;
       order-as = filled-order t (checked-good true t a) (checked-size true t a .0);
       adds-only = filled-adds-only t (checked-good true t a);
-      once = find-unique (filledTable t) (filled-good t (checked-good true t a));
+      once = find-unique (filledTable t) (filled-checked t a);
       scores-alike = filled-scores-alike t a;
     }
 

@@ -1,40 +1,38 @@
 -- The refusals of filling: what a list is that is filled, how the code comes to each refusal, and what a refusal means. Assumes nothing.
 use mathlib.Core.Path.{_≡_, refl, sym, ap, _∙_, subst}
 use mathlib.Core.Logic.{⊎-elim}
-use mathlib.Core.Bool.{Bool, true, false, cond, _&&_, _||_, true≢false}
-use mathlib.Core.List.{List, [], _∷_, _++_, List·Memᴰ·head, List·Memᴰ·tail}
-use Prim.Native.Nat.{ℕ, zero, suc, _+_, _*_, _-_, _≤_, _<_}
+use mathlib.Core.Bool.{Bool, true, false, cond, true≢false}
+use mathlib.Core.List.{List, [], _∷_, _++_}
+use Prim.Native.Nat.{ℕ, zero, suc, _+_, _*_, _≤_, _<_}
 use native.Mathlib.Nat.{not-suc-le-zero}
 use native.Mathlib.Omega.{arith}
 use lib.Dec.{leb}
-use lib.ListN.{length, getD, drop}
-use lib.Seq.{drop-cons}
+use lib.ListN.{length}
 use lib.IntN.{ℤ}
 use borrow.Author.Tests.{leb-true, leb-false, le-leb, lt-leb}
-use Rattle.integer.proofs.Ranges.{lt-or-ge, and-left, and-right, and-both}
+use Rattle.integer.proofs.Ranges.{lt-or-ge}
 use Rattle.backoff.specs.Limits.{rowLimit}
 use Rattle.backoff.specs.Refusal.{numberOf, placeOf, tableLength, rowProbability, shortSlice}
 use Rattle.backoff.specs.Model.{inProbability}
 use Rattle.backoff.specs.Run.{written}
 use Rattle.backoff.specs.declared.Verdict.{Verdict}
 use Rattle.backoff.specs.declared.Verdict.the-variants.{Accepted, Refused}
-use Rattle.rows.specs.Table.{rowsOf, lengthOf, words}
-use Rattle.rows.proofs.Table.{row-in, words-length}
+use Rattle.rows.specs.Table.{rowsOf, words}
 use Rattle.row_search.specs.Search.{findIn, isAt}
-use Rattle.row_search.specs.declared.Found.{Found}
-use Rattle.row_search.specs.declared.Found.the-variants.{At, Nothing}
+use Rattle.row_search.specs.declared.Found.the-variants.{Nothing}
 use Rattle.list.specs.Check.{refuse, verdictFor}
 use Rattle.list.specs.Meaning.{NoneMeets}
 use Rattle.list.proofs.Meaning.{no-row, none-meets, refused-verdict}
 use Rattle.list.proofs.Check.{cond-accepted, refuse-accepted, refuse-number, accepted-refused, checked-number}
-use Rattle.filling.specs.Filled.{withoutFirstWords, addedProbability, filledRows, filledTable}
-use Rattle.filling.specs.Fill.{addable, allAddable, neededFault, sizeVerdict, neededScan, andThen, fillVerdict, filledBy, fillOutcome, IsFilled}
-use Rattle.filling.specs.Steps.{NoneNeeding, FirstNeeding, Checks}
+use Rattle.filled_list.specs.Filled.{withoutFirstWords, addedProbability, filledRows, filledTable}
+use Rattle.filled_list.proofs.Ascending.{In}
+use Rattle.filled_list.proofs.WithoutFirstWords.{in-behind, behind-in}
+use Rattle.row_ends.specs.Needed.{allAddable, neededFault}
+use Rattle.row_ends.specs.Steps.{NoneNeeding, FirstNeeding}
+use Rattle.row_ends.proofs.Needed.{needed-in-range, not-addable, absent-out, fault-five}
+use Rattle.filling.specs.Fill.{sizeVerdict, neededScan, andThen, fillVerdict, filledBy, fillOutcome, IsFilled}
+use Rattle.filling.specs.Steps.{Checks}
 use Rattle.filling.specs.Meaning.{OutOfRange, AllInRange, FillRefusedBy, bad-list, added-probability, too-many-rows, too-short}
-use Rattle.filling.specs.Next.{lastWords}
-use Rattle.filling.proofs.Ascending.{In}
-use Rattle.filling.proofs.WithoutFirstWords.{without-nil, without-more, without-none, in-behind, behind-in}
-use Rattle.filling.proofs.Next.{last-size, last-all}
 
 pub record Fills (t : List ℤ) (size : ℕ) : Type 0 where
   pub checked : verdictFor true t ≡ Accepted
@@ -96,88 +94,9 @@ module _ (t : List ℤ) (size : ℕ) where
   unfolding fillVerdict
   fill-number = then-number (verdictFor true t) (neededScan t size 0 (rowsOf t)) (checked-number true t) (needed-number 0 (rowsOf t))
 
--- the p of an added row is in range where no row needs one that is not
-module _ (t : List ℤ) where
-  each-addable : (rows : List (List ℕ)) → allAddable t rows ≡ true → (ws : List ℕ) → In ws rows → addable t ws ≡ true
-  unfolding allAddable
-  each-addable (vs ∷ rows) e ws (List·Memᴰ·head q) = rw q (and-left (addable t vs) (allAddable t rows) e)
-  each-addable (vs ∷ rows) e ws (List·Memᴰ·tail m) = each-addable rows (and-right (addable t vs) (allAddable t rows) e) ws m
-
-  pub all-addable : (rows : List (List ℕ)) → ((ws : List ℕ) → In ws rows → addable t ws ≡ true) → allAddable t rows ≡ true
-  unfolding allAddable
-  all-addable [] f = refl
-  all-addable (ws ∷ rows) f = and-both (addable t ws) (allAddable t rows) (f ws (List·Memᴰ·head refl)) (all-addable rows (λ vs m. f vs (List·Memᴰ·tail m)))
-
-  fault-none : (b : Bool) → cond b 0 rowProbability ≡ 0 → b ≡ true
-  fault-none true e = refl
-  fault-none false e = absurd (omega arith)
-
-  pub needed-in-range : (i : ℕ) (ws : List ℕ) → neededFault t i ≡ 0 → In ws (withoutFirstWords (words t i)) → findIn t ws ≡ Nothing → inProbability (addedProbability t ws) ≡ true
-  unfolding neededFault addable
-  needed-in-range i ws e m f =
-      let a = each-addable (withoutFirstWords (words t i)) (fault-none (allAddable t (withoutFirstWords (words t i))) e) ws m in
-      rw f at a
-
-pub addable-listed : (t : List ℤ) (ws : List ℕ) → isAt (findIn t ws) ≡ true → addable t ws ≡ true
-unfolding addable
-addable-listed t ws e = rw e
-
-pub addable-unlisted : (t : List ℤ) (ws : List ℕ) → isAt (findIn t ws) ≡ false → addable t ws ≡ inProbability (addedProbability t ws)
-unfolding addable
-addable-unlisted t ws e = rw e
-
--- ---- 5 at one row, as the code goes through it
-
-module _ (t : List ℤ) (i : ℕ) (l : i < rowsOf t) where
-  last-cons : (m : ℕ) → m < lengthOf t i → lastWords t i (suc m) ≡ getD (words t i) (lengthOf t i - suc m) 0 ∷ lastWords t i m
-  unfolding lastWords
-  last-cons m h =
-      let e : suc (lengthOf t i - suc m) ≡ lengthOf t i - m = omega arith in
-      drop-cons (words t i) (lengthOf t i - suc m) 0 (omega (arith, words-length t i (row-in t i l)))
-      ∙ ap {B = List ℕ} (λ k. getD (words t i) (lengthOf t i - suc m) 0 ∷ drop k (words t i)) e
-
-  -- what is left to look at
-  unfoldable pub leftFault : ℕ → ℕ
-  leftFault m = cond (allAddable t (withoutFirstWords (lastWords t i m))) 0 rowProbability
-
-  pub left-all : (k : ℕ) → k ≡ lengthOf t i → leftFault k ≡ neededFault t i
-  unfolding leftFault neededFault
-  left-all k e = ap (λ (ws : List ℕ). cond (allAddable t (withoutFirstWords ws)) 0 rowProbability) (ap (lastWords t i) e ∙ last-all t i)
-
-  module _ (m : ℕ) (two : 2 < m) (h : m ≤ lengthOf t i) where
-    left-step : withoutFirstWords (lastWords t i m) ≡ lastWords t i (m - 1) ∷ withoutFirstWords (lastWords t i (m - 1))
-    left-step =
-        let e : m ≡ suc (m - 1) = omega arith in
-        ap withoutFirstWords (ap (lastWords t i) e ∙ last-cons (m - 1) (omega arith))
-        ∙ without-more _ (lastWords t i (m - 1)) (omega (arith, last-size t i (m - 1) l (omega arith)))
-
-    pub left-fails : addable t (lastWords t i (m - 1)) ≡ false → leftFault m ≡ rowProbability
-    unfolding leftFault allAddable
-    left-fails e = rw (left-step, e)
-
-    pub left-passes : addable t (lastWords t i (m - 1)) ≡ true → leftFault m ≡ leftFault (m - 1)
-    unfolding leftFault allAddable
-    left-passes e = rw (left-step, e)
-
-  pub left-none : (m : ℕ) → m ≤ 2 → m ≤ lengthOf t i → leftFault m ≡ 0
-  unfolding leftFault allAddable
-  left-none m two h = go (lastWords t i m) (last-size t i m l h)
-    where
-      go : (ws : List ℕ) → length ws ≡ m → cond (allAddable t (withoutFirstWords ws)) 0 rowProbability ≡ 0
-      go [] e = rw without-nil
-      go (w ∷ ws) e = rw (without-none w ws (lt-leb 2 (length ws) (omega arith)))
-
 -- ---- the refusals, as the code goes through them
 
 module _ (t : List ℤ) where
-  pub fault-five : (i : ℕ) → (neededFault t i ≡ 0 → ⊥) → neededFault t i ≡ rowProbability
-  unfolding neededFault
-  fault-five i n = go (allAddable t (withoutFirstWords (words t i))) n
-    where
-      go : (b : Bool) → (cond b 0 rowProbability ≡ 0 → ⊥) → cond b 0 rowProbability ≡ rowProbability
-      go true n = absurd (n refl)
-      go false n = refl
-
   checks-refused : (size n p rows : ℕ) → (n ≡ 0 → ⊥) → fillVerdict t size ≡ Refused n p → Checks t size n p rows
   checks-refused size n p rows l e = record { number-is = sym (ap numberOf e); place-is = sym (ap placeOf e); accepted = λ z. absurd (l z); rows-are = λ z. absurd (l z) }
 
@@ -234,29 +153,11 @@ module _ (t : List ℤ) where
 -- ---- what a refusal means
 
 module _ (t : List ℤ) where
-  not-addable : (rows : List (List ℕ)) → allAddable t rows ≡ false → (ws : List ℕ) × In ws rows × (addable t ws ≡ false)
-  unfolding allAddable
-  not-addable [] e = absurd (true≢false e)
-  not-addable (ws ∷ rows) e = go (addable t ws) refl e (not-addable rows)
-    where
-      go : (b : Bool) → addable t ws ≡ b → (b && allAddable t rows) ≡ false → (allAddable t rows ≡ false → (vs : List ℕ) × In vs rows × (addable t vs ≡ false)) → (vs : List ℕ) × In vs (ws ∷ rows) × (addable t vs ≡ false)
-      go true q h ih = let r = ih h in (r .0, List·Memᴰ·tail (r .1), r .2)
-      go false q h ih = (ws, List·Memᴰ·head refl, q)
-
-  absent-out : (ws : List ℕ) → addable t ws ≡ false → (findIn t ws ≡ Nothing) × (inProbability (addedProbability t ws) ≡ false)
-  unfolding addable
-  absent-out ws e = go (findIn t ws) refl e
-    where
-      go : (f : Found) → findIn t ws ≡ f → (isAt f || inProbability (addedProbability t ws)) ≡ false → (findIn t ws ≡ Nothing) × (inProbability (addedProbability t ws) ≡ false)
-      go (At j) q h = absurd (true≢false h)
-      go Nothing q h = (q, h)
-
   -- 5 at row i, and that no row needs a p outside its range
-
   out-of-range : (i : ℕ) → i < rowsOf t → allAddable t (withoutFirstWords (words t i)) ≡ false → OutOfRange t i
   out-of-range i l e =
-      let r = not-addable (withoutFirstWords (words t i)) e in
-      let o = absent-out (r .0) (r .2) in
+      let r = not-addable t (withoutFirstWords (words t i)) e in
+      let o = absent-out t (r .0) (r .2) in
       let b = in-behind (words t i) (r .0) (r .1) in
       record {
         ws = r .0;
@@ -274,7 +175,7 @@ module _ (t : List ℤ) where
       go true q h = absurd (h refl)
       go false q h = out-of-range i l q
 
-  front-word : (ws front : List ℕ) (i : ℕ) → i < rowsOf t → words t i ≡ front ++ ws → 2 ≤ length ws → findIn t ws ≡ Nothing → In ws (withoutFirstWords (words t i))
+  pub front-word : (ws front : List ℕ) (i : ℕ) → i < rowsOf t → words t i ≡ front ++ ws → 2 ≤ length ws → findIn t ws ≡ Nothing → In ws (withoutFirstWords (words t i))
   front-word ws [] i l e two n = absurd (no-row t ws (ap isAt n) i l e)
   front-word ws (v ∷ front) i l e two n = rw e (behind-in front v ws two)
 

@@ -8,11 +8,14 @@ use Rattle.backoff.specs.declared.Verdict.the-variants.{Accepted, Refused}
 use Rattle.rows.specs.Table.{rowsOf, field, lengthOf, orderOf, wordsOf, words, withoutFirst, withoutLast, lastWord, placeFits, placesFit}
 use Rattle.rows.specs.Order.{lastLess, precedes}
 use Rattle.row_search.specs.Search.{findBelow, findIn}
-use Rattle.list.specs.Check.{tableFits, backoffFits, fieldFault, isAfter, withoutFirsts, shorterListed, orderFault, rowFault, reservedListed, scan, verdictFor, verdict}
+use Rattle.row_fields.specs.Fields.{backoffFits, fieldFault}
+use Rattle.rows_before.specs.Faults.{isAfter, withoutFirsts, shorterListed, orderFault, rowFault}
+use Rattle.list.specs.Check.{tableFits, reservedListed, scan, verdictFor, verdict}
 use Rattle.list.specs.ListModel.{anyBelow, extendedIn, continuedIn, modelOf}
-use Rattle.filling.specs.Added.{ownPoints}
-use Rattle.filling.specs.Filled.{rowsFrom, withoutFirstWords, allWithoutFirstWords, insert, insertAll, filledRows, addedProbability, filledRow, tableOf, filledTable}
-use Rattle.filling.specs.Fill.{addable, allAddable, neededFault, sizeVerdict, neededScan, fillVerdict}
+use Rattle.filled_list.specs.Added.{ownPoints}
+use Rattle.filled_list.specs.Filled.{rowsFrom, withoutFirstWords, allWithoutFirstWords, insert, insertAll, filledRows, addedProbability, filledRow, tableOf, filledTable}
+use Rattle.row_ends.specs.Needed.{addable, allAddable, neededFault}
+use Rattle.filling.specs.Fill.{sizeVerdict, neededScan, fillVerdict}
 use Rattle.filling.specs.Sample.{pruned, prunedFilled, prunedHigh}
 
 computed : Unit {0}

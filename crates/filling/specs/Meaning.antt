@@ -18,7 +18,7 @@ use Rattle.row_search.specs.declared.Found.the-variants.{Nothing}
 use Rattle.list.specs.Check.{verdict}
 use Rattle.list.specs.ListModel.{modelOf}
 use Rattle.list.specs.Meaning.{NoneMeets, VerdictMeans}
-use Rattle.filling.specs.Filled.{addedProbability, filledRows}
+use Rattle.filled_list.specs.Filled.{addedProbability, filledRows}
 
 module _ (t : List ℤ) where
   -- row i of the list, as it is lent

@@ -2,49 +2,19 @@
 use mathlib.Core.Path.{_≡_}
 use mathlib.Core.Bool.{Bool, true}
 use mathlib.Core.List.{List}
-use Prim.Native.Nat.{ℕ, _≤_, _<_}
+use Prim.Native.Nat.{ℕ}
 use lib.ListN.{length}
 use lib.IntN.{ℤ}
-use Rattle.backoff.specs.Refusal.{numberOf, placeOf, rowProbability}
+use Rattle.backoff.specs.Refusal.{numberOf, placeOf}
 use Rattle.backoff.specs.declared.Verdict.the-variants.{Accepted}
-use Rattle.rows.specs.Table.{rowsOf, lengthOf}
-use Rattle.row_search.specs.Search.{findIn}
-use Rattle.row_search.specs.declared.Found.the-variants.{Nothing}
-use Rattle.list.specs.Check.{verdictFor}
-use Rattle.filling.specs.Filled.{filledProbability, filledBackoff, filledRows}
-use Rattle.filling.specs.Fill.{neededFault, fillVerdict}
-use Rattle.filling.specs.Next.{lastWords}
-
--- the last m words of row i, which has k words, of a list that is to be filled; they are no row if row i has more words
-pub record IsEnd (t : List ℤ) (i k m : ℕ) : Type 0 where
-  pub checked : verdictFor true t ≡ Accepted
-  pub within : i < rowsOf t
-  pub size : k ≡ lengthOf t i
-  pub some : 0 < m
-  pub long : m ≤ k
-  pub absent : m < k → findIn t (lastWords t i m) ≡ Nothing
-
--- p and b of the filled list's row of these words
-unfoldable pub endProbability : List ℤ → ℕ → ℕ → ℤ
-endProbability t i m = filledProbability t (lastWords t i m) (findIn t (lastWords t i m))
-
-unfoldable pub endBackoff : List ℤ → ℕ → ℕ → ℤ
-endBackoff t i m = filledBackoff t (findIn t (lastWords t i m))
-
--- no row needs a row whose p is out of range
-abbrev pub NoneNeeding : List ℤ → Type 0
-NoneNeeding t = (i : ℕ) → i < rowsOf t → neededFault t i ≡ 0
+use Rattle.filled_list.specs.Filled.{filledRows}
+use Rattle.row_ends.specs.Steps.{NoneNeeding}
+use Rattle.filling.specs.Fill.{fillVerdict}
 
 -- the number of rows of the filled list, and whether all of them have a p in range
 pub record Counts (t : List ℤ) (rows : ℕ) (fits : Bool) : Type 0 where
   pub rows-are : rows ≡ length (filledRows t)
   pub none : fits ≡ true → NoneNeeding t
-
--- no row before r needs a row whose p is out of range, and row r does, if it is a row
-pub record FirstNeeding (t : List ℤ) (r : ℕ) : Type 0 where
-  pub within : r ≤ rowsOf t
-  pub none : (j : ℕ) → j < r → neededFault t j ≡ 0
-  pub one : r < rowsOf t → neededFault t r ≡ rowProbability
 
 -- the refusal of filling t into a table of so many numbers, and without one the number of rows
 pub record Checks (t : List ℤ) (size number place rows : ℕ) : Type 0 where

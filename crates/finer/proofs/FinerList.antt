@@ -9,7 +9,7 @@ use lib.Dec.{leb}
 use lib.IntN.{ℤ, pos, negℤ}
 use lib.ListN.{length, getD, take, drop, length-take}
 use borrow.Author.Tests.{le-leb, lt-leb}
-use Rattle.integer.specs.Integer.{upTo}
+use Rattle.integer.specs.Integer.{upTo, orElse}
 use Rattle.integer.proofs.Arithmetic.{zarith, mul}
 use Rattle.integer.proofs.Ranges.{between-low, between-high, between-yes}
 use Rattle.backoff.specs.Limits.{orderLimit, leastProbability, largestBackoff, unknownWord, startWord, endWord}
@@ -24,9 +24,11 @@ use Rattle.rows.proofs.Table.{length-limit, same-places}
 use Rattle.row_search.specs.Search.{findBelow, findIn, isAt}
 use Rattle.row_search.specs.declared.Found.{Found}
 use Rattle.row_search.specs.declared.Found.the-variants.{At, Nothing}
-use Rattle.list.specs.Check.{backoffFits, fieldFault, isAfter, withoutFirsts, shorterListed, orderFault, orElse, rowFault, reservedListed, refuse, scan, verdictFor}
+use Rattle.row_fields.specs.Fields.{backoffFits, fieldFault}
+use Rattle.rows_before.specs.Faults.{isAfter, withoutFirsts, shorterListed, orderFault, rowFault}
+use Rattle.list.specs.Check.{reservedListed, refuse, scan, verdictFor}
 use Rattle.list.specs.ListModel.{anyBelow, extendedIn, continuedIn, entryAt, modelOf}
-use Rattle.double_array.specs.declared.Lookup.the-variants.{Refused as NoLookup}
+use Rattle.lookup.specs.declared.Lookup.the-variants.{Refused as NoLookup}
 use Rattle.build.specs.Listed.{answerAt, listedAnswer}
 use Rattle.finer.specs.Times.{times, timesEntry, timesModel}
 use Rattle.finer.specs.FinerList.{timesFrom, timesList, OlderPoints, takenOver, timesLookup}

@@ -7,8 +7,8 @@ use lib.Dec.{leb}
 use lib.IntN.{ℤ, pos, negℤ}
 use Rattle.integer.specs.Integer.{between}
 use Rattle.rows.specs.Table.{rowsOf, probabilityAt, backoffAt}
-use Rattle.double_array.specs.declared.Lookup.{Lookup}
-use Rattle.double_array.specs.declared.Lookup.the-variants.{Found, NotFound, Refused}
+use Rattle.lookup.specs.declared.Lookup.{Lookup}
+use Rattle.lookup.specs.declared.Lookup.the-variants.{Found, NotFound, Refused}
 use Rattle.finer.specs.Times.{times}
 
 -- Every p and every b multiplied by k, from number j of a table on: they are numbers 6 and 7 of each row's eight.

@@ -21,8 +21,7 @@ use Rattle.carried_state.specs.Numbers.{numbersOf}
 use Rattle.fragments.specs.declared.Fragment.{Fragment as Numbers}
 use Rattle.fragments.specs.Fragment.{Fragment, packed, fragmentOk, fragmentFrom, fragmentOf}
 use Rattle.fragments.specs.Outcome.{fragmentIn}
-use Rattle.fragments.specs.Inner.{mostPoints}
-use Rattle.fragments.proofs.Join.{fragmentOf-is}
+use Rattle.fragments.proofs.ByRule.{fragmentOf-is}
 use Rattle.fragments.proofs.Crossing.{length-keptIn}
 
 all-three : (a b c : Bool) → a ≡ true → b ≡ true → c ≡ true → all (a ∷ b ∷ c ∷ []) ≡ true
@@ -57,8 +56,8 @@ module _ (n : ℕ) (f : Fragment (List ℤ)) (ok : fragmentOk n f ≡ true) wher
   unfolding fragmentOk
   end-ok = passed _ 1 ok
 
-  pub total-bound : n ≤ orderLimit → natAbs (f .total) ≤ f .count * mostPoints
+  pub total-bound : n ≤ orderLimit → natAbs (f .total) ≤ f .count * (orderLimit * largestBackoff)
   unfolding fragmentOk
   total-bound order =
-      let most : f .count * (n * largestBackoff) ≤ f .count * mostPoints = mul-le-mul-left (f .count) (mul-le-mul-right largestBackoff order) in
+      let most : f .count * (n * largestBackoff) ≤ f .count * (orderLimit * largestBackoff) = mul-le-mul-left (f .count) (mul-le-mul-right largestBackoff order) in
       omega (arith, leb-true (natAbs (f .total)) (f .count * (n * largestBackoff)) (passed _ 2 ok))

@@ -15,8 +15,7 @@ use Rattle.backoff.specs.Store.{Store, Ran, ran, refusedAt, runOver, brokenRun,
 use Rattle.backoff.proofs.NineNumbers.{length-nine}
 use Rattle.carried_state.proofs.Carried.{zeros-ok, zeros-empty, numbers-stateFrom}
 use Rattle.fragments.specs.Fragment.{noWords}
-use Rattle.fragments.specs.Outcome.{refusedBy, crossed, scoredAs, fragmentOutcome}
-use Rattle.fragments.specs.Bracketing.{SameResult}
+use Rattle.fragments.specs.Outcome.{refusedBy, crossed, scoredAs, fragmentOutcome, SameResult}
 
 module _ (r : Run) (points : length (r .words) ≤ length (r .points)) (lengths : length (r .words) ≤ length (r .lengths)) where
   -- 14 or nothing

@@ -1,9 +1,9 @@
--- Fragments of a sentence and the joining of two neighbours, over a model. The sentences quoted are document 02's, of T-06. Assumes nothing.
-use mathlib.Core.Bool.{Bool, cond}
-use mathlib.Core.List.{List, [], _∷_, _++_}
-use Prim.Native.Nat.{ℕ, _+_, _*_, _-_, min}
+-- Fragments of a sentence, over a model, and check 21. The sentences quoted are document 02's, of T-06. Assumes nothing.
+use mathlib.Core.Bool.{Bool}
+use mathlib.Core.List.{List, [], _∷_}
+use Prim.Native.Nat.{ℕ, _*_, _-_, min}
 use lib.ListN.{length, take}
-use lib.IntN.{ℤ, pos, natAbs, _+ℤ_, _-ℤ_}
+use lib.IntN.{ℤ, pos, natAbs}
 use lib.Dec.{eqb, leb}
 use Rattle.integer.specs.Integer.{sum}
 use Rattle.backoff.specs.Limits.{largestBackoff}
@@ -49,15 +49,3 @@ module _ (M : Model) where
   -- "A fragment is scored without left context"
   unfoldable pub fragmentOf : List ℕ → Fragment State
   fragmentOf ws = fragmentFrom empty ws
-
-  -- "the joined total is both totals, less the second's kept words scored from nothing, plus those words scored after the first's end state"
-  unfoldable pub joinedTotal : Fragment State → Fragment State → ℤ
-  joinedTotal a b = a .total +ℤ b .total -ℤ sum (runPoints M empty (b .first)) +ℤ sum (runPoints M (a .end) (b .first))
-
-  -- "the end state is the second's if it has n−1 words or more, else what that scoring leaves"
-  unfoldable pub joinedEnd : Fragment State → Fragment State → State
-  joinedEnd a b = cond (leb (reach M) (b .count)) (b .end) (runEnd M (a .end) (b .first))
-
-  -- any two fragments
-  unfoldable pub join : Fragment State → Fragment State → Fragment State
-  join a b = record { total = joinedTotal a b; first = take (reach M) (a .first ++ b .first); count = a .count + b .count; end = joinedEnd a b }

@@ -1,6 +1,4 @@
--- What must be believed: fragments, their joining, what the calls return, and sentences that are taken apart; and what the inner functions are held to.
+-- What must be believed: fragments with check 21, how they cross, and what scoring one returns and means.
 pub mod Fragment
 pub mod Outcome
-pub mod Bracketing
 pub mod Meaning
-pub mod Inner

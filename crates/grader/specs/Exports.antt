@@ -4,15 +4,12 @@ use mathlib.Core.List.{List}
 use Prim.Native.Nat.{ℕ}
 use lib.IntN.{ℤ}
 use Rattle.backoff.specs.Refusal.{numberOf, placeOf}
-use Rattle.backoff.specs.Run.{Answer}
-use Rattle.backoff.specs.Store.{Started}
 use Rattle.build.specs.Build.{Built}
+use Rattle.filling.specs.Fill.{Filled}
 use Rattle.unload.specs.Unload.{Unloaded}
 use Rattle.arpa.specs.Outcome as arpa
-use Rattle.filling.specs.Fill.{Filled}
 use Rattle.c_answers.specs.Answers.{StatusIs, RowCountIs}
 use Rattle.c_answers.specs.declared.Status.{Status}
-use Rattle.c_answers.specs.declared.Total.{Total}
 use Rattle.c_answers.specs.declared.RowCount.{RowCount}
 
 -- a build's answer, and the three slices at exit
@@ -21,25 +18,6 @@ pub record BuiltIs (o : Built) (r : Status) (base check : List ℤ) (work : List
   pub base-is : base ≡ o .base
   pub check-is : check ≡ o .check
   pub work-is : work ≡ o .work
-
--- start's answer, and the slice of the state at exit
-pub record StartedIs (a : Started) (r : Status) (state : List ℤ) : Type 0 where
-  pub number : r .number ≡ a .number
-  pub place : r .place ≡ a .place
-  pub state-is : state ≡ a .state
-
--- a run's answer or that of plain scoring, and the slices of points and of length bytes at exit
-pub record TotalIs {S : Type 0} (a : Answer S) (r : Total) (points : List ℤ) (lengths : List ℕ) : Type 0 where
-  pub number : r .number ≡ a .number
-  pub place : r .place ≡ a .place
-  pub total : r .total ≡ a .total
-  pub points-are : points ≡ a .points
-  pub lengths-are : lengths ≡ a .lengths
-
--- a run's answer with the slice of the state at exit
-pub record RanIs (a : Answer (List ℤ)) (r : Total) (state points : List ℤ) (lengths : List ℕ) : Type 0 where
-  pub total : TotalIs a r points lengths
-  pub end-is : state ≡ a .end
 
 -- an unload's answer, and the two slices at exit
 pub record UnloadedIs (o : Unloaded) (r : Status) (table : List ℤ) (work : List ℕ) : Type 0 where

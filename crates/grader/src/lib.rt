@@ -10,13 +10,13 @@ use largest_move::Move;
 use sentences::Listing;
 ghost use mathlib.Core.Path.{_≡_};
 ghost use lib.ListN.{length};
+ghost use Rattle.backoff.specs.Store.{startOutcome, runOutcome};
 ghost use Rattle.list.specs.Check.{verdict};
 ghost use Rattle.list.specs.Meaning.{CheckMeans};
-ghost use Rattle.double_array.specs.Lookup.{lookupOutcome, LookupMeans};
+ghost use Rattle.double_array.specs.DoubleArray.{opened};
+ghost use Rattle.lookup.specs.Lookup.{lookupOutcome, LookupMeans};
 ghost use Rattle.build.specs.Build.{buildOutcome};
 ghost use Rattle.build.specs.Meaning.{BuildMeans};
-ghost use Rattle.backoff.specs.Store.{startOutcome, runOutcome};
-ghost use Rattle.double_array.specs.DoubleArray.{opened};
 ghost use Rattle.score.specs.Meaning.{StartMeans, RunMeans};
 ghost use Rattle.batch.specs.Sheet.{sheetOutcome};
 ghost use Rattle.batch.specs.Meaning.{SheetMeans};
@@ -24,20 +24,20 @@ ghost use Rattle.sentences.specs.Listing.{listingOutcome};
 ghost use Rattle.sentences.specs.Meaning.{ListingMeans};
 ghost use Rattle.largest_move.specs.Move.{moveOutcome};
 ghost use Rattle.largest_move.specs.Meaning.{MoveMeans};
-ghost use Rattle.fragments.specs.Outcome.{fragmentOutcome, joinOutcome};
-ghost use Rattle.fragments.specs.Meaning.{ScoringMeans, JoinMeans};
+ghost use Rattle.fragments.specs.Outcome.{fragmentOutcome};
+ghost use Rattle.fragments.specs.Meaning.{ScoringMeans};
+ghost use Rattle.joining.specs.Outcome.{joinOutcome};
+ghost use Rattle.joining.specs.Meaning.{JoinMeans};
 ghost use Rattle.plain.specs.Plain.{runOf, plainOutcome, PlainMeans};
+ghost use Rattle.filling.specs.Fill.{fillOutcome};
+ghost use Rattle.filling.specs.Meaning.{FillMeans};
 ghost use Rattle.unload.specs.Unload.{unloadOutcome};
 ghost use Rattle.unload.specs.Meaning.{UnloadMeans};
 ghost use Rattle.arpa.specs.Outcome.{readArpa};
 ghost use Rattle.arpa.specs.Meaning.{ReadMeans};
-ghost use Rattle.filling.specs.Fill.{fillOutcome};
-ghost use Rattle.filling.specs.Meaning.{FillMeans};
-ghost use Rattle.c_answers.specs.Answers.{StatusIs, FoundIs};
-ghost use Rattle.grader.specs.Exports.{BuiltIs, StartedIs, TotalIs, RanIs, UnloadedIs, ReadIs, FilledIs};
-
-// A state crosses as nine numbers.
-const STATE_LENGTH: usize = 9;
+ghost use Rattle.c_answers.specs.Answers.{StatusIs, FoundIs, TotalIs};
+ghost use Rattle.c_scoring.specs.Crossing.{StartedIs, RanIs};
+ghost use Rattle.grader.specs.Exports.{BuiltIs, UnloadedIs, ReadIs, FilledIs};
 
 // Checks a list: 1, then row by row 3 to 8, then 9.
 #[no_mangle]
@@ -68,7 +68,7 @@ pub extern "C" fn backoff_lookup(base: &[i32], check: &[i32], words: &[u32]) -> 
     ensures outcome { λ r. ⌜ FoundIs (lookupOutcome (now (base .entry)) (now (check .entry)) (now (words .entry))) r ⌝ }
     ensures meaning { λ r. ⌜ LookupMeans (now (base .entry)) (now (check .entry)) (now (words .entry)) (r .number) (r .place) (r .found) (r .p) (r .b) (r .left) ⌝ }
 {
-    c_answers::found_of(double_array::look_up(base, check, words))
+    c_answers::found_of(lookup::look_up(base, check, words))
 }
 
 // Leaves the state after `<s>` in a slice of nine: 16 for another length, 11, 12.
@@ -77,19 +77,7 @@ pub extern "C" fn backoff_start(base: &[i32], check: &[i32], state: &mut [i32]) 
     ensures outcome { λ r. ⌜ StartedIs (startOutcome (opened (now (base .entry)) (now (check .entry))) (now (state .entry))) r (now (state .exit)) ⌝ }
     ensures meaning { λ r. ⌜ StartMeans (now (base .entry)) (now (check .entry)) (now (state .entry)) (r .number) (r .place) (now (state .exit)) ⌝ }
 {
-    if state.len() != STATE_LENGTH {
-        return Status {
-            number: backoff::BAD_STATE,
-            place: 0,
-        };
-    }
-    let started = score::start(base, check);
-    let begun = started.state;
-    c_answers::store(begun, state);
-    Status {
-        number: started.number,
-        place: started.place,
-    }
+    c_scoring::start_into(base, check, state)
 }
 
 // Scores the words from the state, and leaves the next state in its place: 16 for another length than nine, 11, 16, 14, 15, 12.
@@ -105,28 +93,7 @@ pub extern "C" fn backoff_run(
     ensures outcome { λ r. ⌜ RanIs (runOutcome (opened (now (base .entry)) (now (check .entry))) (now (state .entry)) (runOf (now (words .entry)) (now (points .entry)) (now (lengths .entry)))) r (now (state .exit)) (now (points .exit)) (now (lengths .exit)) ⌝ }
     ensures meaning { λ r. ⌜ RunMeans (now (base .entry)) (now (check .entry)) (now (state .entry)) (runOf (now (words .entry)) (now (points .entry)) (now (lengths .entry))) (record { number = r .number; place = r .place; total = r .total; end = now (state .exit); points = now (points .exit); lengths = now (lengths .exit) }) ⌝ }
 {
-    if state.len() != STATE_LENGTH {
-        return Total {
-            number: backoff::BAD_STATE,
-            place: 0,
-            total: 0,
-        };
-    }
-    let ran = score::run(base, check, c_answers::load(state), words, points, lengths);
-    if ran.number != 0 {
-        return Total {
-            number: ran.number,
-            place: ran.place,
-            total: ran.total,
-        };
-    }
-    let end = ran.end;
-    c_answers::store(end, state);
-    Total {
-        number: ran.number,
-        place: ran.place,
-        total: ran.total,
-    }
+    c_scoring::run_from(base, check, state, words, points, lengths)
 }
 
 // Scores sentences, each on its own stretch of the slices: 11, 20 with the sentence's number, 14, 15, 12 with the sentence's number.
@@ -195,7 +162,7 @@ pub extern "C" fn backoff_join_fragments(
     ensures outcome { λ r. ⌜ r ≡ joinOutcome (opened (now (base .entry)) (now (check .entry))) one two ⌝ }
     ensures meaning { λ r. ⌜ JoinMeans (now (base .entry)) (now (check .entry)) one two r ⌝ }
 {
-    fragments::join_fragments(base, check, one, two)
+    joining::join_fragments(base, check, one, two)
 }
 
 // Scores the words by the list alone, after `<s>` or with no context: 1, rows 3 to 8, 9, then 14, 15.

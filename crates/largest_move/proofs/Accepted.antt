@@ -14,11 +14,12 @@ use borrow.Author.Tests.{eqb-true}
 use Rattle.backoff.specs.OneWord.{distance}
 use Rattle.backoff.specs.Store.{Store}
 use Rattle.double_array.specs.DoubleArray.{opened}
-use Rattle.sentences.specs.Sentences.{usableWords}
-use Rattle.sentences.specs.Listing.{Outcome, sizeRefusal, sentenceTotal, usableOver, sentencesOver, listingOutcome}
+use Rattle.sentence_order.specs.Sentences.{usableWords}
+use Rattle.sentence_order.proofs.Sentences.{few-sentences, length-sentences}
+use Rattle.sentence_totals.specs.Totals.{sentenceTotal}
+use Rattle.sentence_totals.proofs.Calls.{total-small}
+use Rattle.sentences.specs.Listing.{Outcome, sizeRefusal, usableOver, sentencesOver, listingOutcome}
 use Rattle.sentences.specs.Meaning.{Listed}
-use Rattle.sentences.proofs.Sentences.{few-sentences, length-sentences}
-use Rattle.sentences.proofs.Calls.{total-small}
 use Rattle.sentences.proofs.Outcome.{Sized, sized}
 use Rattle.sentences.proofs.Meaning.{listing-means}
 use Rattle.largest_move.specs.declared.Pair.{Pair}

@@ -14,11 +14,11 @@ use borrow.Author.Tests.{eq-eqb, ne-eqb}
 use Rattle.integer.proofs.Ranges.{lt-or-ge}
 use Rattle.backoff.specs.Limits.{wordLimit}
 use Rattle.backoff.specs.Store.{Store}
-use Rattle.sentences.specs.Sentences.{usable, usableWords}
+use Rattle.sentence_order.specs.Sentences.{usable, usableWords}
+use Rattle.sentence_order.specs.Inner.{sentenceAt}
+use Rattle.sentence_order.proofs.Passing.{passing-ascends}
+use Rattle.sentence_order.proofs.Sentences.{some-word, sentence-nth, length-sentenceAt}
 use Rattle.sentences.specs.Listing.{usableOver, sentencesOver}
-use Rattle.sentences.specs.Inner.{sentenceAt}
-use Rattle.sentences.proofs.Passing.{passing-ascends}
-use Rattle.sentences.proofs.Sentences.{some-word, sentence-nth, length-sentenceAt}
 use Rattle.largest_move.specs.Pairs.{differing, oneApart}
 use Rattle.largest_move.specs.Move.{sentencesApart}
 use Rattle.largest_move.specs.Inner.{digitsApart, oneDigit}

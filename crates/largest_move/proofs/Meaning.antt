@@ -15,10 +15,11 @@ use Rattle.integer.proofs.Arithmetic.{zarith, abs, sub}
 use Rattle.backoff.specs.OneWord.{distance}
 use Rattle.backoff.specs.Store.{Store}
 use Rattle.double_array.specs.DoubleArray.{opened}
-use Rattle.sentences.specs.Listing.{Outcome as Listed, sentenceTotal, usableOver, sentencesOver, listingOutcome}
+use Rattle.sentence_order.proofs.Sentences.{length-sentences}
+use Rattle.sentence_totals.specs.Totals.{sentenceTotal}
+use Rattle.sentences.specs.Listing.{Outcome as Listed, usableOver, sentencesOver, listingOutcome}
 use Rattle.sentences.specs.Meaning.{ListingMeans}
 use Rattle.sentences.proofs.Meaning.{listing-means}
-use Rattle.sentences.proofs.Sentences.{length-sentences}
 use Rattle.largest_move.specs.declared.Pair.{Pair}
 use Rattle.largest_move.specs.Pairs.{noPair, pairOf}
 use Rattle.largest_move.specs.Move.{sentencesApart, totalsApart, largestPair, moveOf, refusedMove, moveOutcome}

@@ -9,7 +9,8 @@ use lib.IntN.{ℤ}
 use borrow.Author.Tests.{eq-eqb, ne-eqb}
 use Rattle.backoff.specs.Store.{Store}
 use Rattle.double_array.specs.DoubleArray.{opened}
-use Rattle.sentences.specs.Listing.{Outcome as Listed, sentenceTotal, sentencesOver, listingOutcome}
+use Rattle.sentence_totals.specs.Totals.{sentenceTotal}
+use Rattle.sentences.specs.Listing.{Outcome as Listed, sentencesOver, listingOutcome}
 use Rattle.largest_move.specs.declared.Pair.{Pair}
 use Rattle.largest_move.specs.declared.Move.{Move}
 use Rattle.largest_move.specs.Move.{largestPair, moveOf, refusedMove, moveOutcome}

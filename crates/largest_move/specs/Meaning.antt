@@ -7,7 +7,8 @@ use Prim.Native.Nat.{ℕ, suc, _≤_, _<_}
 use lib.ListN.{length, getD}
 use lib.IntN.{ℤ, pos}
 use Rattle.double_array.specs.DoubleArray.{opened}
-use Rattle.sentences.specs.Listing.{sentenceTotal, usableOver, sentencesOver}
+use Rattle.sentence_totals.specs.Totals.{sentenceTotal}
+use Rattle.sentences.specs.Listing.{usableOver, sentencesOver}
 use Rattle.sentences.specs.Meaning.{ListingMeans}
 use Rattle.largest_move.specs.declared.Move.{Move}
 use Rattle.largest_move.specs.Pairs.{noPair}

@@ -9,7 +9,8 @@ use lib.ListN.{length, getD}
 use lib.IntN.{ℤ, pos}
 use Rattle.backoff.specs.OneWord.{distance}
 use Rattle.backoff.specs.Store.{Store}
-use Rattle.sentences.specs.Listing.{sentenceTotal, sentencesOver, listingOutcome}
+use Rattle.sentence_totals.specs.Totals.{sentenceTotal}
+use Rattle.sentences.specs.Listing.{sentencesOver, listingOutcome}
 use Rattle.largest_move.specs.declared.Pair.{Pair}
 use Rattle.largest_move.specs.declared.Move.{Move}
 use Rattle.largest_move.specs.Pairs.{oneApart, firstLargest}

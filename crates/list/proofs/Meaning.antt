@@ -11,7 +11,7 @@ use lib.Dec.{eqb, leb}
 use lib.IntN.{ℤ, pos, natAbs}
 use lib.ListN.{length, take}
 use borrow.Author.Tests.{eqb-true, eqb-false, eq-eqb, ne-eqb, leb-true, leb-false, le-leb, lt-leb, not-true, not-false}
-use Rattle.integer.specs.Integer.{eqZ, between, upTo}
+use Rattle.integer.specs.Integer.{eqZ, between, upTo, orElse}
 use Rattle.integer.proofs.Arithmetic.{zarith, abs}
 use Rattle.integer.proofs.Ranges.{lt-or-ge, and-left, and-right, and-both, false-unless, between-low, between-high, between-yes, upTo-in, upTo-out, upTo-some}
 use Rattle.backoff.specs.Limits.{rowLimit, orderLimit, unknownWord, startWord, endWord}
@@ -27,9 +27,12 @@ use Rattle.rows.proofs.Table.{length-limit, row-in, part-rows, part-words, plac
 use Rattle.row_search.specs.Search.{findBelow, findIn, isAt}
 use Rattle.row_search.specs.declared.Found.the-variants.{At}
 use Rattle.row_search.proofs.Search.{is-at, found-words}
-use Rattle.list.specs.Check.{tableFits, backoffFits, fieldFault, isAfter, withoutFirsts, shorterListed, orderFault, orElse, rowFault, reservedListed, refuse, scan, verdictFor, verdict}
+use Rattle.row_fields.specs.Fields.{backoffFits, fieldFault}
+use Rattle.row_fields.proofs.Fields.{backoff-in, backoff-longest as backoff-last}
+use Rattle.rows_before.specs.Faults.{isAfter, withoutFirsts, shorterListed, orderFault, rowFault}
+use Rattle.list.specs.Check.{tableFits, reservedListed, refuse, scan, verdictFor, verdict}
 use Rattle.list.specs.Meaning.{NoRowBelow, Meets, table-empty, table-parted, table-long, row-length, used-word, unused-word, row-probability, backoff-range, backoff-longest, row-order, without-first, without-last, no-unknown, no-start, no-end, NoneMeets, turn, VerdictMeans, CheckMeans}
-use Rattle.list.proofs.Check.{backoff-in, backoff-longest as backoff-last, fitting-table, number-accepted}
+use Rattle.list.proofs.Check.{fitting-table, number-accepted}
 use Rattle.list.proofs.ListModel.{accepted-model}
 
 -- ---- tests in a row

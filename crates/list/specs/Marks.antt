@@ -1,8 +1,7 @@
 -- A mark for each row, from the first on and as far as there are marks: whether some row is this row followed by one more word. Only contracts of inner
 -- functions cite these. Assumes nothing.
-use lib.Dec.{ltb}
 use mathlib.Core.Path.{_≡_}
-use mathlib.Core.Bool.{Bool, true, false, cond}
+use mathlib.Core.Bool.{Bool, true, false}
 use mathlib.Core.List.{List}
 use Prim.Native.Nat.{ℕ, _<_}
 use lib.ListN.{length, getD, set}
@@ -11,10 +10,6 @@ use Rattle.rows.specs.Table.{rowsOf, words}
 use Rattle.row_search.specs.declared.Found.{Found}
 use Rattle.row_search.specs.declared.Found.the-variants.{At, Nothing}
 use Rattle.list.specs.ListModel.{continuedBelow}
-
--- row j, where it is before row i
-abbrev pub rowBefore : ℕ → ℕ → Found
-rowBefore i j = cond (ltb j i) (At j) Nothing
 
 -- the mark of the row found is set, if it has one
 abbrev pub markFound : Found → List Bool → List Bool

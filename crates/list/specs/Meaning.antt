@@ -13,7 +13,7 @@ use Rattle.backoff.specs.Model.{AcceptedModel, inProbability, inBackoff}
 use Rattle.backoff.specs.Refusal.{tableLength, rowLength, rowWords, rowProbability, rowBackoff, rowOrder, shorterRow, reservedWord}
 use Rattle.rows.specs.Table.{rowsOf, field, probabilityAt, backoffAt, lengthOf, orderOf, words, withoutLast}
 use Rattle.rows.specs.Order.{precedes}
-use Rattle.list.specs.Check.{withoutFirsts}
+use Rattle.rows_before.specs.Faults.{withoutFirsts}
 use Rattle.list.specs.ListModel.{modelOf}
 
 -- none of rows 0 to n − 1 has these words

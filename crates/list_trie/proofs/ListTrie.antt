@@ -26,16 +26,17 @@ use Rattle.row_search.specs.Search.{findIn}
 use Rattle.row_search.specs.declared.Found.{Found}
 use Rattle.row_search.specs.declared.Found.the-variants.{At, Nothing}
 use Rattle.row_search.proofs.Search.{found-words, finds, find-unique}
+use Rattle.row_fields.proofs.Fields.{backoff-in}
 use Rattle.list.specs.Check.{verdict}
 use Rattle.list.specs.ListModel.{extendedIn, continuedIn, entryAt, modelOf}
 use Rattle.list.proofs.ListModel.{length-order, accepted-model}
-use Rattle.list.proofs.Check.{backoff-in, accepted-row, accepted-good, accepted-size, first-listed}
+use Rattle.list.proofs.Check.{accepted-row, accepted-good, accepted-size, first-listed}
 use Rattle.extensions.specs.Stretch.{Stretch}
-use Rattle.double_array.specs.DoubleArray.{markerCheck}
-use Rattle.double_array.specs.declared.Marker.the-variants.{Sound, Broken}
-use Rattle.double_array.proofs.DoubleArray.{marker-sound, marker-round-trip}
-use Rattle.placing.specs.Trie.{Node, childOf, children, findNode, nodeAt, HasParent, Ready}
+use Rattle.markers.specs.Markers.{markerCheck}
+use Rattle.markers.specs.declared.Marker.the-variants.{Sound, Broken}
+use Rattle.markers.proofs.Markers.{marker-sound, marker-round-trip}
 use Rattle.double_array.proofs.Items.{getD-in, in-getD}
+use Rattle.placing.specs.Trie.{Node, childOf, children, findNode, nodeAt, HasParent, Ready}
 use Rattle.placing.proofs.Trie.{found-in, in-found}
 use Rattle.placing.proofs.Walk.{nodeMarker}
 use Rattle.first_fit.specs.Steps.{oldestFrom}

@@ -16,7 +16,6 @@ use Rattle.backoff.specs.declared.Verdict.the-variants.{Accepted}
 use Rattle.backoff.specs.Limits.{leastProbability}
 use Rattle.backoff.specs.Words.{radix, key}
 use Rattle.backoff.specs.Model.{inProbability}
-use Rattle.double_array.specs.DoubleArray.{markerCheck, markerBase, childSlot}
 use Rattle.rows.specs.Table.{rowsOf, field, probabilityAt, backoffAt, lengthOf, orderOf, wordOf, words, withoutFirst}
 use Rattle.rows.specs.Keys.{rowKey}
 use Rattle.rows.proofs.Table.{row-in, words-length}
@@ -26,20 +25,22 @@ use Rattle.list.specs.ListModel.{extendedIn, continuedIn}
 use Rattle.list.proofs.Check.{accepted-good, accepted-row}
 use Rattle.extensions.specs.Stretch.{Stretch}
 use Rattle.extensions.proofs.Stretch.{stretch-extended}
+use Rattle.markers.specs.Markers.{markerCheck, markerBase}
+use Rattle.double_array.specs.DoubleArray.{childSlot}
 use Rattle.placing.specs.Trie.{Node, children, nodeAt}
 use Rattle.placing.specs.Placing.{Placed, isFree, allOpen, firstFit, update, own, topWith, settle, placeAt, withMarker, withoutMarker, placeAll, unplaced}
 use Rattle.placing.proofs.Trie.{child-positive}
 use Rattle.placing.proofs.FirstFit.{isFree-no, sideAt, fit-any-top}
 use Rattle.placing.proofs.Placing.{Inv, Next, slot-given, slot-kept, slot-below-top, not-negative}
+use Rattle.placing.proofs.NodeByNode.{place-longest, place-fewer, placedFirst-suc, next-at, inv-first}
 use Rattle.free_slots.specs.Chain.{isLink, Linked, Held}
 use Rattle.free_slots.proofs.Chain.{linked-base-length, linked-check-length}
 use Rattle.free_slots.proofs.Following.{links-run-through-the-free-slots}
-use Rattle.placing.proofs.NodeByNode.{place-longest, place-fewer, placedFirst-suc, next-at, inv-first}
-use Rattle.list_trie.specs.ListTrie.{nodeOf, rootOf, nodesOf, RowsBelow}
 use Rattle.first_fit.specs.Steps.{oldestOf, Rising, fitOf, sideOf, Settles, Given, NodePlaced}
+use Rattle.first_fit.proofs.OldestWords.{oldest-in}
+use Rattle.list_trie.specs.ListTrie.{nodeOf, rootOf, nodesOf, RowsBelow}
 use Rattle.list_trie.specs.Steps.{placedNodes, Filled, Tried}
 use Rattle.list_trie.proofs.ListTrie.{length-nodesOf, nodeAt-root, nodeAt-row, root-words, row-words, one-word, row-cons, more-words, nodes-ready, row-check, children-stretch, children-root, middle-field}
-use Rattle.first_fit.proofs.OldestWords.{oldest-in}
 use Rattle.list_trie.proofs.Parts.{partRows, count-rows, oldest-rows, back, length-back, back-inside, back-before, back-after}
 
 -- rows from to from + n − 1 are the children of the node `us`

@@ -4,7 +4,7 @@ use Prim.Native.Nat.{ℕ, zero, suc, _≤_, _<_}
 use lib.IntN.{ℤ, pos, natAbs}
 use Rattle.rows.specs.Table.{rowsOf, probabilityAt, backoffAt, lengthOf, orderOf, words}
 use Rattle.list.specs.ListModel.{extendedIn, continuedIn}
-use Rattle.double_array.specs.DoubleArray.{markerBase}
+use Rattle.markers.specs.Markers.{markerBase}
 use Rattle.placing.specs.Trie.{Node}
 use Rattle.placing.specs.Placing.{Placed, placing}
 

@@ -6,10 +6,10 @@ ghost use lib.IntN.{ℤ};
 ghost use lib.ListN.{length};
 ghost use Rattle.backoff.specs.Limits.{orderLimit};
 ghost use Rattle.backoff.specs.declared.Verdict.the-variants.{Accepted};
-ghost use Rattle.double_array.specs.DoubleArray.{markerCheck, markerBase};
 ghost use Rattle.rows.specs.Table.{rowsOf, probabilityAt, backoffAt, lengthOf, orderOf};
 ghost use Rattle.list.specs.Check.{verdict};
 ghost use Rattle.extensions.specs.Stretch.{Stretch};
+ghost use Rattle.markers.specs.Markers.{markerCheck, markerBase};
 ghost use Rattle.list_trie.specs.ListTrie.{RowsBelow, placedList};
 ghost use Rattle.list_trie.specs.Steps.{Flags, placedNodes, Filled, Tried};
 use first_fit::Node;
@@ -21,8 +21,8 @@ fn row_node(table: &[i32], i: usize, item: u32, extended: bool, continued: bool)
 {
     Node {
         slot: item as usize,
-        mark: double_array::marker_check(rows::field(table, i, 6)),
-        load: double_array::marker_base(rows::field(table, i, 7), extended, continued),
+        mark: markers::marker_check(rows::field(table, i, 6)),
+        load: markers::marker_base(rows::field(table, i, 7), extended, continued),
     }
 }
 
@@ -103,7 +103,7 @@ fn place_longest(table: &[i32], first: usize, base: &mut [i32], work: &[u32])
 {
     let mut i = first;
     while i < work.len() {
-        let mark = double_array::marker_check(rows::field(table, i, 6));
+        let mark = markers::marker_check(rows::field(table, i, 6));
         free_slots::set_base(base, work[i] as usize, mark);
         i += 1;
     }

@@ -14,10 +14,11 @@ use Rattle.integer.specs.Integer.{eqZ}
 use Rattle.integer.proofs.Arithmetic.{zarith}
 use Rattle.integer.proofs.Ranges.{and-left, and-right}
 use Rattle.backoff.specs.Words.{sameWords, isWord, areWords}
-use Rattle.double_array.specs.DoubleArray.{freeCheck, markerBase}
+use Rattle.backoff.proofs.Words.{same-eq, same-refl}
+use Rattle.markers.specs.Markers.{markerBase}
+use Rattle.double_array.specs.DoubleArray.{freeCheck}
 use Rattle.placing.specs.Trie.{Node, children, nodeAt, HasParent, Ready}
 use Rattle.placing.specs.Placing.{Placed, isFree, update, isOpen, allOpen, fits, search, firstFit, own, topWith, give, settle, placeAt, withMarker, withoutMarker, place, placeAll, unplaced, placing, slots, usedSlots, takenSlots}
-use Rattle.backoff.proofs.Words.{same-eq, same-refl}
 
 -- a row's node, from its words, −p, −b, e and f
 abbrev row : List ℕ → ℕ → ℕ → Bool → Bool → Node

@@ -14,11 +14,12 @@ use lib.ListN.{length}
 use Rattle.integer.proofs.Arithmetic.{zarith}
 use Rattle.backoff.specs.Words.{isWord}
 use Rattle.backoff.specs.Store.{Look, absent}
-use Rattle.double_array.specs.declared.Marker.{Marker}
-use Rattle.double_array.specs.declared.Marker.the-variants.{Sound, Broken}
+use Rattle.markers.specs.declared.Marker.{Marker}
+use Rattle.markers.specs.declared.Marker.the-variants.{Sound, Broken}
+use Rattle.markers.specs.Markers.{markerOf, lookMarker}
 use Rattle.double_array.specs.declared.Child.{Child}
 use Rattle.double_array.specs.declared.Child.the-variants.{At, Nothing}
-use Rattle.double_array.specs.DoubleArray.{freeCheck, markerOf, childSlot, ownedBy, baseAt, checkAt, keptMarker, ownMarker, markerAt, childAt, lookMarker, past, downTo, lookFrom, orderIn}
+use Rattle.double_array.specs.DoubleArray.{freeCheck, childSlot, ownedBy, baseAt, checkAt, keptMarker, ownMarker, markerAt, childAt, past, downTo, lookFrom, orderIn}
 use Rattle.double_array.proofs.DoubleArray.{child-absent, marker-own, marker-kept, owned-none, child-told, child-shown, child-word, negative-childless}
 use Rattle.placing.specs.Trie.{Node, children, findNode, Ready}
 use Rattle.placing.specs.Placing.{Placed, placing, slots}

@@ -16,9 +16,9 @@ use Rattle.backoff.specs.Rule.{replaced, scoreAfter, textRule, historyLength, r
 use Rattle.backoff.specs.Run.{front}
 use Rattle.backoff.proofs.Rule.{scoreAfter-is-textRule}
 use Rattle.rows.specs.Table.{wordsOf}
+use Rattle.plain_word.proofs.Words.{replaced-known, replaced-is-word}
 use Rattle.plain.specs.declared.Recent.{Recent}
 use Rattle.plain.specs.Held.{IsRecent, inUse, firstHistory, pushed}
-use Rattle.plain.proofs.Words.{replaced-known, replaced-is-word}
 use Rattle.plain.proofs.Newest.{history-length, history-newest, newest-shifted, length-shifted, shifted-are-words}
 
 -- the places hold the newest of the preceding words h, each replaced: as many as a history may have

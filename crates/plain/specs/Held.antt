@@ -1,8 +1,8 @@
--- How the code holds a score and the newest words. Only private contracts cite it. Assumes nothing.
+-- How the code holds the newest words, and what it has of a word. Only private contracts cite it. Assumes nothing.
 use mathlib.Core.Path.{_≡_}
 use mathlib.Core.Bool.{Bool, true, cond}
 use mathlib.Core.List.{List, [], _∷_, _++_}
-use Prim.Native.Nat.{ℕ, _+_, _-_, _<_, _≤_, min}
+use Prim.Native.Nat.{ℕ, _+_, _-_, _≤_, min}
 use lib.ListN.{length, drop}
 use lib.IntN.{ℤ, pos}
 use lib.Dec.{eqb}
@@ -10,23 +10,11 @@ use Rattle.backoff.specs.Limits.{startWord, endWord}
 use Rattle.backoff.specs.Words.{areWords}
 use Rattle.backoff.specs.Model.{Model}
 use Rattle.backoff.specs.Rule as rule
-use Rattle.rows.specs.Table.{rowsOf, wordsOf, words}
-use Rattle.list.specs.ListModel.{extendedIn}
-use Rattle.plain.specs.declared.Score.{Score}
+use Rattle.rows.specs.Table.{wordsOf, words}
+use Rattle.plain_word.specs.declared.Score.{Score}
 use Rattle.plain.specs.declared.Scored.{Scored}
 use Rattle.plain.specs.declared.Recent.{Recent}
 use Rattle.plain.specs.declared.Next.{Next}
-
--- row i of the list t, of which e says whether it is extended
-pub record IsExtended (t : List ℤ) (i : ℕ) (e : Bool) : Type 0 where
-  pub within : i < rowsOf t
-  pub extended-is : extendedIn t (words t i) ≡ e
-
--- the score s in the list t
-pub record IsScore (t : List ℤ) (s : rule.Score) (r : Score) : Type 0 where
-  pub points-are : r .points ≡ s .points
-  pub matched-is : r .matched ≡ s .matched
-  pub row-is : IsExtended t (r .row) (s .extended)
 
 -- the score s of the word v, with its length byte
 pub record IsScored (s : rule.Score) (v : ℕ) (r : Scored) : Type 0 where

@@ -1,220 +1,23 @@
 // Plain scoring: the back-off rule over the lent list alone. The definitions that the contracts cite are in specs/.
 ghost use mathlib.Core.Path.{_≡_};
 ghost use mathlib.Core.Bool.{true};
-ghost use mathlib.Core.List.{[], _∷_, _++_};
-ghost use Prim.Native.Nat.{_+_, _<_, _≤_, min};
-ghost use lib.IntN.{pos};
-ghost use lib.ListN.{length, take, getD};
+ghost use mathlib.Core.List.{[], _∷_};
+ghost use Prim.Native.Nat.{_≤_};
+ghost use lib.ListN.{length};
 ghost use Rattle.integer.specs.Integer.{sum};
-ghost use Rattle.backoff.specs.Limits.{orderLimit, runLimit};
-ghost use Rattle.backoff.specs.Words.{areWords};
+ghost use Rattle.backoff.specs.Limits.{runLimit};
 ghost use Rattle.backoff.specs.Model.{listed};
-ghost use Rattle.backoff.specs.Rule.{replaced, textRule, lengthByte, rulePoints, ruleBytes};
+ghost use Rattle.backoff.specs.Rule.{textRule, rulePoints, ruleBytes};
 ghost use Rattle.backoff.specs.Run.{written, front};
 ghost use Rattle.backoff.specs.declared.Verdict.the-variants.{Accepted};
-ghost use Rattle.rows.specs.Table.{rowsOf, orderOf, wordOf, wordsOf, words};
-ghost use Rattle.row_search.specs.Search.{findIn, foundRow};
+ghost use Rattle.rows.specs.Table.{orderOf, wordOf};
 ghost use Rattle.list.specs.Check.{verdict};
-ghost use Rattle.list.specs.ListModel.{extendedIn, modelOf};
+ghost use Rattle.list.specs.ListModel.{modelOf};
 ghost use Rattle.plain.specs.Plain.{runOf, plainOutcome, Answers, PlainMeans};
-ghost use Rattle.plain.specs.Held.{IsScore, IsScored, IsRecent, inUse, firstHistory, pushed, IsNext};
+ghost use Rattle.plain.specs.Held.{IsScored, IsRecent, inUse, firstHistory, pushed, IsNext};
 use backoff::Verdict;
-use backoff::WORD_LIMIT;
-use row_search::Row;
-use row_search::Span;
-
-const UNKNOWN_WORD: i32 = backoff::UNKNOWN_WORD as i32;
 
 const START_WORD: i32 = backoff::START_WORD as i32;
-
-const LONGEST_ROW: usize = backoff::ORDER_LIMIT as usize;
-
-// The smaller of the two.
-fn smaller(a: usize, b: usize) -> usize
-    ensures { λ r. ⌜ r ≡ min a b ⌝ }
-{
-    if a < b {
-        return a;
-    }
-    b
-}
-
-// How many words up to the largest have no one-word row, where `count` have one.
-fn count_missing(table: &[i32], count: usize) -> usize {
-    if count == 0 {
-        return 0;
-    }
-    if table.len() / 8 < count {
-        return 0;
-    }
-    let largest = rows::field(table, count - 1, 1);
-    if largest < 0 {
-        return 0;
-    }
-    let words = largest as usize;
-    if words < count {
-        return 0;
-    }
-    words - count
-}
-
-// Where rows are likely, on which no answer depends: item m, from 1 on, is the first row of m words or more, and item 0 how many words below the
-// largest have no one-word row.
-fn find_starts(table: &[i32]) -> [usize; 8] {
-    let rows = table.len() / 8;
-    let mut starts = [rows; 8];
-    starts[1] = 0;
-    for i in 0..rows {
-        let m = rows::length_of(table, i);
-        starts[m + 1] = i + 1;
-    }
-    let count = starts[2];
-    starts[0] = count_missing(table, count);
-    starts
-}
-
-// The rows of m words, at most six.
-fn rows_of(starts: &[usize; 8], m: usize) -> Span
-    requires { ⌜ m ≤ 6 ⌝ }
-{
-    Span {
-        from: starts[m],
-        to: starts[m + 1],
-    }
-}
-
-// Where the row of one word is likely, among `count` such rows: behind those of the smaller words, which are all listed but `missing` of them.
-fn rows_near(missing: usize, count: usize, word: usize) -> Span {
-    let to = smaller(word, count);
-    if word <= missing {
-        return Span { from: 0, to };
-    }
-    Span {
-        from: word - missing - 1,
-        to,
-    }
-}
-
-// Where the row of these words is likely, of which there are at most five.
-fn likely_rows(starts: &[usize; 8], words: &[i32]) -> Span
-    requires { ⌜ (length (now words) ≤ orderLimit) × (areWords (wordsOf (now words)) ≡ true) ⌝ }
-{
-    if words.len() == 1 {
-        return rows_near(starts[0], starts[2], words[0] as usize);
-    }
-    rows_of(starts, words.len())
-}
-
-// The row of these words, oldest first.
-fn row_of(table: &[i32], starts: &[usize; 8], words: &[i32]) -> Row
-    requires { ⌜ (verdict (now table) ≡ Accepted) × (areWords (wordsOf (now words)) ≡ true) ⌝ }
-    ensures { λ r. ⌜ r ≡ foundRow (now (table .entry)) (findIn (now (table .entry)) (wordsOf (now (words .entry)))) ⌝ }
-{
-    if LONGEST_ROW < words.len() {
-        return row_search::unlisted();
-    }
-    let found = row_search::find_among(table, words, likely_rows(starts, words));
-    row_search::found_row(table, found)
-}
-
-// The word itself where it has a one-word row, else 1.
-fn replaced(table: &[i32], starts: &[usize; 8], word: u32) -> i32
-    requires { ⌜ verdict (now table) ≡ Accepted ⌝ }
-    ensures { λ r. ⌜ r ≡ pos (replaced (modelOf (now (table .entry))) word) ⌝ }
-{
-    if word == 0 {
-        return UNKNOWN_WORD;
-    }
-    if word > WORD_LIMIT as u32 {
-        return UNKNOWN_WORD;
-    }
-    let known = word as i32;
-    let alone = row_of(table, starts, &[known]);
-    if alone.listed {
-        return known;
-    }
-    UNKNOWN_WORD
-}
-
-// Word j of the history, the given word past its last.
-fn word_at(history: &[i32], word: i32, j: usize) -> i32
-    ensures { λ r. ⌜ r ≡ getD (now (history .entry)) j word ⌝ }
-{
-    if j < history.len() {
-        return history[j];
-    }
-    word
-}
-
-// The history followed by the word, and by that word again in the places left.
-fn followed(history: &[i32], word: i32) -> [i32; 5]
-    requires { ⌜ length (now history) < orderLimit ⌝ }
-    ensures { λ r. ⌜ take (length (now (history .entry)) + 1) r ≡ now (history .entry) ++ (word ∷ []) ⌝ }
-{
-    let a = word_at(history, word, 0);
-    let b = word_at(history, word, 1);
-    let c = word_at(history, word, 2);
-    [a, b, c, word_at(history, word, 3), word]
-}
-
-// The row of the history followed by the word.
-fn row_with(table: &[i32], starts: &[usize; 8], history: &[i32], word: i32) -> Row
-    requires { ⌜ (verdict (now table) ≡ Accepted) × (areWords (wordsOf (now history)) ≡ true) × (areWords (wordOf word ∷ []) ≡ true) ⌝ }
-    ensures { λ r. ⌜ r ≡ foundRow (now (table .entry)) (findIn (now (table .entry)) (wordsOf (now (history .entry)) ++ (wordOf word ∷ []))) ⌝ }
-{
-    if LONGEST_ROW <= history.len() {
-        return row_search::unlisted();
-    }
-    let words = followed(history, word);
-    let end = history.len() + 1;
-    row_of(table, starts, &words[..end])
-}
-
-// `row` is where the row whose p was used stands.
-struct Score {
-    points: i32,
-    matched: u8,
-    row: usize,
-}
-
-// The word after the history, oldest word first: by the row of history and word together, else by the history's back-off and the word after the history
-// without its oldest word.
-fn score_after(table: &[i32], starts: &[usize; 8], history: &[i32], word: i32) -> Score
-    requires { ⌜ (verdict (now table) ≡ Accepted) × (areWords (wordsOf (now history)) ≡ true) × (listed (modelOf (now table)) (wordOf word ∷ []) ≡ true) ⌝ }
-    ensures { λ r. ⌜ IsScore (now (table .entry)) (textRule (modelOf (now (table .entry))) (wordsOf (now (history .entry))) (wordOf word)) r ⌝ }
-{
-    let row = row_with(table, starts, history, word);
-    if row.listed {
-        return Score {
-            points: row.p,
-            matched: (history.len() + 1) as u8,
-            row: row.at,
-        };
-    }
-    let shorter = &history[1..];
-    let back_off = row_of(table, starts, history).b;
-    let score = score_after(table, starts, shorter, word);
-    Score {
-        points: back_off + score.points,
-        matched: score.matched,
-        row: score.row,
-    }
-}
-
-// The matched length, plus 8 if the word is unknown, plus 16 if the matched row is extended.
-fn length_byte(matched: u8, word: i32, extended: bool) -> u8
-    requires { ⌜ matched ≤ orderLimit ⌝ }
-    ensures { λ r. ⌜ r ≡ lengthByte matched (wordOf word) «extended» ⌝ }
-{
-    let mut byte = matched;
-    if word == UNKNOWN_WORD {
-        byte += 8;
-    }
-    if extended {
-        byte += 16;
-    }
-    byte
-}
 
 // The history: the newest words, each replaced, oldest first, in the last `count` places. The places before them hold some word and take no part.
 struct Recent {
@@ -230,7 +33,7 @@ fn begin(most: usize, after_start: bool) -> Recent
     if after_start {
         return Recent {
             words,
-            count: smaller(most, 1),
+            count: row_starts::smaller(most, 1),
         };
     }
     Recent { words, count: 0 }
@@ -247,18 +50,8 @@ fn push(most: usize, recent: Recent, word: u32, known: i32) -> Recent
     let old = recent.words;
     Recent {
         words: [old[1], old[2], old[3], known],
-        count: smaller(most, recent.count + 1),
+        count: row_starts::smaller(most, recent.count + 1),
     }
-}
-
-// The length byte of the word with this score.
-fn byte_of(table: &[i32], starts: &[usize; 8], score: Score, word: i32) -> u8
-    requires { ⌜ (verdict (now table) ≡ Accepted) × (score .row < rowsOf (now table)) × (score .matched ≤ orderLimit) ⌝ }
-    ensures { λ r. ⌜ r ≡ lengthByte (score .matched) (wordOf word) (extendedIn (now (table .entry)) (words (now (table .entry)) (score .row))) ⌝ }
-{
-    let likely = rows_of(starts, score.matched as usize + 1);
-    let extended = extensions::extended(table, score.row, likely);
-    length_byte(score.matched, word, extended)
 }
 
 struct Scored {
@@ -273,10 +66,10 @@ fn score_word(table: &[i32], starts: &[usize; 8], recent: Recent, word: i32) -> 
 {
     let words = recent.words;
     let oldest = 4 - recent.count;
-    let score = score_after(table, starts, &words[oldest..], word);
+    let score = plain_word::score_after(table, starts, &words[oldest..], word);
     Scored {
         points: score.points,
-        byte: byte_of(table, starts, score, word),
+        byte: plain_word::byte_of(table, starts, score, word),
     }
 }
 
@@ -292,7 +85,7 @@ fn score_next(table: &[i32], starts: &[usize; 8], most: usize, recent: Recent, w
     requires { ⌜ (verdict (now table) ≡ Accepted) × IsRecent recent ⌝ }
     ensures { λ r. ⌜ IsNext (modelOf (now (table .entry))) most recent word r ⌝ }
 {
-    let known = replaced(table, starts, word);
+    let known = plain_word::replaced(table, starts, word);
     let scored = score_word(table, starts, recent, known);
     Next {
         points: scored.points,
@@ -315,7 +108,7 @@ fn score_words(
     ensures points { λ _. ⌜ now (points .exit) ≡ written (rulePoints (modelOf (now (table .entry))) (front «after_start») (now (words .entry))) (now (points .entry)) ⌝ }
     ensures lengths { λ _. ⌜ now (lengths .exit) ≡ written (ruleBytes (modelOf (now (table .entry))) (front «after_start») (now (words .entry))) (now (lengths .entry)) ⌝ }
 {
-    let starts = find_starts(table);
+    let starts = row_starts::find_starts(table);
     let most = n - 1;
     let mut recent = begin(most, after_start);
     let mut total: i64 = 0;

@@ -24,7 +24,7 @@ use Rattle.backoff.proofs.Run.{Fits, fits, length-runPoints, length-runBytes}
 use Rattle.backoff.proofs.Store.{stuckAt, step-is}
 use Rattle.double_array.specs.DoubleArray.{isArray, orderIn, storeIn, opened}
 use Rattle.double_array.proofs.DoubleArray.{opened-some, opened-none}
-use Rattle.word_step.specs.Rows.{arrayModel}
+use Rattle.word_walk.specs.Rows.{arrayModel}
 use Rattle.score.specs.Inner.{earlyRefusal}
 use Rattle.score.specs.Meaning.{startRefusals, StartMeans, runRefusals, RunMeans}
 use Rattle.score.proofs.Refusals.{start-told, start-scored, Told, first-stuck, none-stuck, first-stuck-or-none}

@@ -21,9 +21,9 @@ use Rattle.backoff.specs.Run.{runEnd, runPoints, runBytes}
 use Rattle.backoff.specs.Store.{Look, absent, broken, here, Store, entryOf, isBroken, modelIn, endsBroken, refusedAt, before, onward, runOver}
 use Rattle.backoff.proofs.Climb.{climb-stopped}
 use Rattle.backoff.proofs.Store.{modelRan, wordStuck, stuckAt, step-stuck, onward-scored}
+use Rattle.markers.specs.declared.Marker.{Marker}
+use Rattle.markers.specs.declared.Marker.the-variants.{Sound, Broken}
 use Rattle.double_array.specs.DoubleArray.{markerAt, childAt, downTo, lookFrom, storeIn}
-use Rattle.double_array.specs.declared.Marker.{Marker}
-use Rattle.double_array.specs.declared.Marker.the-variants.{Sound, Broken}
 use Rattle.double_array.specs.declared.Child.{Child}
 use Rattle.double_array.specs.declared.Child.the-variants.{At, Nothing}
 use Rattle.double_array.proofs.DoubleArray.{look-here, look-down, look-broken}

@@ -19,8 +19,8 @@ use Rattle.backoff.proofs.Store.{stuckAt, step-is}
 use Rattle.double_array.specs.DoubleArray.{isArray, orderIn, storeIn, opened}
 use Rattle.double_array.proofs.DoubleArray.{opened-some, opened-order}
 use Rattle.carried_state.proofs.Carried.{zeros-ok, zeros-empty}
-use Rattle.word_step.specs.Rows.{arrayModel}
-use Rattle.word_step.proofs.Rows.{rows-in-backoff, rows-in-words}
+use Rattle.word_walk.specs.Rows.{arrayModel}
+use Rattle.word_walk.proofs.Rows.{rows-in-backoff, rows-in-words}
 use Rattle.score.specs.Meaning.{Unwalkable, StuckWords}
 use Rattle.score.proofs.Refusals.{start-told, start-scored, Told, first-stuck, none-stuck, first-stuck-or-none}
 use Rattle.score.proofs.Outcomes.{start-means, run-means}

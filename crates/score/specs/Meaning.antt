@@ -16,7 +16,7 @@ use Rattle.backoff.specs.Run.{Run, Answer, runPoints, runBytes, runEnd}
 use Rattle.backoff.specs.NineNumbers.{nine, nineZeros, stateIn, stateOk}
 use Rattle.backoff.specs.Store.{absent, broken, Store, modelIn}
 use Rattle.double_array.specs.DoubleArray.{isArray, orderIn, storeIn}
-use Rattle.word_step.specs.Rows.{arrayModel}
+use Rattle.word_walk.specs.Rows.{arrayModel}
 
 -- ---- 12
 

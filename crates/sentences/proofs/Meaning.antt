@@ -26,12 +26,14 @@ use Rattle.double_array.proofs.DoubleArray.{opened-some, opened-none}
 use Rattle.score.specs.Answers.{startedOver}
 use Rattle.score.specs.Meaning.{Unwalkable, StuckWords, StuckSentence}
 use Rattle.score.proofs.Sentence.{Twelve, not-met, met, start-twelve, start-state, run-twelve}
-use Rattle.sentences.specs.Sentences.{usableWords}
-use Rattle.sentences.specs.Listing.{closed, ownRun, runFromStart, runsThrough, sentenceTotal, isScored, allScored, sizeRefusal, refusedListing, fullListing, brokenListing, listed, sentencesOver, listingOutcome}
-use Rattle.sentences.specs.Meaning.{IsSentence, Listed, listingRefusals, ListingMeans}
-use Rattle.sentences.proofs.Sentences.{getD-map-in, length-sentences, each-long, length-flat}
+use Rattle.sentence_order.specs.Sentences.{usableWords}
+use Rattle.sentence_order.specs.ListsAll.{IsSentence}
+use Rattle.sentence_order.proofs.Sentences.{getD-map-in, length-sentences, each-long, length-flat}
+use Rattle.sentence_order.proofs.ListsAll.{listed-exactly-once}
+use Rattle.sentence_totals.specs.Totals.{closed, ownRun, runFromStart, runsThrough, sentenceTotal, isScored, allScored}
+use Rattle.sentences.specs.Listing.{sizeRefusal, refusedListing, fullListing, brokenListing, listed, sentencesOver, listingOutcome}
+use Rattle.sentences.specs.Meaning.{Listed, listingRefusals, ListingMeans}
 use Rattle.sentences.proofs.Outcome.{Sized, sized}
-use Rattle.sentences.proofs.ListsAll.{listed-exactly-once}
 
 -- ---- lists
 

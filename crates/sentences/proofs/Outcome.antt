@@ -1,7 +1,7 @@
 -- The outcome of the listing, by what meets it first. Assumes nothing.
 use mathlib.Core.Path.{_≡_, refl, sym, ap, _∙_}
 use mathlib.Core.Logic.{_⊎_, inl, inr}
-use mathlib.Core.Bool.{Bool, true, false, cond, _||_, true≢false, false≢true}
+use mathlib.Core.Bool.{Bool, true, false, cond, _||_, false≢true}
 use mathlib.Core.List.{List, _++_}
 use mathlib.Core.Option.{Option, some}
 use Prim.Native.Nat.{ℕ, _*_, _^_, _≤_, _<_}
@@ -19,13 +19,14 @@ use Rattle.backoff.specs.Runs.{flat}
 use Rattle.backoff.specs.Store.{Store}
 use Rattle.double_array.specs.DoubleArray.{isArray, storeIn, opened}
 use Rattle.double_array.proofs.DoubleArray.{opened-some, opened-none}
-use Rattle.sentences.specs.declared.Usable.{Usable}
-use Rattle.sentences.specs.Sentences.{passing, usableWords, sentencesOf}
+use Rattle.sentence_order.specs.declared.Usable.{Usable}
+use Rattle.sentence_order.specs.Sentences.{passing, usableWords, sentencesOf}
+use Rattle.sentence_order.specs.Inner.{usableChild, Holds, AllUsable}
+use Rattle.sentence_order.proofs.Passing.{passing-each}
+use Rattle.sentence_order.proofs.Sentences.{length-sentences, length-flat}
+use Rattle.sentence_order.proofs.UsableWords.{usable-words-are}
+use Rattle.sentence_totals.specs.Inner.{WrittenOver}
 use Rattle.sentences.specs.Listing.{Outcome, sizeRefusal, refusedListing, fullListing, brokenListing, listed, usableOver, listingOutcome}
-use Rattle.sentences.specs.Inner.{usableChild, Holds, NoEnd, WrittenOver}
-use Rattle.sentences.proofs.Passing.{passing-each}
-use Rattle.sentences.proofs.Sentences.{length-sentences, length-flat}
-use Rattle.sentences.proofs.UsableWords.{end-unusable, usable-words-are}
 
 -- ---- the sentences, all of them or none
 
@@ -123,8 +124,8 @@ module _ (base check : List ℤ) (k : ℕ) (words : List ℕ) (totals : List ℤ
       words-held : number ≡ 0 → usableOver (opened base check) ≡ take (r .count) (r .words)
       words-held z = usable-over ∙ holds .few (sizes z .few)
 
-      pub no-end : number ≡ 0 → NoEnd (take (r .count) (r .words))
-      no-end z = rw (← holds .few (sizes z .few)) (λ j h e. true≢false (sym (passing-each (usableChild check) wordLimit j h .passes) ∙ end-unusable check _ e))
+      pub all-usable : number ≡ 0 → AllUsable check (take (r .count) (r .words))
+      all-usable z = rw (← holds .few (sizes z .few)) (λ j h. passing-each (usableChild check) wordLimit j h .passes)
 
       pub count-held : number ≡ 0 → r .count ≡ length (usableOver (opened base check))
       count-held z = sym (ap length (words-held z) ∙ length-take-le (r .count) (r .words) (omega (arith, sizes z .few)))

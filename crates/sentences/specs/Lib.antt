@@ -1,5 +1,3 @@
--- What must be believed of the listing of all small sentences, and what the inner functions are held to.
-pub mod Sentences
+-- What must be believed of the listing of all small sentences.
 pub mod Listing
 pub mod Meaning
-pub mod Inner

@@ -1,49 +1,20 @@
 -- The outcome of the listing of all small sentences, over any store as start and run are lent one, and over any two slices. The sentences quoted are those of
 -- document 02, T-12. Assumes nothing.
-use mathlib.Core.Bool.{Bool, cond, _&&_, _||_}
-use mathlib.Core.List.{List, [], _∷_, _++_, map}
+use mathlib.Core.Bool.{cond, _||_}
+use mathlib.Core.List.{List, [], map}
 use mathlib.Core.Option.{Option, none, some}
 use Prim.Native.Nat.{ℕ, _*_, _^_}
 use lib.ListN.{length, replicate}
 use lib.IntN.{ℤ, pos}
 use lib.Dec.{eqb, ltb}
-use Rattle.backoff.specs.Limits.{endWord, sentenceLimit, usableLimit}
+use Rattle.backoff.specs.Limits.{sentenceLimit, usableLimit}
 use Rattle.backoff.specs.Refusal.{arrayHead, brokenNode, shortSlice, listingSize}
-use Rattle.backoff.specs.Run.{Run, Answer, written}
+use Rattle.backoff.specs.Run.{written}
 use Rattle.backoff.specs.Runs.{flat}
-use Rattle.backoff.specs.NineNumbers.{all}
-use Rattle.backoff.specs.Store.{Store, runOutcome}
-use Rattle.score.specs.Answers.{startedOver}
+use Rattle.backoff.specs.Store.{Store}
+use Rattle.sentence_order.specs.Sentences.{usableWords, sentencesOf}
+use Rattle.sentence_totals.specs.Totals.{sentenceTotal, allScored}
 use Rattle.sentences.specs.declared.Listing.{Listing}
-use Rattle.sentences.specs.Sentences.{usableWords, sentencesOf}
-
--- ---- one sentence
-
--- a sentence with its 3
-abbrev pub closed : List ℕ → List ℕ
-closed s = s ++ (endWord ∷ [])
-
--- the words ws as a run of their own, with slices that are long enough for a sentence and its 3
-abbrev pub ownRun : List ℕ → Run
-ownRun ws = record { words = ws; points = replicate 5 (pos 0); lengths = replicate 5 0 }
-
-module _ (o : Option Store) where
-  -- "with its total from `<s>` including the closing 3": one run over the words ws from start's state
-  unfoldable pub runFromStart : List ℕ → Answer (List ℤ)
-  runFromStart ws = runOutcome o (startedOver o .state) (ownRun ws)
-
-  -- start and that run are accepted
-  unfoldable pub runsThrough : List ℕ → Bool
-  runsThrough ws = eqb (startedOver o .number) 0 && eqb (runFromStart ws .number) 0
-
-  unfoldable pub sentenceTotal : List ℕ → ℤ
-  sentenceTotal s = runFromStart (closed s) .total
-
-  unfoldable pub isScored : List ℕ → Bool
-  isScored s = runsThrough (closed s)
-
-  unfoldable pub allScored : List (List ℕ) → Bool
-  allScored ss = all (map isScored ss)
 
 -- ---- the refusals that come before any word is scored
 

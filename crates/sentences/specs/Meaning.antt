@@ -2,58 +2,22 @@
 -- are those of document 02, T-12. Assumes nothing.
 use mathlib.Core.Path.{_≡_}
 use mathlib.Core.Logic.{_⊎_}
-use mathlib.Core.Bool.{Bool, true, false, _&&_, _||_}
+use mathlib.Core.Bool.{true, false}
 use mathlib.Core.List.{List, [], _∷_}
-use mathlib.Core.Option.{Option, some}
-use Prim.Native.Nat.{ℕ, _*_, _^_, _≤_, _<_}
-use lib.Dec.{eqb, ltb}
+use mathlib.Core.Option.{some}
+use Prim.Native.Nat.{ℕ, _*_, _^_, _<_}
 use lib.ListN.{length, take, drop, getD}
-use lib.IntN.{ℤ, pos, _+ℤ_}
-use Rattle.backoff.specs.Limits.{wordLimit, endWord, sentenceLimit, usableLimit}
+use lib.IntN.{ℤ, pos}
+use Rattle.backoff.specs.Limits.{sentenceLimit, usableLimit}
 use Rattle.backoff.specs.Refusal.{arrayHead, brokenNode, shortSlice, listingSize}
 use Rattle.backoff.specs.FirstMet.{Line, _when_, FirstMet}
-use Rattle.backoff.specs.Run.{Answer}
-use Rattle.backoff.specs.Store.{Store, runOutcome}
+use Rattle.backoff.specs.Store.{Store}
 use Rattle.double_array.specs.DoubleArray.{isArray, storeIn, opened}
-use Rattle.score.specs.Answers.{startedOver}
 use Rattle.score.specs.Meaning.{StuckSentence}
-use Rattle.sentences.specs.Sentences.{usable, usableWords}
-use Rattle.sentences.specs.Listing.{Outcome, ownRun, isScored, sentenceTotal, usableOver, sentencesOver}
-
--- "ascending order, the first word weighing most": at the first place where the two differ the word of the first is the smaller
-unfoldable pub precedes : List ℕ → List ℕ → Bool
-precedes [] [] = false
-precedes [] (v ∷ vs) = false
-precedes (u ∷ us) [] = false
-precedes (u ∷ us) (v ∷ vs) = ltb u v || (eqb u v && precedes us vs)
-
--- a sentence of k words, each of 1 to 65,535, for which the root has a child, and neither 2 nor 3
-pub record IsSentence (S : Store) (k : ℕ) (s : List ℕ) : Type 0 where
-  pub size : length s ≡ k
-  pub words : (j : ℕ) → j < k → (1 ≤ getD s j 0) × ((getD s j 0 ≤ wordLimit) × (usable S (getD s j 0) ≡ true))
-
--- "Sentences come in ascending order"
-abbrev pub Ascending : List (List ℕ) → Type 0
-Ascending ss = (i j : ℕ) → i < j → j < length ss → precedes (getD ss i []) (getD ss j []) ≡ true
-
--- "every sentence of k words .. Sentences come in ascending order, the first word weighing most, each once."
-pub record ListsAll (S : Store) (k : ℕ) (ss : List (List ℕ)) : Type 0 where
-  pub sentences : (i : ℕ) → i < length ss → IsSentence S k (getD ss i [])
-  pub every : (s : List ℕ) → IsSentence S k s → (i : ℕ) × ((i < length ss) × (getD ss i [] ≡ s))
-  pub ascending : Ascending ss
-  pub once : (i j : ℕ) → i < length ss → j < length ss → getD ss i [] ≡ getD ss j [] → i ≡ j
-
--- a sentence by start, a run over its words and a run of the 3 behind them
-module _ (o : Option Store) (s : List ℕ) where
-  abbrev pub wordsRun : Answer (List ℤ)
-  wordsRun = runOutcome o (startedOver o .state) (ownRun s)
-
-  abbrev pub threeRun : Answer (List ℤ)
-  threeRun = runOutcome o (wordsRun .end) (ownRun (endWord ∷ []))
-
-  pub record InRuns : Type 0 where
-    pub scored : isScored o s ≡ (eqb (startedOver o .number) 0 && (eqb (wordsRun .number) 0 && eqb (threeRun .number) 0))
-    pub total : isScored o s ≡ true → sentenceTotal o s ≡ wordsRun .total +ℤ threeRun .total
+use Rattle.sentence_order.specs.Sentences.{usableWords}
+use Rattle.sentence_order.specs.ListsAll.{IsSentence, ListsAll}
+use Rattle.sentence_totals.specs.Totals.{isScored, sentenceTotal}
+use Rattle.sentences.specs.Listing.{Outcome, usableOver, sentencesOver}
 
 -- an accepted listing over a store
 pub record Listed (S : Store) (k : ℕ) (words : List ℕ) (totals : List ℤ) (r : Outcome) : Type 0 where

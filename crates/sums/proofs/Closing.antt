@@ -20,9 +20,9 @@ use Rattle.double_array.proofs.DoubleArray.{opened-order}
 use Rattle.carried_state.specs.declared.Packed.{Packed}
 use Rattle.carried_state.specs.Packed.{heldIn, Carries}
 use Rattle.carried_state.proofs.Carried.{carries-bounded}
-use Rattle.word_step.proofs.Rows.{rows-in-probability}
-use Rattle.score.proofs.Sizes.{scored-sizes, SmallTotal}
-use Rattle.score.proofs.Running.{beforeAll}
+use Rattle.word_walk.proofs.Rows.{rows-in-probability}
+use Rattle.run_words.proofs.Sizes.{scored-sizes, SmallTotal}
+use Rattle.run_words.proofs.Running.{beforeAll}
 use Rattle.sums.specs.declared.Closed.{Closed}
 use Rattle.sums.specs.declared.Closed.the-variants.{Points, Refused}
 use Rattle.sums.specs.Closing.{plus, plusRest, pointsOver}

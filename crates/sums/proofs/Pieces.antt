@@ -22,8 +22,8 @@ use Rattle.backoff.specs.Store.{Store, Step, scored, stuck, step, Ran, ran, ref
 use Rattle.backoff.proofs.NineNumbers.{stateOk-bounded, nine-stateIn, runEnd-ok, stateIn-runEnd, length-nine}
 use Rattle.backoff.proofs.Sizes.{runPoints-size}
 use Rattle.backoff.proofs.Store.{modelRan, runOver-cases}
-use Rattle.score.proofs.Sizes.{SmallTotal}
-use Rattle.score.proofs.Running.{beforeAll, before-none}
+use Rattle.run_words.proofs.Sizes.{SmallTotal}
+use Rattle.run_words.proofs.Running.{beforeAll, before-none}
 use Rattle.sums.specs.Sums.{Summed, summed}
 
 -- the same words, numbered from a further on

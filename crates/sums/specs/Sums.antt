@@ -7,7 +7,7 @@ use Rattle.backoff.specs.Refusal.{brokenNode}
 use Rattle.backoff.specs.NineNumbers.{nine}
 use Rattle.backoff.specs.Store.{Ran as Words, ran, refusedAt}
 use Rattle.carried_state.specs.Numbers.{numbersOf}
-use Rattle.score.specs.declared.Ran.{Ran}
+use Rattle.run_answer.specs.declared.Ran.{Ran}
 
 pub record Summed : Type 0 where
   pub number : ℕ

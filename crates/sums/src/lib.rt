@@ -1,7 +1,8 @@
 // Sums of points over any lent double array, without the slices of a run: the words of a run, and a sentence's last word with its 3.
+use carried_state::Packed;
 use carried_state::State;
 use double_array::Child;
-use score::Ran;
+use run_answer::Ran;
 use word_step::Stepped;
 ghost use mathlib.Core.Path.{_≡_};
 ghost use mathlib.Core.Bool.{true};
@@ -13,6 +14,8 @@ ghost use Rattle.backoff.specs.NineNumbers.{stateIn, stateOk};
 ghost use Rattle.backoff.specs.Store.{runOver};
 ghost use Rattle.double_array.specs.DoubleArray.{isArray, orderIn, storeIn};
 ghost use Rattle.carried_state.specs.Numbers.{numbersOf};
+ghost use Rattle.carried_state.specs.Packed.{heldIn, Carries};
+ghost use Rattle.word_step.specs.Inner.{replaced};
 ghost use Rattle.sums.specs.Sums.{summedOf, summed};
 ghost use Rattle.sums.specs.Closing.{pointsOver};
 
@@ -51,7 +54,7 @@ pub fn sum_words(base: &[i32], check: &[i32], order: usize, state: State, words:
     let mut a = 0;
     while a < words.len() {
         let e = piece_end(a, words.len());
-        let ran = score::score_words(
+        let ran = run_words::score_words(
             base,
             check,
             order,
@@ -81,26 +84,34 @@ pub fn sum_words(base: &[i32], check: &[i32], order: usize, state: State, words:
     }
 }
 
-// A sentence's last word and its 3, from the state that the words before them left. No sentence is begun behind the 3.
-pub fn sum_closed(base: &[i32], check: &[i32], order: usize, state: State, last: u32) -> Closed
+// A sentence's last word, which is scored as itself, and its 3, which is scored as `closing`, from the state that the words before them left. No sentence is begun behind
+// the 3.
+pub fn sum_closed(
+    base: &[i32],
+    check: &[i32],
+    order: usize,
+    mut carried: Packed,
+    mut backoffs: [i32; 5],
+    last: u32,
+    closing: u32,
+) -> Closed
     requires { ⌜ isArray (now base) (now check) ≡ true ⌝ }
     requires { ⌜ order ≡ orderIn (now check) ⌝ }
-    requires { ⌜ stateOk order (numbersOf state) ≡ true ⌝ }
-    ensures { λ r. ⌜ r ≡ pointsOver (storeIn (now (base .entry)) (now (check .entry))) (last ∷ endWord ∷ []) (stateIn (numbersOf state)) ⌝ }
+    requires { ⌜ Carries order carried backoffs ⌝ }
+    requires { ⌜ (last ≡ replaced (now check) last) × (closing ≡ replaced (now check) endWord) ⌝ }
+    ensures { λ r. ⌜ r ≡ pointsOver (storeIn (now (base .entry)) (now (check .entry))) (last ∷ endWord ∷ []) (heldIn carried backoffs) ⌝ }
 {
-    let words = [last, backoff::END_WORD];
-    let mut carried = carried_state::pack(state);
-    let mut backoffs = carried_state::lent(state);
+    let words = [last, closing];
     let mut total: i64 = 0;
     let mut i = 0;
     while i < 2 {
-        let word = word_step::replaced(check, words[i]);
+        let word = words[i];
         let Child::At(slot) = double_array::root_child(check, word) else {
             return Closed::Refused;
         };
-        let reached = word_step::walk(base, check, slot, carried, &mut backoffs);
+        let reached = word_walk::walk(base, check, slot, carried, &mut backoffs);
         let count = carried.count;
-        let walked = word_step::last_node(base, check, order, count, reached, &mut backoffs);
+        let walked = word_walk::last_node(base, check, order, count, reached, &mut backoffs);
         let stepped = word_step::answered(carried.words, word, walked);
         let Stepped::Scored { score, next } = stepped else {
             return Closed::Refused;

@@ -9,16 +9,17 @@ use lib.ListN.{replicate, length-replicate}
 use lib.IntN.{ℤ, pos}
 use Rattle.backoff.specs.Store.{Store, startOutcome, runOutcome}
 use Rattle.backoff.specs.declared.Verdict.the-variants.{Accepted}
-use Rattle.double_array.specs.Lookup.{lookupIn, lookupOutcome}
 use Rattle.double_array.proofs.DoubleArray.{sizes-shown}
-use Rattle.batch.specs.Sheet.{sheetOutcome}
-use Rattle.sentences.specs.Listing.{listingOutcome}
-use Rattle.largest_move.specs.Move.{moveOutcome}
-use Rattle.fragments.specs.Outcome.{fragmentOutcome, joinOutcome}
+use Rattle.lookup.specs.Lookup.{lookupIn, lookupOutcome}
 use Rattle.build.specs.Build.{Built, buildOutcome}
 use Rattle.build.specs.FewestSlots.{fewest, cutBase, cutCheck, Lent}
 use Rattle.build.proofs.Built.{build-accepted, build-opened}
 use Rattle.build.proofs.FewestSlots.{fewest-slots, length-base}
+use Rattle.batch.specs.Sheet.{sheetOutcome}
+use Rattle.sentences.specs.Listing.{listingOutcome}
+use Rattle.largest_move.specs.Move.{moveOutcome}
+use Rattle.fragments.specs.Outcome.{fragmentOutcome}
+use Rattle.joining.specs.Outcome.{joinOutcome}
 use Rattle.theorems.specs.AnswersAlike.{AnswersAlike}
 use Rattle.theorems.proofs.Returns.{build-unloads}
 

@@ -26,16 +26,19 @@ use Rattle.double_array.specs.DoubleArray.{storeIn, opened}
 use Rattle.double_array.proofs.DoubleArray.{opened-some}
 use Rattle.build.specs.Build.{Built, buildOutcome}
 use Rattle.build.proofs.Built.{build-holds}
-use Rattle.plain.specs.Plain.{plainOutcome}
-use Rattle.batch.specs.Sheet.{sentence, sentences, lastEnd, badEnd, sheetSize, met, closingRun, wordsRun, closed, isScored, sentenceTotal, wordPoints, wordBytes, closingBytes, totalOf, unknownOf, matchedOf, firstRefused, acceptedSheet, scoredSheet, sheetOutcome, earlyRefusal}
+use Rattle.sentence_ends.specs.Ends.{lastEnd, badEnd, sheetSize, earlyRefusal}
+use Rattle.sentence_ends.proofs.Ends.{good-end, good-last, lastEnd-next}
+use Rattle.closed_sentence.specs.Sentence.{closingRun, wordsRun, closed, isScored, sentenceTotal}
+use Rattle.closed_sentence.proofs.Calls.{words-keep, none-refuses, closed-long}
+use Rattle.stretches.specs.Stretches.{sentence, sentences, wordPoints, wordBytes, closingBytes, totalOf, firstRefused}
+use Rattle.stretches.proofs.Stretches.{length-stretch, map-sentences}
+use Rattle.stretches.proofs.FirstRefused.{none-refused}
+use Rattle.batch.specs.Sheet.{met, unknownOf, matchedOf, acceptedSheet, scoredSheet, sheetOutcome}
 use Rattle.batch.specs.Meaning.{FullRun}
-use Rattle.batch.proofs.Ends.{good-end, good-last, lastEnd-next}
-use Rattle.batch.proofs.Stretches.{length-stretch, map-sentences}
-use Rattle.batch.proofs.Calls.{words-keep, none-refuses, closed-long}
 use Rattle.batch.proofs.Outcome.{Passed, passed}
 use Rattle.batch.proofs.Refusals.{fits-full}
-use Rattle.batch.proofs.FirstRefused.{none-refused}
 use Rattle.batch.proofs.OwnRuns.{standing-whole}
+use Rattle.plain.specs.Plain.{plainOutcome}
 use Rattle.theorems.specs.RunsInARow.{arrayOf, firstState, RunsInARow}
 use Rattle.theorems.specs.BatchSheet.{closedWords, sentencePoints, sentenceBytes, closedTotal, closedBytes, SheetIsTheRule}
 use Rattle.theorems.proofs.RunsInARow.{runs-in-a-row}

@@ -6,11 +6,12 @@ use Prim.Native.Nat.{ℕ}
 use lib.IntN.{ℤ}
 use Rattle.backoff.specs.Store.{Store, startOutcome, runOutcome}
 use Rattle.backoff.specs.declared.Verdict.the-variants.{Accepted}
-use Rattle.batch.specs.Sheet.{sheetOutcome}
-use Rattle.fragments.specs.Outcome.{fragmentOutcome, joinOutcome}
 use Rattle.build.specs.Build.{buildOutcome}
 use Rattle.build.proofs.Built.{build-opened}
 use Rattle.build.proofs.Found.{found-exactly-if-listed}
+use Rattle.batch.specs.Sheet.{sheetOutcome}
+use Rattle.fragments.specs.Outcome.{fragmentOutcome}
+use Rattle.joining.specs.Outcome.{joinOutcome}
 use Rattle.theorems.specs.RunsInARow.{arrayOf}
 use Rattle.theorems.specs.EitherSide.{listStore, ScoresAsTheList}
 

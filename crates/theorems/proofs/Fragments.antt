@@ -25,12 +25,14 @@ use Rattle.double_array.proofs.DoubleArray.{opened-some}
 use Rattle.build.specs.Build.{Built, buildOutcome}
 use Rattle.build.proofs.Built.{build-accepted, build-holds}
 use Rattle.fragments.specs.Fragment.{packed, fragmentOk}
-use Rattle.fragments.specs.Outcome.{returned, refusedBy, fragmentIn, crossed, fragmentOutcome, joinOutcome}
-use Rattle.fragments.specs.Bracketing.{Bracketing, Begun, at-start, onto, piece, wordsIn, wordsSince, beginning, evaluate, evaluateSince, joinsAccepted, allAccepted, SameResult}
-use Rattle.fragments.proofs.Join.{fragmentOf-is, fragment-by-rule}
+use Rattle.fragments.specs.Outcome.{returned, refusedBy, fragmentIn, crossed, fragmentOutcome, SameResult}
+use Rattle.fragments.proofs.ByRule.{fragmentOf-is, fragment-by-rule}
 use Rattle.fragments.proofs.Outcome as outcome
-use Rattle.fragments.proofs.Bracketing as bracketing
-use Rattle.fragments.proofs.RefusedScoring as refused
+use Rattle.joining.specs.Outcome.{joinOutcome}
+use Rattle.joining.specs.Bracketing.{Bracketing, Begun, at-start, onto, piece, wordsIn, wordsSince, beginning, evaluate, evaluateSince, joinsAccepted, allAccepted}
+use Rattle.joining.proofs.Outcome as joined
+use Rattle.joining.proofs.Bracketing as bracketing
+use Rattle.joining.proofs.RefusedScoring as refused
 use Rattle.theorems.specs.RunsInARow.{arrayOf}
 
 module _ (table base check : List ℤ) (work : List ℕ) (built : buildOutcome table base check work .answer ≡ Accepted) where
@@ -59,7 +61,7 @@ module _ (table base check : List ℤ) (work : List ℕ) (built : buildOutcome t
 
   -- "Joining two neighbours gives what scoring the joined words as one fragment gives", its 14 too
   pub join-is-scoring : (us vs : List ℕ) → fragmentOutcome array us .number ≡ 0 → fragmentOutcome array vs .number ≡ 0 → joinOutcome array (fragmentOutcome array us .fragment) (fragmentOutcome array vs .fragment) ≡ fragmentOutcome array (us ++ vs)
-  join-is-scoring = rw opens (outcome.join-is-scoring S W A)
+  join-is-scoring = rw opens (joined.join-is-scoring S W A)
 
   -- "joining it after an empty one with start's state gives the run's result", and so does any bracketing that begins there
   pub any-bracketing-since : (r : Run) (lent : List ℤ) → accepted r ≡ true → length lent ≡ 9 → (x : Begun) → wordsSince x ≡ r .words → SameResult (evaluateSince array (startOutcome array lent .state) x) (runOutcome array (startOutcome array lent .state) r)

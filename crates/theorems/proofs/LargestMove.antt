@@ -25,9 +25,10 @@ use Rattle.list.proofs.ListModel.{accepted-model}
 use Rattle.double_array.specs.DoubleArray.{opened}
 use Rattle.build.specs.Build.{Built, buildOutcome}
 use Rattle.build.proofs.Built.{build-accepted}
-use Rattle.sentences.specs.Sentences.{sentencesOf}
-use Rattle.sentences.specs.Listing.{sentenceTotal, sizeRefusal, sentencesOver, listingOutcome}
-use Rattle.sentences.proofs.Sentences.{each-long}
+use Rattle.sentence_order.specs.Sentences.{sentencesOf}
+use Rattle.sentence_order.proofs.Sentences.{each-long}
+use Rattle.sentence_totals.specs.Totals.{sentenceTotal}
+use Rattle.sentences.specs.Listing.{sizeRefusal, sentencesOver, listingOutcome}
 use Rattle.sentences.proofs.Outcome.{sized}
 use Rattle.largest_move.specs.declared.Pair.{Pair}
 use Rattle.largest_move.specs.Pairs.{noPair, firstLargest}

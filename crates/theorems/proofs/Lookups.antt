@@ -16,8 +16,8 @@ use Rattle.rows.specs.Table.{orderOf}
 use Rattle.row_search.specs.Search.{findIn}
 use Rattle.list.specs.Check.{verdict}
 use Rattle.list.specs.ListModel.{entryAt, modelOf}
-use Rattle.double_array.specs.Lookup.{lookupOf, lookupIn, lookupOutcome}
-use Rattle.double_array.specs.declared.Lookup.the-variants.{NotFound, Refused}
+use Rattle.lookup.specs.Lookup.{lookupOf, lookupIn, lookupOutcome}
+use Rattle.lookup.specs.declared.Lookup.the-variants.{NotFound, Refused}
 use Rattle.build.specs.Listed.{answerAt, listedAnswer}
 use Rattle.build.proofs.Found.{above-order, looked-up}
 use Rattle.unload.specs.Unload.{unloadOutcome}

@@ -11,10 +11,13 @@ use Rattle.backoff.specs.Store.{modelIn, walkedWord, endsBroken, stepFrom, word
 use Rattle.rows.specs.Table.{rowsOf, field, lengthOf, orderOf, wordsOf, words, withoutFirst, withoutLast, placeFits, placesFit}
 use Rattle.rows.specs.Order.{lastLess, precedes}
 use Rattle.row_search.specs.Search.{findBelow, findIn}
-use Rattle.list.specs.Check.{tableFits, backoffFits, fieldFault, isAfter, withoutFirsts, shorterListed, orderFault, rowFault, reservedListed, scan, verdictFor}
+use Rattle.row_fields.specs.Fields.{backoffFits, fieldFault}
+use Rattle.rows_before.specs.Faults.{isAfter, withoutFirsts, shorterListed, orderFault, rowFault}
+use Rattle.list.specs.Check.{tableFits, reservedListed, scan, verdictFor}
 use Rattle.list.specs.ListModel.{anyBelow, extendedIn, continuedIn, modelOf}
-use Rattle.double_array.specs.DoubleArray.{markerOf, keptMarker, ownMarker, markerAt, childAt, lookFrom, sizesOk, orderOk, headOk, orderIn, storeIn, opened}
-use Rattle.double_array.specs.Lookup.{lookupOutcome}
+use Rattle.markers.specs.Markers.{markerOf}
+use Rattle.double_array.specs.DoubleArray.{keptMarker, ownMarker, markerAt, childAt, lookFrom, sizesOk, orderOk, headOk, orderIn, storeIn, opened}
+use Rattle.lookup.specs.Lookup.{lookupOutcome}
 use Rattle.placing.specs.Trie.{children}
 use Rattle.placing.specs.Placing.{isFree, update, isOpen, allOpen, fits, search, firstFit, own, topWith, give, settle, placeAt, withMarker, withoutMarker, place, placeAll, unplaced, placing, slots}
 use Rattle.list_trie.specs.ListTrie.{nodeOf, rootOf, nodesFrom, nodesOf, placedList, slotsFrom, rowSlots}

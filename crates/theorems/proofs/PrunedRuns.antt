@@ -12,9 +12,9 @@ use Rattle.backoff.specs.Runs.{joined}
 use Rattle.backoff.specs.declared.Verdict.the-variants.{Accepted}
 use Rattle.list.specs.ListModel.{modelOf}
 use Rattle.build.specs.Build.{buildOutcome}
+use Rattle.filled_list.proofs.Alike.{history-alike, rulePoints-alike}
 use Rattle.filling.specs.Fill.{fillOutcome}
 use Rattle.filling.specs.Meaning.{FilledList}
-use Rattle.filling.proofs.Alike.{history-alike, rulePoints-alike}
 use Rattle.filling.proofs.Meaning.{filled-means}
 use Rattle.theorems.specs.RunsInARow.{arrayOf}
 use Rattle.theorems.specs.PrunedRuns.{filledList, PrunedRuns}

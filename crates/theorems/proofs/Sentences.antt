@@ -26,12 +26,13 @@ use Rattle.double_array.proofs.DoubleArray.{opened-some}
 use Rattle.build.specs.Build.{Built, buildOutcome}
 use Rattle.build.proofs.Built.{build-holds}
 use Rattle.score.specs.Answers.{startedOver}
-use Rattle.plain.specs.Plain.{plainOutcome}
-use Rattle.sentences.specs.Sentences.{isThere, isOther, usable, usableWords, sentencesOf}
-use Rattle.sentences.specs.Listing.{ownRun, runFromStart, runsThrough, closed, sentenceTotal, isScored, allScored, sizeRefusal, earlyRefusal, fullListing, listed as listedOutcome, usableOver, sentencesOver, listingOutcome}
-use Rattle.sentences.proofs.Passing.{passing-same}
-use Rattle.sentences.proofs.Sentences.{length-sentences, each-long}
+use Rattle.sentence_order.specs.Sentences.{isThere, isOther, usable, usableWords, sentencesOf}
+use Rattle.sentence_order.proofs.Passing.{passing-same}
+use Rattle.sentence_order.proofs.Sentences.{length-sentences, each-long}
+use Rattle.sentence_totals.specs.Totals.{ownRun, runFromStart, runsThrough, closed, sentenceTotal, isScored, allScored}
+use Rattle.sentences.specs.Listing.{sizeRefusal, earlyRefusal, fullListing, listed as listedOutcome, usableOver, sentencesOver, listingOutcome}
 use Rattle.sentences.proofs.Outcome.{sized}
+use Rattle.plain.specs.Plain.{plainOutcome}
 use Rattle.theorems.specs.RunsInARow.{arrayOf, firstState, RunsInARow}
 use Rattle.theorems.specs.Sentences.{isListed, listedWords, listedSentences, ruleTotal, ListingIsTheRule}
 use Rattle.theorems.proofs.RunsInARow.{runs-in-a-row}

@@ -6,12 +6,13 @@ use lib.IntN.{ℤ}
 use Rattle.backoff.specs.Run.{Run}
 use Rattle.backoff.specs.Store.{startOutcome, runOutcome}
 use Rattle.double_array.specs.DoubleArray.{opened}
-use Rattle.double_array.specs.Lookup.{lookupOutcome}
+use Rattle.lookup.specs.Lookup.{lookupOutcome}
 use Rattle.batch.specs.Sheet.{sheetOutcome}
 use Rattle.sentences.specs.Listing.{listingOutcome}
 use Rattle.largest_move.specs.Move.{moveOutcome}
 use Rattle.fragments.specs.declared.Fragment.{Fragment}
-use Rattle.fragments.specs.Outcome.{fragmentOutcome, joinOutcome}
+use Rattle.fragments.specs.Outcome.{fragmentOutcome}
+use Rattle.joining.specs.Outcome.{joinOutcome}
 use Rattle.unload.specs.Unload.{unloadOutcome}
 
 -- whatever the words, the state, the fragments and the lent slices are: answers, states, points, length bytes, rows and slots, refused or not

@@ -17,7 +17,9 @@ use Rattle.backoff.specs.Counts.{hasMatched, saysUnknown, count}
 use Rattle.backoff.specs.Run.{Run, front}
 use Rattle.backoff.specs.Runs.{flat}
 use Rattle.backoff.specs.Store.{Store}
-use Rattle.batch.specs.Sheet.{sentences, lastEnd, badEnd, sheetSize, Outcome, sheetOutcome}
+use Rattle.sentence_ends.specs.Ends.{lastEnd, badEnd, sheetSize}
+use Rattle.stretches.specs.Stretches.{sentences}
+use Rattle.batch.specs.Sheet.{Outcome, sheetOutcome}
 
 -- the rule over a sentence's words, "scored from `<s>`", and over these "closed with a 3"
 module _ (M : Model) (q : Run) where

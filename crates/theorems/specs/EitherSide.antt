@@ -8,12 +8,13 @@ use lib.IntN.{ℤ}
 use Rattle.backoff.specs.Run.{Run}
 use Rattle.backoff.specs.Store.{Store, storeOf, startOutcome, runOutcome}
 use Rattle.list.specs.ListModel.{modelOf}
-use Rattle.double_array.specs.Lookup.{lookupOutcome}
+use Rattle.lookup.specs.Lookup.{lookupOutcome}
 use Rattle.build.specs.Build.{Built}
 use Rattle.build.specs.Listed.{listedAnswer}
 use Rattle.batch.specs.Sheet.{sheetOutcome}
 use Rattle.fragments.specs.declared.Fragment.{Fragment}
-use Rattle.fragments.specs.Outcome.{fragmentOutcome, joinOutcome}
+use Rattle.fragments.specs.Outcome.{fragmentOutcome}
+use Rattle.joining.specs.Outcome.{joinOutcome}
 use Rattle.theorems.specs.RunsInARow.{arrayOf}
 
 -- the list's own rows as a store, none of them broken

@@ -14,8 +14,8 @@ use Rattle.backoff.specs.Store.{Store, runOutcome}
 use Rattle.backoff.specs.declared.Verdict.the-variants.{Accepted}
 use Rattle.list.specs.Check.{verdict}
 use Rattle.list.specs.ListModel.{modelOf}
-use Rattle.double_array.specs.Lookup.{lookupOutcome}
-use Rattle.double_array.specs.declared.Lookup.{Lookup}
+use Rattle.lookup.specs.Lookup.{lookupOutcome}
+use Rattle.lookup.specs.declared.Lookup.{Lookup}
 use Rattle.build.specs.Build.{buildOutcome}
 use Rattle.carried_state.specs.Numbers.{numbersOf}
 use Rattle.fragments.specs.declared.Joined.{Joined}

@@ -14,8 +14,8 @@ use Rattle.backoff.specs.declared.Verdict.the-variants.{Accepted, Refused}
 use Rattle.list.specs.Check.{verdict}
 use Rattle.list.specs.Sample.{sample, sampleWith}
 use Rattle.double_array.specs.DoubleArray.{freeCheck}
-use Rattle.double_array.specs.Lookup.{lookupOutcome}
-use Rattle.double_array.specs.declared.Lookup.the-variants.{Found, NotFound}
+use Rattle.lookup.specs.Lookup.{lookupOutcome}
+use Rattle.lookup.specs.declared.Lookup.the-variants.{Found, NotFound}
 use Rattle.build.specs.Build.{Built, buildOutcome}
 use Rattle.plain.specs.Plain.{plainOutcome}
 use Rattle.theorems.specs.RunsInARow.{arrayOf}

@@ -13,7 +13,7 @@ use Rattle.backoff.specs.Rule.{rulePoints}
 use Rattle.backoff.specs.Run.{front, written}
 use Rattle.backoff.specs.Runs.{flat}
 use Rattle.backoff.specs.Store.{Store}
-use Rattle.sentences.specs.Sentences.{passing, isOther, sentencesOf}
+use Rattle.sentence_order.specs.Sentences.{passing, isOther, sentencesOf}
 use Rattle.sentences.specs.Listing.{sizeRefusal, listingOutcome}
 
 module _ (M : Model) where

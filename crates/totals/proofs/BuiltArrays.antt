@@ -11,7 +11,7 @@ use Rattle.list.proofs.ListModel.{accepted-model}
 use Rattle.double_array.specs.DoubleArray.{storeIn, opened}
 use Rattle.double_array.proofs.DoubleArray.{opened-some}
 use Rattle.build.proofs.Built.{HoldsList, build-accepted, build-holds}
-use Rattle.word_step.specs.Rows.{arrayModel}
+use Rattle.word_walk.specs.Rows.{arrayModel}
 use Rattle.totals_lines.specs.Steps.{Ready}
 use Rattle.totals.specs.Totals.{HoldsBuilt}
 

@@ -9,7 +9,7 @@ use Rattle.backoff.specs.Refusal.{textLine}
 use Rattle.backoff.specs.Model.{Model}
 use Rattle.backoff.specs.Runs.{flat}
 use Rattle.backoff.specs.declared.Verdict.the-variants.{Refused}
-use Rattle.word_step.specs.Rows.{arrayModel}
+use Rattle.word_walk.specs.Rows.{arrayModel}
 use Rattle.totals_text.specs.Lines.{refusedLine}
 use Rattle.totals_list.specs.List.{linesOf, ListText, rows, notInForm, readList}
 use Rattle.totals_list.proofs.EnoughBytes.{enoughBytes, list-bytes}

@@ -23,7 +23,7 @@ use Rattle.backoff.proofs.Run.{length-runBytes, runPoints-is-rule, runBytes-is-
 use Rattle.backoff.proofs.Store.{Whole, packed, runOutcome-is}
 use Rattle.double_array.specs.DoubleArray.{storeIn, opened}
 use Rattle.double_array.proofs.DoubleArray.{opened-some}
-use Rattle.word_step.specs.Rows.{arrayModel}
+use Rattle.word_walk.specs.Rows.{arrayModel}
 use Rattle.totals_lines.specs.Text.{unknownIn}
 use Rattle.totals_lines.specs.Steps.{Ready}
 

@@ -13,7 +13,7 @@ use Rattle.backoff.specs.State.{start}
 use Rattle.backoff.specs.NineNumbers.{nine}
 use Rattle.backoff.specs.Store.{isBroken}
 use Rattle.double_array.specs.DoubleArray.{isArray, storeIn}
-use Rattle.word_step.specs.Rows.{arrayModel}
+use Rattle.word_walk.specs.Rows.{arrayModel}
 use Rattle.totals_text.specs.Lines.{isTextLine, textWords, refusedLine}
 use Rattle.totals_list.specs.List.{linesOf, lineEnd}
 use Rattle.totals_lines.specs.declared.Printed.{Printed}

@@ -14,7 +14,7 @@ ghost use Rattle.backoff.specs.Rule.{rulePoints};
 ghost use Rattle.backoff.specs.Counts.{saysUnknown, count};
 ghost use Rattle.backoff.specs.Run.{written};
 ghost use Rattle.carried_state.specs.Numbers.{numbersOf};
-ghost use Rattle.word_step.specs.Rows.{arrayModel};
+ghost use Rattle.word_walk.specs.Rows.{arrayModel};
 ghost use Rattle.totals_text.specs.Lines.{isTextLine, textAnswer, sentenceLine, refusedLine};
 ghost use Rattle.totals_lines.specs.Text.{unknownIn};
 ghost use Rattle.totals_lines.specs.Steps.{Closed, Ready, lineOutput, PrintedAs, Begun, Fed, finished};

@@ -1,17 +1,11 @@
--- What the forms say, one example of each: document 01's printed lines, and columns in form and not. Assumes nothing.
+-- Document 01's printed lines, one example of each. Assumes nothing.
 use mathlib.Core.Path.{_≡_, refl}
-use mathlib.Core.List.{List, [], _∷_, _++_}
-use Prim.Native.Nat.{ℕ}
-use lib.IntN.{pos, negsuc}
-use lib.ListN.{replicate}
-use Rattle.integer.specs.Integer.{between}
-use Rattle.totals_text.specs.declared.Column.the-variants.{Number, NotInForm}
-use Rattle.totals_text.specs.Columns.{digitsWithin, digits, signed, numeral, justified, column, withoutSpaces, allDigits, isNatural, valueFrom, ifHeld, readNatural, readNegative, readNumeral, readColumn}
+use mathlib.Core.List.{[], _∷_}
+use lib.IntN.{negsuc}
+use Rattle.decimal.specs.Digits.{digitsWithin, digits}
+use Rattle.columns.specs.Columns.{signed, numeral, justified, column}
+use Rattle.columns.proofs.Examples.{after}
 use Rattle.totals_text.specs.Lines.{refusedWord, countColumns, sentenceLine, refusedLine}
-
--- so many spaces, and a text
-after : ℕ → List ℕ → List ℕ
-after n text = replicate n 32 ++ text
 
 -- `       3       1       1          -33000`
 third-line : sentenceLine 3 1 1 (negsuc 32999) ≡ after 7 (51 ∷ after 7 (49 ∷ after 7 (49 ∷ after 10 (45 ∷ 51 ∷ 51 ∷ 48 ∷ 48 ∷ 48 ∷ 10 ∷ []))))
@@ -22,75 +16,3 @@ third-line = refl
 refused-second : refusedLine 13 2 ≡ 114 ∷ 101 ∷ 102 ∷ 117 ∷ 115 ∷ 101 ∷ 100 ∷ after 6 (49 ∷ 51 ∷ after 7 (50 ∷ 10 ∷ []))
 unfolding after refusedLine refusedWord column justified numeral signed digits digitsWithin
 refused-second = refl
-
--- a number wider than its column stands in full: `1234` in a column of 2
-wide : column 2 (pos 1234) ≡ 49 ∷ 50 ∷ 51 ∷ 52 ∷ []
-unfolding column justified numeral signed digits digitsWithin
-wide = refl
-
--- `       0`, `99999999`, `-9999999`
-zero-in-form : readColumn 8 (after 7 (48 ∷ [])) ≡ Number (pos 0)
-unfolding after readColumn withoutSpaces readNumeral readNegative readNatural ifHeld between isNatural allDigits valueFrom
-zero-in-form = refl
-
-full : readColumn 8 (replicate 8 57) ≡ Number (pos 99999999)
-unfolding readColumn withoutSpaces readNumeral readNegative readNatural ifHeld between isNatural allDigits valueFrom
-full = refl
-
-full-negative : readColumn 8 (45 ∷ replicate 7 57) ≡ Number (negsuc 9999998)
-unfolding readColumn withoutSpaces readNumeral readNegative readNatural ifHeld between isNatural allDigits valueFrom
-full-negative = refl
-
--- a blank column, `      -0`, `      07`, `      +1`, `     - 1`, `      1 `, a tab for the spaces before `1`, and nine characters
-blank : readColumn 8 (replicate 8 32) ≡ NotInForm
-unfolding readColumn withoutSpaces readNumeral readNegative readNatural ifHeld between isNatural allDigits valueFrom
-blank = refl
-
-minus-zero : readColumn 8 (after 6 (45 ∷ 48 ∷ [])) ≡ NotInForm
-unfolding after readColumn withoutSpaces readNumeral readNegative readNatural ifHeld between isNatural allDigits valueFrom
-minus-zero = refl
-
-leading-zero : readColumn 8 (after 6 (48 ∷ 55 ∷ [])) ≡ NotInForm
-unfolding after readColumn withoutSpaces readNumeral readNegative readNatural ifHeld between isNatural allDigits valueFrom
-leading-zero = refl
-
-plus : readColumn 8 (after 6 (43 ∷ 49 ∷ [])) ≡ NotInForm
-unfolding after readColumn withoutSpaces readNumeral readNegative readNatural ifHeld between isNatural allDigits valueFrom
-plus = refl
-
-minus-space : readColumn 8 (after 5 (45 ∷ 32 ∷ 49 ∷ [])) ≡ NotInForm
-unfolding after readColumn withoutSpaces readNumeral readNegative readNatural ifHeld between isNatural allDigits valueFrom
-minus-space = refl
-
-space-behind : readColumn 8 (after 6 (49 ∷ 32 ∷ [])) ≡ NotInForm
-unfolding after readColumn withoutSpaces readNumeral readNegative readNatural ifHeld between isNatural allDigits valueFrom
-space-behind = refl
-
-tab : readColumn 8 (replicate 7 9 ++ (49 ∷ [])) ≡ NotInForm
-unfolding readColumn withoutSpaces readNumeral readNegative readNatural ifHeld between isNatural allDigits valueFrom
-tab = refl
-
-nine : readColumn 8 (after 8 (49 ∷ [])) ≡ NotInForm
-unfolding after readColumn withoutSpaces readNumeral readNegative readNatural ifHeld between isNatural allDigits valueFrom
-nine = refl
-
--- in a column of twelve: ` -2147483648` and `  2147483647` are read, ` -2147483649` and `  2147483648` are not, nor is `999999999999`
-least : readColumn 12 (32 ∷ 45 ∷ 50 ∷ 49 ∷ 52 ∷ 55 ∷ 52 ∷ 56 ∷ 51 ∷ 54 ∷ 52 ∷ 56 ∷ []) ≡ Number (negsuc 2147483647)
-unfolding readColumn withoutSpaces readNumeral readNegative readNatural ifHeld between isNatural allDigits valueFrom
-least = refl
-
-greatest : readColumn 12 (32 ∷ 32 ∷ 50 ∷ 49 ∷ 52 ∷ 55 ∷ 52 ∷ 56 ∷ 51 ∷ 54 ∷ 52 ∷ 55 ∷ []) ≡ Number (pos 2147483647)
-unfolding readColumn withoutSpaces readNumeral readNegative readNatural ifHeld between isNatural allDigits valueFrom
-greatest = refl
-
-below : readColumn 12 (32 ∷ 45 ∷ 50 ∷ 49 ∷ 52 ∷ 55 ∷ 52 ∷ 56 ∷ 51 ∷ 54 ∷ 52 ∷ 57 ∷ []) ≡ NotInForm
-unfolding readColumn withoutSpaces readNumeral readNegative readNatural ifHeld between isNatural allDigits valueFrom
-below = refl
-
-above : readColumn 12 (32 ∷ 32 ∷ 50 ∷ 49 ∷ 52 ∷ 55 ∷ 52 ∷ 56 ∷ 51 ∷ 54 ∷ 52 ∷ 56 ∷ []) ≡ NotInForm
-unfolding readColumn withoutSpaces readNumeral readNegative readNatural ifHeld between isNatural allDigits valueFrom
-above = refl
-
-twelve-nines : readColumn 12 (replicate 12 57) ≡ NotInForm
-unfolding readColumn withoutSpaces readNumeral readNegative readNatural ifHeld between isNatural allDigits valueFrom
-twelve-nines = refl

@@ -1,7 +1,4 @@
--- The laws of the column forms and of the lines.
-pub mod Digits
-pub mod Columns
-pub mod Scans
-pub mod Stores
+-- Laws of the lines, of what is stored for them, and examples.
 pub mod Lines
+pub mod Stores
 pub mod Examples

@@ -11,27 +11,22 @@ use lib.IntN.{ℤ, pos, negsuc, natAbs}
 use lib.Signed.{leZ, ltZ}
 use lib.ListN.{length, take, drop, set, length-append, length-set, length-map, take-append-drop, drop-of-length-le, length-drop}
 use lib.Seq.{sets, take-at, drop-at, drop-drop}
-use borrow.Author.Tests.{le-ltb, le-leb, leb-true, eqb-true, eq-eqb}
+use borrow.Author.Tests.{le-leb, leb-true, eqb-true, eq-eqb}
 use mir.Syntax.{w64}
 use mir.Val.{SFits}
 use Rattle.integer.proofs.Arithmetic.{zarith, abs-le}
 use Rattle.integer.proofs.Ranges.{and-left, and-right, and-both}
 use Rattle.backoff.specs.Run.{written}
-use Rattle.totals_text.specs.declared.Column.{Column}
-use Rattle.totals_text.specs.declared.Column.the-variants.{Number, NotInForm}
+use Rattle.decimal.specs.Digits.{digits}
+use Rattle.decimal.proofs.Digits.{digits-le}
+use Rattle.columns.specs.declared.Column.{Column}
+use Rattle.columns.specs.declared.Column.the-variants.{Number, NotInForm}
+use Rattle.columns.specs.Columns.{signed, numeral, column, leastNumber, Held, readColumn}
+use Rattle.columns.proofs.Columns.{length-justified, read-column-printed, printed-read}
 use Rattle.totals_text.specs.declared.TextLine.the-variants.{Words, NotInForm as NoWords}
-use Rattle.totals_text.specs.Columns.{digits, signed, numeral, justified, column, leastNumber, Held, readColumn}
 use Rattle.totals_text.specs.Lines.{listWidth, textWidth, columns, inForm, allInForm, columnValue, wordOf, isListLine, listRow, isTextLine, textWords, textAnswer, lineOf, AllHeld, ListForm, ListLineMeans, TextForm, TextLineMeans, refusedWord, countColumns, sentenceLine, refusedLine}
-use Rattle.totals_text.proofs.Digits.{digits-le}
-use Rattle.totals_text.proofs.Columns.{length-justified, read-column-printed, printed-read}
 
 -- ---- printed lines
-
--- a number by its sign and its size
-pub column-signed : (width : ℕ) (z : ℤ) → column width z ≡ justified width (signed (ltZ z (pos 0)) (natAbs z))
-unfolding column numeral
-column-signed width (pos n) = rw (le-ltb n 0 (omega arith)) refl
-column-signed width (negsuc n) = refl
 
 pub length-count : (k n : ℕ) → n < 10 ^ suc k → length (column 8 (pos n)) ≤ max 8 (suc k)
 unfolding column numeral signed

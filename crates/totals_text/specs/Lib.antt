@@ -1,3 +1,2 @@
--- What the contracts cite: a number in a column, and the lines of the totals program.
-pub mod Columns
+-- What the contracts cite: the lines of the totals program.
 pub mod Lines

@@ -7,11 +7,11 @@ use lib.Dec.{eqb, leb}
 use lib.IntN.{ℤ, pos, negsuc}
 use lib.Signed.{leZ}
 use lib.ListN.{length, getD, take, drop}
-use Rattle.totals_text.specs.declared.Column.{Column}
-use Rattle.totals_text.specs.declared.Column.the-variants.{Number, NotInForm}
+use Rattle.columns.specs.declared.Column.{Column}
+use Rattle.columns.specs.declared.Column.the-variants.{Number, NotInForm}
+use Rattle.columns.specs.Columns.{column, leastNumber, Held, readColumn}
 use Rattle.totals_text.specs.declared.TextLine.{TextLine}
 use Rattle.totals_text.specs.declared.TextLine.the-variants.{Words, NotInForm as NoWords}
-use Rattle.totals_text.specs.Columns.{column, leastNumber, Held, readColumn}
 
 -- document 02, T-08: "Columns of LIST grow to twelve characters .. TEXT and the printed columns don't change."
 abbrev pub listWidth : ℕ

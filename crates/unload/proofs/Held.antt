@@ -27,6 +27,7 @@ use Rattle.rows.specs.Good.{Good}
 use Rattle.rows.specs.Keys.{rowKey}
 use Rattle.rows.proofs.Table.{row-in, words-length}
 use Rattle.rows.proofs.Good.{ascend-key}
+use Rattle.rows.proofs.Rows.{good-row-is-row}
 use Rattle.row_search.specs.Search.{findIn}
 use Rattle.row_search.specs.declared.Found.{Found}
 use Rattle.row_search.specs.declared.Found.the-variants.{At as Row, Nothing as NoRow}
@@ -34,19 +35,19 @@ use Rattle.row_search.proofs.Search.{found-words, finds}
 use Rattle.list.specs.ListModel.{extendedIn, continuedIn, entryAt, modelOf}
 use Rattle.list.proofs.Check.{accepted-good, accepted-size}
 use Rattle.list.proofs.ListModel.{accepted-model}
-use Rattle.double_array.specs.DoubleArray.{markerAt, childAt, lookMarker, past, downTo, lookFrom, lookRow, orderIn, storeIn, opened}
-use Rattle.double_array.specs.Lookup.{lookupIn, lookupOutcome}
-use Rattle.double_array.specs.declared.Marker.{Marker}
-use Rattle.double_array.specs.declared.Marker.the-variants.{Sound, Broken}
+use Rattle.markers.specs.Markers.{lookMarker}
+use Rattle.markers.specs.declared.Marker.{Marker}
+use Rattle.markers.specs.declared.Marker.the-variants.{Sound, Broken}
+use Rattle.double_array.specs.DoubleArray.{markerAt, childAt, past, downTo, lookFrom, lookRow, orderIn, storeIn, opened}
 use Rattle.double_array.specs.declared.Child.{Child}
 use Rattle.double_array.specs.declared.Child.the-variants.{At, Nothing}
 use Rattle.double_array.proofs.DoubleArray.{opened-order, opened-some, look-row}
+use Rattle.lookup.specs.Lookup.{lookupIn, lookupOutcome}
 use Rattle.array_nodes.specs.Nodes.{Reached, walkTo, reached}
-use Rattle.unload.specs.Unload.{isRight, reachedMarker, rowOf, tableOf, allRight, isList, rowsIn}
-use Rattle.unload.specs.Meaning.{Holds, Says}
 use Rattle.array_nodes.specs.Gathering.{EachTwo, none as no-two, more, IsReached}
 use Rattle.array_nodes.proofs.Reached.{ByKey, walk-child, walk-slot, reached-unique}
-use Rattle.rows.proofs.Rows.{good-row-is-row}
+use Rattle.unload.specs.Unload.{isRight, reachedMarker, rowOf, tableOf, allRight, isList, rowsIn}
+use Rattle.unload.specs.Meaning.{Holds, Says}
 use Rattle.unload.proofs.Agree.{runOutcome-agrees, startOutcome-agrees}
 
 -- ---- what a store has and its entries

@@ -16,8 +16,8 @@ use Rattle.rows.specs.Table.{rowsOf, orderOf, words}
 use Rattle.list.specs.Check.{verdict}
 use Rattle.list.specs.ListModel.{modelOf}
 use Rattle.double_array.specs.DoubleArray.{isArray, orderIn, storeIn, opened}
-use Rattle.double_array.specs.Lookup.{lookupIn, lookupOutcome}
 use Rattle.double_array.specs.declared.Child.the-variants.{At}
+use Rattle.lookup.specs.Lookup.{lookupIn, lookupOutcome}
 use Rattle.array_nodes.specs.Nodes.{walkTo}
 use Rattle.unload.specs.Unload.{rowsIn}
 

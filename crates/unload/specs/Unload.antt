@@ -12,9 +12,9 @@ use Rattle.backoff.specs.declared.Verdict.the-variants.{Accepted, Refused}
 use Rattle.rows.specs.Table.{rowsOf, orderOf, row}
 use Rattle.list.specs.Check.{verdict}
 use Rattle.list.specs.ListModel.{extendedIn, continuedIn}
+use Rattle.markers.specs.declared.Marker.{Marker}
+use Rattle.markers.specs.declared.Marker.the-variants.{Sound, Broken}
 use Rattle.double_array.specs.DoubleArray.{markerAt, isArray, orderIn}
-use Rattle.double_array.specs.declared.Marker.{Marker}
-use Rattle.double_array.specs.declared.Marker.the-variants.{Sound, Broken}
 use Rattle.array_nodes.specs.Nodes.{Reached, reached, slotsOf}
 
 -- ---- the rows

@@ -21,26 +21,28 @@ use Rattle.backoff.specs.NineNumbers.{all}
 use Rattle.backoff.specs.Store.{Look, absent, broken, here, modelIn, Step, scored, stuck, unknownAt, wordAt, walkedWord, stepFrom, wordStep}
 use Rattle.backoff.proofs.State.{take-backoffsOf, liveLength-le, walk-le}
 use Rattle.backoff.proofs.NineNumbers.{nextFrom-bounded}
-use Rattle.double_array.specs.DoubleArray.{markerAt, childAt, rootChild, lookMarker, downTo, lookFrom, isArray, orderIn, storeIn}
-use Rattle.double_array.specs.declared.Marker.{Marker}
-use Rattle.double_array.specs.declared.Marker.the-variants.{Sound, Broken}
+use Rattle.markers.specs.Markers.{lookMarker}
+use Rattle.markers.specs.declared.Marker.{Marker}
+use Rattle.markers.specs.declared.Marker.the-variants.{Sound, Broken}
+use Rattle.double_array.specs.DoubleArray.{markerAt, childAt, rootChild, downTo, lookFrom, isArray, orderIn, storeIn, isChild}
 use Rattle.double_array.specs.declared.Child.{Child}
 use Rattle.double_array.specs.declared.Child.the-variants.{At, Nothing}
 use Rattle.double_array.proofs.DoubleArray.{root-sound, root-child, look-down, opened-order, child-told}
 use Rattle.carried_state.specs.declared.Packed.{Packed}
 use Rattle.carried_state.specs.Packed.{digits, pushed, heldIn, Carries}
 use Rattle.carried_state.proofs.Digits.{length-digits, digits-pushed}
+use Rattle.word_walk.specs.declared.Kept.{Kept}
+use Rattle.word_walk.specs.declared.Walked.{Walked}
+use Rattle.word_walk.specs.declared.Walked.the-variants.{Whole, Stuck}
+use Rattle.word_walk.specs.Rows.{arrayModel}
+use Rattle.word_walk.specs.Walk.{meetsBroken, Read, WalkedOver}
+use Rattle.word_walk.proofs.Rows.{rows-in-backoff}
 use Rattle.word_step.specs.declared.Kind.the-variants.{Known, Unknown}
-use Rattle.word_step.specs.declared.Kept.{Kept}
-use Rattle.word_step.specs.declared.Walked.{Walked}
-use Rattle.word_step.specs.declared.Walked.the-variants.{Whole, Stuck}
 use Rattle.word_step.specs.declared.Score.{Score}
 use Rattle.word_step.specs.declared.Stepped.{Stepped}
 use Rattle.word_step.specs.declared.Stepped.the-variants.{Scored, Refused}
 use Rattle.word_step.specs.Answers.{byteOf, stepOf}
-use Rattle.word_step.specs.Rows.{arrayModel}
-use Rattle.word_step.specs.Inner.{isChild, replaced, meetsBroken, Read, WalkedOver, kindOf, Answerable, answered, SteppedTo}
-use Rattle.word_step.proofs.Rows.{rows-in-backoff}
+use Rattle.word_step.specs.Inner.{replaced, kindOf, Answerable, answered, SteppedTo}
 
 -- w is walked where its node is there, whatever would take its place
 own-word : (w : ℕ) (m : Marker) (other : Option ℕ) → wordAt w (lookMarker m) other ≡ wordAt w (lookMarker m) none

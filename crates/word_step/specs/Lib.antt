@@ -1,4 +1,3 @@
--- What must be believed of one word's step: the rows that an array holds, and the answer. What the functions are held to is in Inner.
-pub mod Rows
+-- What must be believed of one word's step: the answer. What the functions are held to is in Inner.
 pub mod Answers
 pub mod Inner

@@ -10,7 +10,7 @@ use Rattle.backoff.proofs.NineNumbers.{length-padded}
 use Rattle.list.specs.Check.{verdictFor}
 use Rattle.list.proofs.Check.{accepted-refused}
 use Rattle.row_order.specs.RowOrder.{joined}
-use Rattle.arpa_lines.specs.Reading.{Reading}
+use Rattle.arpa_sections.specs.Sections.{Reading}
 use Rattle.arpa.specs.Outcome.{ordered}
 use Rattle.arpa.specs.Held.{EndHeld}
 use Rattle.arpa.proofs.RowsHeld.{cleared-held, held-ordering, ordered-table, ordered-front, too-many}

@@ -5,8 +5,8 @@ use native.Mathlib.Omega.{arith}
 use lib.Dec.{lit≤}
 use borrow.Author.Needs.{needs}
 use borrow.Author.Tests.{not-true, not-false}
-use Rattle.arpa_lines.specs.declared.Stage.{Stage}
-use Rattle.arpa_lines.specs.declared.Stage.the-variants.{Start, Counts, Section, Ended}
+use Rattle.arpa_sections.specs.declared.Stage.{Stage}
+use Rattle.arpa_sections.specs.declared.Stage.the-variants.{Start, Counts, Section, Ended}
 use Rattle.arpa.proofs.LinesRead.{not-ended, piece-left, no-piece-left, end-held}
 use borrow.Author.Needs.{needs}
 use Rattle.arpa.proofs.last_piece.Statement.{statement}

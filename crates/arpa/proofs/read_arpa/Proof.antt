@@ -4,8 +4,9 @@ use Prim.Native.Nat.{ℕ}
 use lib.IntN.{pos}
 use lib.ListN.{length, replicate, length-replicate}
 use borrow.Author.Needs.{needs}
-use Rattle.arpa_text.specs.Parts.{parts}
-use Rattle.arpa_lines.specs.Reading.{unread, readLines}
+use Rattle.text_parts.specs.Parts.{parts}
+use Rattle.arpa_sections.specs.Sections.{unread}
+use Rattle.arpa_lines.specs.Reading.{readLines}
 use Rattle.arpa.specs.Held.{LinesHeld, Concluded}
 use Rattle.arpa.proofs.Answers.{lines-here, lines-length, lines-store-length, lines-sized, leaves-refused, leaves-read}
 use Rattle.arpa.proofs.Meaning.{read-means}

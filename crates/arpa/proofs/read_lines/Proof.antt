@@ -4,8 +4,9 @@ use Prim.Native.Nat.{_-_, _<_}
 use native.Mathlib.Omega.{arith}
 use lib.ListN.{length, take, drop}
 use borrow.Author.Needs.{needs}
-use Rattle.arpa_lines.specs.Reading.{Step, lineStep}
-use Rattle.arpa_lines.specs.Held.{StepHeld}
+use Rattle.arpa_sections.specs.Sections.{Step}
+use Rattle.arpa_sections.specs.Held.{StepHeld}
+use Rattle.arpa_lines.specs.Reading.{lineStep}
 use Rattle.arpa.proofs.LinesRead.{Reached, reached-start, held-here, step-here, step-long, last-line, line-stops, line-goes}
 use Rattle.arpa.proofs.read_lines.Statement.{statement}
 use Rattle.arpa.proofs.read_lines.Tie as tie

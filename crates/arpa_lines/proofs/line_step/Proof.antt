@@ -3,8 +3,9 @@ use mathlib.Core.Path.{_≡_, refl, sym, _∙_}
 use lib.Dec.{lit≤}
 use lib.ListN.{length}
 use borrow.Author.Needs.{needs}
-use Rattle.arpa_lines.specs.declared.Stage.the-variants.{Start, Counts, Ended}
-use Rattle.arpa_lines.proofs.Stages.{line-empty, line-at, data-entered}
+use Rattle.arpa_sections.specs.declared.Stage.the-variants.{Start, Counts, Ended}
+use Rattle.arpa_sections.proofs.Stages.{data-entered}
+use Rattle.arpa_lines.proofs.LineSteps.{line-empty, line-at}
 use Rattle.arpa_lines.proofs.line_step.Statement.{statement}
 use Rattle.arpa_lines.proofs.line_step.Tie as tie
 

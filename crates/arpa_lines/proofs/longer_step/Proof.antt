@@ -3,7 +3,7 @@ use mathlib.Core.Path.{sym, ap, _∙_}
 use lib.ListN.{length}
 use mir.Facts.{toZ-ofZ}
 use borrow.Author.Needs.{needs}
-use Rattle.arpa_text.specs.Parts.{parts}
+use Rattle.text_parts.specs.Parts.{parts}
 use Rattle.arpa_text.specs.Lines.{Listed}
 use Rattle.arpa_words.specs.Words.{zeroed, someMissing}
 use Rattle.arpa_lines.proofs.HeldTexts.{held-searchable}

@@ -9,7 +9,7 @@ use mir.Val.{SFits}
 use mir.Facts.{toZ-ofZ}
 use borrow.Author.Needs.{needs, sfits-of}
 use Rattle.arpa_text.specs.Held.{Inside}
-use Rattle.arpa_lines.specs.declared.Stage.the-variants.{Section}
+use Rattle.arpa_sections.specs.declared.Stage.the-variants.{Section}
 use Rattle.arpa_lines.proofs.Fields.{row-not-in-form, part-texts, part-text, row-longer, row-word}
 use Rattle.arpa_lines.proofs.row_step.Statement.{statement}
 use Rattle.arpa_lines.proofs.row_step.Tie as tie

@@ -4,8 +4,9 @@ use native.Mathlib.Omega.{arith}
 use lib.ListN.{length}
 use borrow.Author.Needs.{needs}
 use Rattle.backoff.specs.Limits.{orderLimit}
-use Rattle.arpa_lines.specs.declared.Stage.the-variants.{Section}
-use Rattle.arpa_lines.proofs.Stages.{held-at, section-step}
+use Rattle.arpa_sections.specs.declared.Stage.the-variants.{Section}
+use Rattle.arpa_sections.proofs.Stages.{held-at}
+use Rattle.arpa_lines.proofs.LineSteps.{section-step}
 use Rattle.arpa_lines.proofs.section_step.Statement.{statement}
 use Rattle.arpa_lines.proofs.section_step.Tie as tie
 

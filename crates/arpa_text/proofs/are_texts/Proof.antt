@@ -6,7 +6,7 @@ use native.Mathlib.Omega.{arith}
 use borrow.Author.Tests.{not-true, not-false}
 use lib.ListN.{length, drop, length-drop}
 use lib.Seq.{drop-drop}
-use Rattle.arpa_text.specs.Parts.{parts, before}
+use Rattle.text_parts.specs.Parts.{parts, before}
 use Rattle.arpa_text.specs.Lines.{areTexts}
 use Rattle.arpa_text.proofs.Lines.{no-texts, last-text, next-text, no-text}
 use borrow.Author.Needs.{needs}

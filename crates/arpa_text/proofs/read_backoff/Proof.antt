@@ -6,7 +6,7 @@ use native.Mathlib.Omega.{arith}
 use lib.ListN.{length, drop-of-length-le}
 use lib.Seq.{drop-cons}
 use borrow.Rule.Slice.PartAt.{part-to-end}
-use Rattle.arpa_text.specs.Logs.{readPoints}
+use Rattle.arpa_logs.specs.Logs.{readPoints}
 use Rattle.arpa_text.specs.Held.{backoffBehind}
 use borrow.Author.Needs.{needs}
 use Rattle.arpa_text.proofs.read_backoff.Statement.{statement}

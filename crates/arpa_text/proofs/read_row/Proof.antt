@@ -10,12 +10,12 @@ use lib.Seq.{length-take-le, drop-drop}
 use mir.Syntax.{w32}
 use mir.Val.{SFits}
 use mir.Facts.{toZ-ofZ}
-use Rattle.arpa_text.specs.declared.Points.the-variants.{Of, NotInForm}
-use Rattle.arpa_text.specs.Parts.{parts, before}
-use Rattle.arpa_text.specs.Logs.{readPoints}
+use Rattle.text_parts.specs.Parts.{parts, before}
+use Rattle.text_parts.proofs.Parts.{before-le, parts-front}
+use Rattle.arpa_logs.specs.declared.Points.the-variants.{Of, NotInForm}
+use Rattle.arpa_logs.specs.Logs.{readPoints}
 use Rattle.arpa_text.specs.Lines.{areTexts, listedWith, listedIn, readRow}
 use Rattle.arpa_text.specs.Held.{backoffBehind}
-use Rattle.arpa_text.proofs.Parts.{before-le, parts-front}
 use Rattle.arpa_text.proofs.Lines.{no-row, row-fields, no-backoff}
 use borrow.Author.Needs.{needs, sfits-of}
 use Rattle.arpa_text.proofs.read_row.Statement.{statement}

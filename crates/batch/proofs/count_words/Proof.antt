@@ -8,8 +8,8 @@ use lib.ListN.{length, take, getD}
 use lib.Seq.{take-suc, take-all}
 use native.Mathlib.Numerals.{add-one}
 use Rattle.backoff.specs.Limits.{runLimit}
-use Rattle.batch.specs.Inner.{Tallied}
-use Rattle.batch.proofs.Counters.{counted-long, counted-small, tallied-word}
+use Rattle.stretches.specs.Inner.{Tallied}
+use Rattle.stretches.proofs.Counters.{counted-long, counted-small, tallied-word}
 use Rattle.batch.proofs.count_words.Statement.{statement}
 use Rattle.batch.proofs.count_words.Tie as tie
 

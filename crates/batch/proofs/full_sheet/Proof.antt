@@ -7,7 +7,7 @@ use borrow.Author.Needs.{needs}
 use lib.ListN.{length, take}
 use lib.Seq.{length-take-le}
 use mir.Facts.{toZ-ofZ}
-use Rattle.batch.proofs.Counters.{counted-bytes}
+use Rattle.batch.proofs.Inner.{counted-bytes}
 use Rattle.batch.proofs.full_sheet.Statement.{statement}
 use Rattle.batch.proofs.full_sheet.Tie as tie
 

@@ -7,8 +7,8 @@ use Rattle.backoff.specs.Store.{Store}
 use Rattle.double_array.specs.DoubleArray.{opened}
 use Rattle.batch.specs.Sheet.{Outcome, sheetOutcome}
 use Rattle.batch.specs.Meaning.{SheetMeans}
-use Rattle.batch.proofs.Meaning.{sheet-means}
 use Rattle.batch.proofs.Outcome.{early-outcome, none-met, late-outcome}
+use Rattle.batch.proofs.Meaning.{sheet-means}
 use Rattle.batch.proofs.score_batch.Statement.{statement}
 use Rattle.batch.proofs.score_batch.Tie as tie
 

@@ -4,7 +4,7 @@ use mathlib.Core.List.{List, []}
 use mathlib.Core.Option.{Option}
 use Prim.Native.Nat.{ℕ, _≤_}
 use native.Mathlib.Omega.{arith}
-use borrow.Author.Needs.{needs, sfits-of}
+use borrow.Author.Needs.{sfits-of}
 use lib.ListN.{length}
 use lib.IntN.{ℤ}
 use mir.Facts.{toZ-ofZ}
@@ -12,12 +12,13 @@ use Rattle.backoff.specs.Limits.{runLimit}
 use Rattle.backoff.specs.Run.{Run}
 use Rattle.backoff.specs.Store.{Store}
 use Rattle.double_array.specs.DoubleArray.{opened}
-use Rattle.batch.specs.declared.Scored.{Scored}
-use Rattle.batch.specs.Sheet.{sentences, lastEnd, wordBytes, closingBytes}
-use Rattle.batch.specs.Inner.{AllScored, OneRefused, ScoredAs}
-use Rattle.batch.proofs.Counters.{tallied-none, tallied-small}
-use Rattle.batch.proofs.Sentences.{sentences-long}
-use Rattle.batch.proofs.Calls.{closing-long, bytes-long}
+use Rattle.sentence_ends.specs.Ends.{lastEnd}
+use Rattle.stretches.specs.declared.Scored.{Scored}
+use Rattle.stretches.specs.Stretches.{sentences, wordBytes, closingBytes}
+use Rattle.stretches.specs.Inner.{AllScored, OneRefused, ScoredAs}
+use Rattle.stretches.proofs.Stretches.{closing-long, bytes-long}
+use Rattle.stretches.proofs.Counters.{tallied-none, tallied-small}
+use Rattle.stretches.proofs.Sentences.{sentences-long}
 use Rattle.batch.proofs.Outcome.{Passed, passed, last-within, lengths-reach, all-outcome, refused-outcome}
 use Rattle.batch.proofs.score_sheet.Statement.{statement}
 use Rattle.batch.proofs.score_sheet.Tie as tie
@@ -40,27 +41,23 @@ reach s = omega (arith, last-within (s .args .base .now) (s .args .check .now) (
 long : (s : tie.Start) → length (wordBytes (array s) (sentences 0 (ends s) (asked s))) ≡ lastEnd 0 (ends s)
 long s = bytes-long (array s) (asked s) (ends s) (fit s .ends-good) (fit s .sizes .lengths-reach)
 
-start-requires : tie.Need-start-requires
-start-requires c κs = search needs
-
 score-sentences-requires : tie.Need-score-sentences-requires
 score-sentences-requires c κs =
-    let b = c .before .before .before in
-    let p = fit (b .before .before .before .before) in
-    (p .array, (b .start .ensures .0, (p .ends-good, (p .sizes .few-words, ((p .sizes .few-ends, (p .sizes .points-reach, p .sizes .lengths-reach)), tallied-none)))))
+    let p = fit (c .before .before .before .before .before .before) in
+    (p .array, (p .ends-good, (p .sizes .few-words, ((p .sizes .few-ends, (p .sizes .points-reach, p .sizes .lengths-reach)), tallied-none))))
 
 -- the function's start, and what `score_sentences` left
 abbrev start : tie.After-score-sentences → tie.Start
-start d = d .before .before .before .before .before .before .before .before
+start d = d .before .before .before .before .before .before .before
 
 abbrev points : tie.After-score-sentences → List ℤ
-points d = d .score-sentences .last .1 .1 .1 .1 .1 .0
+points d = d .score-sentences .last .1 .1 .1 .1 .0
 
 abbrev lengths : tie.After-score-sentences → List ℕ
-lengths d = d .score-sentences .last .1 .1 .1 .1 .1 .1 .0
+lengths d = d .score-sentences .last .1 .1 .1 .1 .1 .0
 
 abbrev counts : tie.After-score-sentences → List ℕ
-counts d = d .score-sentences .last .1 .1 .1 .1 .1 .1 .1 .0
+counts d = d .score-sentences .last .1 .1 .1 .1 .1 .1 .0
 
 -- all sentences are scored
 abbrev scoredFrom : tie.After-scored → tie.After-score-sentences
@@ -72,7 +69,7 @@ all-scored w =
     subst (λ (x : Scored). ScoredAs (array (start d)) (ends (start d)) (asked (start d)) x (points d) (lengths d) (counts d)) (w .scored .given .1) (d .score-sentences .ensures)
 
 enum-known-scored : tie.Need-enum-known-scored
-enum-known-scored c = search needs
+enum-known-scored c = c .match .keys1
 
 full-sheet-requires : tie.Need-full-sheet-requires
 full-sheet-requires c κs =
@@ -85,7 +82,7 @@ full-sheet-requires c κs =
     )
 
 enum-known-scored-2 : tie.Need-enum-known-scored-2
-enum-known-scored-2 c = search needs
+enum-known-scored-2 c = c .match .keys2
 
 -- some sentence is refused
 abbrev refusedFrom : tie.After-scored2 → tie.After-score-sentences
@@ -104,10 +101,10 @@ broken-sheet-requires c κs =
     ((u .few, p .few-ends), (omega (arith, u .points-long, p .points-reach), omega (arith, u .lengths-long, p .lengths-reach)))
 
 same-length : tie.Need-same-length
-same-length c = scoredFrom (c .before .before .before) .score-sentences .kept .1 .1 .1 .1 .1 .0
+same-length c = scoredFrom (c .before .before .before) .score-sentences .kept .1 .1 .1 .1 .0
 
 same-length-2 : tie.Need-same-length-2
-same-length-2 c = scoredFrom (c .before .before .before) .score-sentences .kept .1 .1 .1 .1 .1 .1 .0
+same-length-2 c = scoredFrom (c .before .before .before) .score-sentences .kept .1 .1 .1 .1 .1 .0
 
 returns : tie.Need-returns
 returns c =
@@ -120,10 +117,10 @@ returns c =
     (c .full-sheet .ensures (closingBytes (array s) (sentences 0 (ends s) (asked s))) (u .tallied))
 
 same-length-3 : tie.Need-same-length-3
-same-length-3 c = c .before .before .before .broken-sheet .kept .1 .0 ∙ refusedFrom (c .before .before .before .before .before .before .before) .score-sentences .kept .1 .1 .1 .1 .1 .0
+same-length-3 c = c .before .before .before .broken-sheet .kept .1 .0 ∙ refusedFrom (c .before .before .before .before .before .before .before) .score-sentences .kept .1 .1 .1 .1 .0
 
 same-length-4 : tie.Need-same-length-4
-same-length-4 c = c .before .before .before .broken-sheet .kept .1 .1 .0 ∙ refusedFrom (c .before .before .before .before .before .before .before) .score-sentences .kept .1 .1 .1 .1 .1 .1 .0
+same-length-4 c = c .before .before .before .broken-sheet .kept .1 .1 .0 ∙ refusedFrom (c .before .before .before .before .before .before .before) .score-sentences .kept .1 .1 .1 .1 .1 .0
 
 returns-2 : tie.Need-returns-2
 returns-2 c =
@@ -137,7 +134,6 @@ pub score-sheet-spec : {M : Type 1} → statement M
 score-sheet-spec =
     tie.close
     (tie.spec
-    start-requires
     score-sentences-requires
     enum-known-scored
     full-sheet-requires

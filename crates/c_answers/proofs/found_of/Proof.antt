@@ -4,7 +4,7 @@ use mathlib.Core.Path.{_≡_, refl, sym, ap, _∙_}
 use mathlib.Core.Bool.{Bool, true, false, cond}
 use mir.Val.{boolByte}
 use mir.Facts.{toZ-ofZ}
-use Rattle.double_array.specs.Lookup.{lookupNumber, lookupPlace, foundOf, pOf, bOf, leftOf}
+use Rattle.lookup.specs.Lookup.{lookupNumber, lookupPlace, foundOf, pOf, bOf, leftOf}
 use Rattle.c_answers.proofs.found_of.Statement.{statement}
 use Rattle.c_answers.proofs.found_of.Tie as tie
 

@@ -3,7 +3,8 @@ use mathlib.Core.Path.{sym, ap, _∙_}
 use lib.IntN.{ℤ, pos}
 use mir.Facts.{toZ-ofZ}
 use borrow.Author.Needs.{needs, sfits-of}
-use Rattle.double_array.specs.DoubleArray.{markerOf, ownMarker}
+use Rattle.markers.specs.Markers.{markerOf}
+use Rattle.double_array.specs.DoubleArray.{ownMarker}
 use Rattle.double_array.proofs.DoubleArray.{marker-own, marker-kept}
 use Rattle.double_array.proofs.read_marker.Statement.{statement}
 use Rattle.double_array.proofs.read_marker.Tie as tie

@@ -2,6 +2,7 @@
 use mathlib.Core.Path.{_≡_}
 use mathlib.Core.Bool.{true}
 use Prim.Native.Nat.{ℕ, _*_, _/_, _<_, _≤_}
+use native.Mathlib.Nat.{le-antisymm}
 use native.Mathlib.Omega.{arith}
 use borrow.Author.Needs.{needs}
 use Rattle.rows.specs.Table.{rowsOf, orderOf}
@@ -44,12 +45,9 @@ returns c =
     checks-as _ _ _ _ _ _ _ (r .0) (r .1) (checks-five _ _ (f .before .before .before .pre) _ (f .needing-row .ensures) _ (i .if1 .taken))
 
 -- no row needs what is out of range
-all-passed : {a b : ℕ} → a ≤ b → b ≤ a → a ≡ b
-all-passed l m = omega arith
-
 passed : (c : tie.Else1) → c .before .needing-row .result ≡ rowsOf (c .before .before .before .before .args .table .now)
 unfolding rowsOf
-passed c = all-passed (c .before .needing-row .ensures .within) (c .if1 .left)
+passed c = le-antisymm (c .before .needing-row .ensures .within) (c .if1 .left)
 
 refused-requires-2 : tie.Need-refused-requires-2
 refused-requires-2 c κs = search needs

@@ -9,13 +9,13 @@ use Rattle.backoff.specs.declared.Verdict.the-variants.{Accepted}
 use Rattle.rows.specs.Table.{rowsOf, words}
 use Rattle.list.specs.Check.{verdictFor}
 use Rattle.list.proofs.Check.{checked-good, checked-size}
-use Rattle.filling.specs.Filled.{filledTable}
-use Rattle.filling.specs.Fill.{addable}
-use Rattle.filling.specs.Next.{lastWords, ComesNext}
-use Rattle.filling.proofs.FilledRows.{filled-few}
-use Rattle.filling.proofs.FilledTable.{filled-rows}
-use Rattle.filling.proofs.Next.{filling-starts, filling-ends, next-words, next-high, next-on}
-use Rattle.filling.proofs.Ends.{best-end, addable-more, none-needing}
+use Rattle.filled_list.specs.Filled.{filledTable}
+use Rattle.filled_list.specs.Next.{lastWords, ComesNext}
+use Rattle.filled_list.proofs.FilledRows.{filled-few}
+use Rattle.filled_list.proofs.FilledTable.{filled-rows}
+use Rattle.filled_list.proofs.Next.{filling-starts, filling-ends, next-words, next-high, next-on}
+use Rattle.row_ends.specs.Needed.{addable}
+use Rattle.row_ends.proofs.Ends.{best-end, addable-more, none-needing}
 use Rattle.filling.proofs.count_rows.Statement.{statement}
 use Rattle.filling.proofs.count_rows.Tie as tie
 

@@ -7,14 +7,15 @@ use native.Mathlib.Omega.{arith}
 use lib.ListN.{length, length-take, length-drop}
 use lib.IntN.{ℤ}
 use borrow.Author.Needs.{needs}
+use Rattle.backoff.specs.Limits.{rowLimit}
 use Rattle.backoff.specs.declared.Verdict.the-variants.{Accepted}
 use Rattle.rows.specs.Table.{rowsOf, words}
 use Rattle.rows.proofs.Table.{row-in}
 use Rattle.list.specs.Check.{verdictFor}
-use Rattle.filling.specs.Filled.{filledRow, filledTable}
-use Rattle.filling.specs.Next.{lastWords, ComesNext}
-use Rattle.filling.proofs.Next.{filling-starts, filling-ends, next-words, next-high, next-on}
-use Rattle.filling.proofs.Ends.{best-end}
+use Rattle.filled_list.specs.Filled.{filledRow, filledTable}
+use Rattle.filled_list.specs.Next.{lastWords, ComesNext}
+use Rattle.filled_list.proofs.Next.{filling-starts, filling-ends, next-words, next-high, next-on}
+use Rattle.row_ends.proofs.Ends.{best-end}
 use Rattle.filling.proofs.Written.{Writing, writing-starts, writing-length, writing-ends, writing-room, writing-on}
 use Rattle.filling.proofs.write_rows.Statement.{statement}
 use Rattle.filling.proofs.write_rows.Tie as tie
@@ -48,7 +49,7 @@ under c = c .before .before .loop .inv
 found : (c : tie.Then1 Inv-loop μ-loop) → let l = c .before .before in (under c .place < rowsOf (filledTable (lent c))) × (words (filledTable (lent c)) (under c .place) ≡ lastWords (lent c) (l .loop .next .row) (l .loop .next .words))
 found c = let v = under c in next-words _ (v .checked) _ _ _ _ _ _ (v .next) (c .if1 .taken)
 
-room : (c : tie.Then1 Inv-loop μ-loop) → let l = c .before .before in (l .loop .start + 8 ≤ length (l .loop .filled)) × (l .loop .start + 8 ≤ 3145680)
+room : (c : tie.Then1 Inv-loop μ-loop) → let l = c .before .before in (l .loop .start + 8 ≤ length (l .loop .filled)) × (l .loop .start + 8 ≤ 48 * rowLimit)
 room c = let v = under c in writing-room _ (v .checked) _ _ _ _ (v .writing) (v .next .filling .bracket .within) (found c .0)
 
 add-end : tie.Need-add-end Inv-loop μ-loop

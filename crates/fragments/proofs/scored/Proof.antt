@@ -13,7 +13,7 @@ use Rattle.carried_state.specs.Numbers.{numbersOf}
 use Rattle.carried_state.proofs.Carried.{zeros-ok}
 use Rattle.fragments.specs.declared.Fragment.{Fragment}
 use Rattle.fragments.specs.Outcome.{toNumbers, crossed, scoredFragment}
-use Rattle.fragments.proofs.Rescoring.{summed-empty, summed-refused, summed-scored}
+use Rattle.fragments.proofs.Summed.{summed-empty, summed-refused, summed-scored}
 use borrow.Author.Needs.{needs, sfits-of}
 use Rattle.fragments.proofs.scored.Statement.{statement}
 use Rattle.fragments.proofs.scored.Tie as tie

@@ -1,7 +1,7 @@
 -- `grader::backoff_lookup` meets its contract: its numbers are those of the lookup's outcome. Assumes nothing.
 use borrow.Author.Needs.{needs}
 use mathlib.Core.Path.{subst}
-use Rattle.double_array.specs.declared.Lookup.{Lookup}
+use Rattle.lookup.specs.declared.Lookup.{Lookup}
 use Rattle.c_answers.specs.Answers.{FoundIs}
 use Rattle.grader.proofs.backoff_lookup.Statement.{statement}
 use Rattle.grader.proofs.backoff_lookup.Tie as tie

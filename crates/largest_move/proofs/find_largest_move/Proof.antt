@@ -9,7 +9,8 @@ use lib.ListN.{length}
 use lib.Seq.{length-take-le}
 use Rattle.backoff.specs.Store.{Store}
 use Rattle.double_array.specs.DoubleArray.{opened}
-use Rattle.sentences.specs.Listing.{sentenceTotal, usableOver, sentencesOver}
+use Rattle.sentence_totals.specs.Totals.{sentenceTotal}
+use Rattle.sentences.specs.Listing.{usableOver, sentencesOver}
 use Rattle.sentences.proofs.Outcome.{Sized}
 use Rattle.largest_move.specs.Move.{largestPair, moveOf}
 use Rattle.largest_move.proofs.Meaning.{named-none}

@@ -6,7 +6,7 @@ use native.Mathlib.Nat.{pow-zero, pow-suc}
 use native.Mathlib.Numerals.{add-one}
 use native.Mathlib.Omega.{arith}
 use lib.IntN.{ℤ}
-use Rattle.sentences.proofs.Sentences.{few-sentences}
+use Rattle.sentence_order.proofs.Sentences.{few-sentences}
 use Rattle.largest_move.specs.declared.Pair.{Pair}
 use Rattle.largest_move.specs.Inner.{KeptSoFar}
 use Rattle.largest_move.proofs.Seen.{none-seen, place-at, all-seen}

@@ -18,9 +18,10 @@ use Rattle.rows.proofs.Table.{row-in}
 use Rattle.rows.proofs.Good.{good-none}
 use Rattle.row_search.specs.Search.{findIn}
 use Rattle.row_search.specs.declared.Found.{Found}
+use Rattle.rows_before.proofs.Faults.{good-more, passed-row}
 use Rattle.list.specs.Check.{scan, verdictFor}
 use Rattle.list.specs.Marks.{markFound, Marked}
-use Rattle.list.proofs.Check.{good-more, fitting-table, verdict-scan, scan-fault, scan-pass, scan-end, passed-row, accepted-refused, checked-good, checked-before}
+use Rattle.list.proofs.Check.{fitting-table, verdict-scan, scan-fault, scan-pass, scan-end, accepted-refused, checked-good, checked-before}
 use Rattle.list.proofs.Marks.{marked-none, marked-more}
 use Rattle.list.proofs.check_rows.Statement.{statement}
 use Rattle.list.proofs.check_rows.Tie as tie

@@ -11,10 +11,10 @@ use mir.Syntax.{w32}
 use mir.Val.{toZ, ofZ}
 use mir.Facts.{toZ-ofZ}
 use borrow.Author.Needs.{needs, sfits-of}
-use Rattle.double_array.specs.DoubleArray.{markerCheck}
 use Rattle.rows.specs.Table.{rowsOf, probabilityAt, lengthOf, orderOf}
 use Rattle.rows.proofs.Table.{row-in}
 use Rattle.list.proofs.Check.{accepted-row}
+use Rattle.markers.specs.Markers.{markerCheck}
 use Rattle.list_trie.specs.Steps.{placedNodes, Filled}
 use Rattle.list_trie.proofs.RowLengths.{longest-row}
 use Rattle.list_trie.proofs.Turn.{filled-base, row-held, row-taken, row-bare, row-top}

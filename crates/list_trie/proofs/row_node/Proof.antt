@@ -7,10 +7,11 @@ use mir.Syntax.{w32}
 use mir.Val.{toZ, ofZ}
 use mir.Facts.{toZ-ofZ}
 use borrow.Author.Needs.{sfits-of}
-use Rattle.double_array.specs.DoubleArray.{markerCheck, markerBase}
 use Rattle.rows.specs.Table.{probabilityAt, backoffAt}
 use Rattle.rows.proofs.Table.{row-in}
-use Rattle.list.proofs.Check.{backoff-in, accepted-row}
+use Rattle.row_fields.proofs.Fields.{backoff-in}
+use Rattle.list.proofs.Check.{accepted-row}
+use Rattle.markers.specs.Markers.{markerCheck, markerBase}
 use Rattle.list_trie.proofs.row_node.Statement.{statement}
 use Rattle.list_trie.proofs.row_node.Tie as tie
 

@@ -15,7 +15,7 @@ use Rattle.rows.specs.Table.{wordOf}
 use Rattle.rows.proofs.Rows.{wordOf-pos}
 use Rattle.list.specs.ListModel.{modelOf}
 use Rattle.list.proofs.ListModel.{accepted-model}
-use Rattle.plain.proofs.Words.{replaced-is-word}
+use Rattle.plain_word.proofs.Words.{replaced-is-word}
 use Rattle.plain.proofs.score_next.Statement.{statement}
 use Rattle.plain.proofs.score_next.Tie as tie
 

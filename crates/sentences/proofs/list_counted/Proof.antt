@@ -7,7 +7,7 @@ use borrow.Author.Tests.{not-true, not-false}
 use lib.ListN.{length}
 use Rattle.double_array.specs.DoubleArray.{isArray}
 use Rattle.double_array.proofs.DoubleArray.{opened-head}
-use Rattle.sentences.proofs.Outcome.{no-array, refused-early, sizes, no-end, count-held, listed-late}
+use Rattle.sentences.proofs.Outcome.{no-array, refused-early, sizes, all-usable, count-held, listed-late}
 use Rattle.sentences.proofs.list_counted.Statement.{statement}
 use Rattle.sentences.proofs.list_counted.Tie as tie
 
@@ -60,7 +60,7 @@ list-usable-requires c κs =
     let e = u .before in
     let s = e .before .before .before in
     let z = sizes (s .args .base .now) (s .args .check .now) (s .args .k) (s .args .words .now) (s .args .totals .now) (array e) (u .usable-words .result) (sixteen u) (u .usable-words .ensures) (f .size-fault .result) (f .size-fault .ensures) (g .if2 .left) in
-    let n = no-end (s .args .base .now) (s .args .check .now) (s .args .k) (s .args .words .now) (s .args .totals .now) (array e) (u .usable-words .result) (sixteen u) (u .usable-words .ensures) (f .size-fault .result) (f .size-fault .ensures) (g .if2 .left) in
+    let n = all-usable (s .args .base .now) (s .args .check .now) (s .args .k) (s .args .words .now) (s .args .totals .now) (array e) (u .usable-words .result) (sixteen u) (u .usable-words .ensures) (f .size-fault .result) (f .size-fault .ensures) (g .if2 .left) in
     (array e, ((z .few, n), ((z .some, z .short), (z .words-fit, z .totals-fit))))
 
 same-length : tie.Need-same-length

@@ -9,7 +9,7 @@ use borrow.Author.Needs.{needs}
 use lib.ListN.{length, take}
 use Rattle.backoff.specs.Store.{Store}
 use Rattle.double_array.specs.DoubleArray.{opened}
-use Rattle.sentences.proofs.NthSentence.{front-long}
+use Rattle.sentence_order.proofs.NthSentence.{front-long}
 use Rattle.sentences.proofs.Outcome.{full-outcome, clear-fits, broken-outcome}
 use Rattle.sentences.proofs.list_usable.Statement.{statement}
 use Rattle.sentences.proofs.list_usable.Tie as tie

@@ -1,29 +1,27 @@
 -- `sums::sum_closed` meets its contract. The loop's invariant: what is left are the points of the words from the i-th on. Assumes nothing.
-use mathlib.Core.Path.{_≡_, sym, ap, ap₂, _∙_, subst}
+use mathlib.Core.Path.{_≡_, sym, _∙_, subst}
 use mathlib.Core.List.{List, [], _∷_}
-use Prim.Native.Nat.{ℕ, _*_, _-_, _≤_, _<_}
+use Prim.Native.Nat.{ℕ, zero, suc, _*_, _-_, _≤_, _<_}
 use native.Mathlib.Omega.{arith}
 use borrow.Author.Needs.{needs}
 use lib.ListN.{getD}
-use lib.IntN.{ℤ, pos, negsuc, natAbs}
+use lib.IntN.{ℤ, natAbs}
 use mir.Syntax.{w32, w64}
 use mir.Val.{toZ, ofZ, SFits}
 use mir.Facts.{toZ-ofZ}
 use Rattle.integer.proofs.Arithmetic.{zarith, abs, to-wide}
 use Rattle.backoff.specs.Limits.{endWord, orderLimit, largestBackoff}
-use Rattle.backoff.specs.NineNumbers.{stateIn}
 use Rattle.backoff.specs.State.{State as Carried}
 use Rattle.backoff.specs.Store.{Store, stuck, wordStep}
-use Rattle.double_array.specs.DoubleArray.{freeCheck, childAt, storeIn}
+use Rattle.double_array.specs.DoubleArray.{childAt, orderIn, storeIn}
 use Rattle.double_array.specs.declared.Child.the-variants.{At}
 use Rattle.double_array.proofs.DoubleArray.{opened-sizes, opened-head, opened-order, root-child, child-inside}
 use Rattle.carried_state.specs.declared.Packed.{Packed}
-use Rattle.carried_state.specs.Numbers.{numbersOf}
 use Rattle.carried_state.specs.Packed.{heldIn, Carries}
-use Rattle.carried_state.proofs.Carried.{Four, packable, packed-held, packed-carries}
+use Rattle.word_walk.specs.Walk.{WalkedOver}
 use Rattle.word_step.specs.declared.Stepped.the-variants.{Scored, Refused as NotScored}
 use Rattle.word_step.specs.Answers.{stepOf}
-use Rattle.word_step.specs.Inner.{WalkedOver, SteppedTo}
+use Rattle.word_step.specs.Inner.{replaced, SteppedTo}
 use Rattle.word_step.proofs.Stepping.{missing-refused, step-told, answerable, stepped}
 use Rattle.sums.specs.declared.Closed.the-variants.{Refused}
 use Rattle.sums.specs.Closing.{pointsOver}
@@ -32,87 +30,58 @@ use Rattle.sums.proofs.sum_closed.Statement.{statement}
 use Rattle.sums.proofs.sum_closed.Tie as tie
 
 abbrev Inv-loop : tie.InvT-loop
-Inv-loop base check order last words carried₀ backoffs₀ total₀ i₀ carried backoffs total i = Closing (storeIn base check) (heldIn carried₀ backoffs₀) words carried backoffs (toZ w64 total) i
+Inv-loop base check order carried₀ last closing backoffs₀ words total₀ i₀ carried backoffs total i = Closing (storeIn base check) (heldIn carried₀ backoffs₀) (last ∷ endWord ∷ []) carried backoffs (toZ w64 total) i
 
 abbrev μ-loop : tie.MeasureT-loop
-μ-loop base check order last words carried₀ backoffs₀ total₀ i₀ carried backoffs total i = 2 - i
-
-order-is : (s : tie.Start Inv-loop μ-loop) → storeIn (s .args .base .now) (s .args .check .now) .order ≡ s .args .order
-unfolding storeIn
-order-is s = sym (s .pre .1 .0)
-
-limit : (s : tie.Start Inv-loop μ-loop) → s .args .order ≤ orderLimit
-limit s = omega (arith, s .pre .1 .0, opened-order (s .args .base .now) (s .args .check .now) (s .pre .0))
-
-arrays : (s : tie.Start Inv-loop μ-loop) → Four (s .args .state)
-arrays s = record { words = search needs; backoffs = search needs }
-
-pack-requires : tie.Need-pack-requires Inv-loop μ-loop
-pack-requires s κs = packable (s .args .order) (s .args .state) (arrays s) (limit s) (s .pre .1 .1)
-
-lent-requires : tie.Need-lent-requires Inv-loop μ-loop
-lent-requires c κs = search needs
-
--- the state that was given, packed and lent
-given : (c : tie.After-lent Inv-loop μ-loop) → heldIn (c .before .pack .result) (c .lent .result) ≡ stateIn (numbersOf (c .before .before .args .state))
-given c =
-    let s = c .before .before in
-    ap₂ heldIn (c .before .pack .ensures) (c .lent .ensures) ∙ packed-held (s .args .order) (s .args .state) (arrays s) (limit s) (s .pre .1 .1)
-
-begins : {S : Store} {ws : List ℕ} {n : ℕ} {packed carried : Packed} {lent backoffs : List ℤ} → S .order ≡ n → carried ≡ packed → backoffs ≡ lent → Carries n packed lent → Closing S (heldIn carried backoffs) ws carried backoffs (pos 0) 0
-begins o d e h = closing-begins _ _ _ _ (rw (d, e, o) h)
+μ-loop base check order carried₀ last closing backoffs₀ words total₀ i₀ carried backoffs total i = 2 - i
 
 loop-holds : tie.Need-loop-holds Inv-loop μ-loop
-loop-holds c =
-    let s = c .before .before in
-    begins (order-is s) (c .before .pack .ensures) (c .lent .ensures) (packed-carries (s .args .order) (s .args .state) (arrays s) (limit s) (s .pre .1 .1))
+unfolding storeIn
+loop-holds s = closing-begins _ _ _ _ (rw (s .pre .1 .0) at (s .pre .1 .1 .0))
 
--- the function's entry
-abbrev entry : tie.At-loop Inv-loop μ-loop → tie.Start Inv-loop μ-loop
-entry l = l .before .before .before
+mul-word : tie.Need-mul-word Inv-loop μ-loop
+mul-word c = search needs
 
-mul-replaced : tie.Need-mul-replaced Inv-loop μ-loop
-mul-replaced c = search needs
-
-array-read-replaced : tie.Need-array-read-replaced Inv-loop μ-loop
-array-read-replaced c = omega (arith, c .loop-test .taken)
+array-read-word : tie.Need-array-read-word Inv-loop μ-loop
+array-read-word c = omega (arith, c .loop-test .taken)
 
 -- slot 1 is the root's marker
-root-check : (s : tie.Start Inv-loop μ-loop) → getD (s .args .check .now) 1 freeCheck ≡ negsuc 0
-root-check s = opened-head (s .args .base .now) (s .args .check .now) (s .pre .0) .root-check
-
-replaced-requires : tie.Need-replaced-requires Inv-loop μ-loop
-replaced-requires c κs = root-check (entry (c .before))
+root-child-requires : tie.Need-root-child-requires Inv-loop μ-loop
+root-child-requires c κs = let s = c .before .before in opened-head (s .args .base .now) (s .args .check .now) (s .pre .0) .root-check
 
 -- a turn has a word
 more : (c : tie.In-loop Inv-loop μ-loop) → c .before .loop .i < 2
 more c = omega (arith, c .loop-test .taken)
 
--- the loop's turn, its words and the next of them, and the state that it is scored from
-abbrev turn : tie.After-replaced Inv-loop μ-loop → tie.At-loop Inv-loop μ-loop
-turn c = c .before .before
+-- the sentence's last word and its 3, the next of them, what it is scored as, and the state that it is scored from
+abbrev words : tie.In-loop Inv-loop μ-loop → List ℕ
+words c = c .before .before .args .last ∷ endWord ∷ []
 
-abbrev words : tie.At-loop Inv-loop μ-loop → List ℕ
-words l = entry l .args .last ∷ endWord ∷ []
+abbrev w : tie.In-loop Inv-loop μ-loop → ℕ
+w c = getD (words c) (c .before .loop .i) 0
 
-abbrev w : tie.After-replaced Inv-loop μ-loop → ℕ
-w c = getD (words (turn c)) (turn c .loop .i) 0
+abbrev word : tie.In-loop Inv-loop μ-loop → ℕ
+word c = getD (c .before .before .args .last ∷ c .before .before .args .closing ∷ []) (c .before .loop .i) 0
 
-abbrev S : tie.After-replaced Inv-loop μ-loop → Store
-S c = storeIn (entry (turn c) .args .base .now) (entry (turn c) .args .check .now)
+abbrev S : tie.In-loop Inv-loop μ-loop → Store
+S c = storeIn (c .before .before .args .base .now) (c .before .before .args .check .now)
 
-abbrev scored-from : tie.After-replaced Inv-loop μ-loop → Carried
-scored-from c = heldIn (turn c .loop .carried) (turn c .loop .backoffs)
+abbrev scored-from : tie.In-loop Inv-loop μ-loop → Carried
+scored-from c = heldIn (c .before .loop .carried) (c .before .loop .backoffs)
 
-root-child-requires : tie.Need-root-child-requires Inv-loop μ-loop
-root-child-requires c κs = root-check (entry (turn c))
+scored-as : (c : tie.In-loop Inv-loop μ-loop) → word c ≡ replaced (c .before .before .args .check .now) (w c)
+scored-as c = go (c .before .loop .i) (more c)
+  where
+    go : (i : ℕ) → i < 2 → getD (c .before .before .args .last ∷ c .before .before .args .closing ∷ []) i 0 ≡ replaced (c .before .before .args .check .now) (getD (words c) i 0)
+    go zero h = c .before .before .pre .1 .1 .1 .0
+    go (suc zero) h = c .before .before .pre .1 .1 .1 .1
+    go (suc (suc i)) h = absurd (omega arith)
 
 -- a word that is refused
-refuses : (c : tie.After-replaced Inv-loop μ-loop) → wordStep (S c) (scored-from c) (w c) ≡ stuck → Refused ≡ pointsOver (S c) (words (turn c)) (stateIn (numbersOf (entry (turn c) .args .state)))
+refuses : (c : tie.In-loop Inv-loop μ-loop) → wordStep (S c) (scored-from c) (w c) ≡ stuck → Refused ≡ pointsOver (S c) (words c) (heldIn (c .before .before .args .carried) (c .before .before .args .t5))
 refuses c e =
-    let l = turn c in
-    closing-refused (S c) _ (words l) (l .loop .carried) (l .loop .backoffs) (toZ w64 (l .loop .total)) (l .loop .i) (l .loop .inv) (more (c .before)) e
-    ∙ ap (pointsOver (S c) (words l)) (given (l .before))
+    let l = c .before in
+    closing-refused (S c) _ (words c) (l .loop .carried) (l .loop .backoffs) (toZ w64 (l .loop .total)) (l .loop .i) (l .loop .inv) (more c) e
 
 enum-known-slot : tie.Need-enum-known-slot Inv-loop μ-loop
 enum-known-slot c = search needs
@@ -123,32 +92,32 @@ enum-told c = search needs
 returns : tie.Need-returns Inv-loop μ-loop
 returns c =
     let f = c .before .before in
-    let r = f .before in
-    let s = entry (turn r) in
-    refuses r (missing-refused (s .args .base .now) (s .args .check .now) (s .pre .0) (w r) (r .replaced .result) (r .replaced .ensures) (scored-from r) (sym (f .root-child .ensures) ∙ c .enum-told .given .1))
+    let i = f .before in
+    let a = i .before .before .args in
+    refuses i (missing-refused (a .base .now) (a .check .now) (i .before .before .pre .0) (w i) (word i) (scored-as i) (scored-from i) (sym (f .root-child .ensures) ∙ c .enum-told .given .1))
 
--- the word that is scored, and the slot of the root's child for it
-abbrev chosen : tie.After-slot Inv-loop μ-loop → tie.After-replaced Inv-loop μ-loop
-chosen c = c .before .before .before
-
-abbrev word : tie.After-slot Inv-loop μ-loop → ℕ
-word c = chosen c .replaced .result
+-- the turn, and the slot of the root's child for its word
+abbrev turn : tie.After-slot Inv-loop μ-loop → tie.In-loop Inv-loop μ-loop
+turn c = c .before .before .before
 
 abbrev slot : tie.After-slot Inv-loop μ-loop → ℕ
 slot c = c .slot .given .0 .0
 
-child-is : (c : tie.After-slot Inv-loop μ-loop) → childAt (entry (turn (chosen c)) .args .base .now) (entry (turn (chosen c)) .args .check .now) 0 (word c) ≡ At (slot c)
+child-is : (c : tie.After-slot Inv-loop μ-loop) → childAt (turn c .before .before .args .base .now) (turn c .before .before .args .check .now) 0 (word (turn c)) ≡ At (slot c)
 child-is c =
-    let s = entry (turn (chosen c)) in
-    sym (root-child (s .args .base .now) (s .args .check .now) (s .pre .0) (word c)) ∙ sym (c .before .before .root-child .ensures) ∙ c .slot .given .1
+    let s = turn c .before .before in
+    sym (root-child (s .args .base .now) (s .args .check .now) (s .pre .0) (word (turn c))) ∙ sym (c .before .before .root-child .ensures) ∙ c .slot .given .1
+
+-- the state that the word is scored from, by the array's own order
+held : (c : tie.In-loop Inv-loop μ-loop) → Carries (orderIn (c .before .before .args .check .now)) (c .before .loop .carried) (c .before .loop .backoffs)
+held c = closing-carries (c .before .before .args .base .now) (c .before .before .args .check .now) (c .before .loop .inv)
 
 walk-requires : tie.Need-walk-requires Inv-loop μ-loop
 walk-requires c κs =
     let t = c .before .before in
-    let l = turn (chosen t) in
-    let s = entry l in
+    let s = turn t .before .before in
     let z = opened-sizes (s .args .base .now) (s .args .check .now) (s .pre .0) in
-    (s .pre .0, (omega (arith, child-inside (s .args .base .now) (s .args .check .now) 0 (word t) (slot t) (child-is t)), closing-carries (s .args .base .now) (s .args .check .now) (l .loop .inv)))
+    (s .pre .0, (omega (arith, child-inside (s .args .base .now) (s .args .check .now) 0 (word (turn t)) (slot t) (child-is t)), held (turn t)))
 
 -- the walk's first node
 abbrev begun : tie.After-walk Inv-loop μ-loop → tie.After-slot Inv-loop μ-loop
@@ -157,10 +126,9 @@ begun c = c .before .before .before
 last-node-requires : tie.Need-last-node-requires Inv-loop μ-loop
 last-node-requires c κs =
     let k = c .before in
-    let l = turn (chosen (begun k)) in
-    let s = entry l in
-    let a = s .args in
-    ((s .pre .0, s .pre .1 .0), (omega (arith, closing-carries (a .base .now) (a .check .now) (l .loop .inv) .few, opened-order (a .base .now) (a .check .now) (s .pre .0)), k .walk .ensures .0 .0, k .walk .ensures .0 .1))
+    let i = turn (begun k) in
+    let s = i .before .before in
+    ((s .pre .0, s .pre .1 .0), (omega (arith, held i .few, opened-order (s .args .base .now) (s .args .check .now) (s .pre .0)), k .walk .ensures .0 .0, k .walk .ensures .0 .1))
 
 -- the lent back-offs as the walk left them, and what it told
 abbrev first : tie.After-last-node Inv-loop μ-loop → tie.After-slot Inv-loop μ-loop
@@ -169,34 +137,35 @@ first c = begun (c .before .before)
 abbrev backoffs : tie.After-last-node Inv-loop μ-loop → List ℤ
 backoffs c = c .last-node .last .1 .1 .1 .1 .1 .0
 
-walked : (c : tie.After-last-node Inv-loop μ-loop) → WalkedOver (S (chosen (first c))) (scored-from (chosen (first c))) (word (first c)) (c .last-node .result) (backoffs c)
+walked : (c : tie.After-last-node Inv-loop μ-loop) → WalkedOver (S (turn (first c))) (scored-from (turn (first c))) (word (turn (first c))) (c .last-node .result) (backoffs c)
 walked c =
     let t = first c in
-    c .last-node .ensures (scored-from (chosen t)) (word t) (c .before .before .walk .ensures .1 (word t) (child-is t))
+    c .last-node .ensures (scored-from (turn t)) (word (turn t)) (c .before .before .walk .ensures .1 (word (turn t)) (child-is t))
 
 answered-requires : tie.Need-answered-requires Inv-loop μ-loop
 answered-requires c κs =
     let t = first c in
-    let l = turn (chosen t) in
-    let s = entry l in
-    let a = s .args in
-    answerable (a .base .now) (a .check .now) (s .pre .0) (l .loop .carried) (l .loop .backoffs) (closing-carries (a .base .now) (a .check .now) (l .loop .inv)) (word t) (slot t) (child-is t) (c .last-node .result) (backoffs c) (walked c)
+    let i = turn t in
+    let l = i .before in
+    let a = l .before .args in
+    answerable (a .base .now) (a .check .now) (l .before .pre .0) (l .loop .carried) (l .loop .backoffs) (held i) (word i) (slot t) (child-is t) (c .last-node .result) (backoffs c) (walked c)
 
 -- the word's answer
 abbrev walk : tie.After-answered Inv-loop μ-loop → tie.After-last-node Inv-loop μ-loop
 walk c = c .before
 
-abbrev picked : tie.After-answered Inv-loop μ-loop → tie.After-replaced Inv-loop μ-loop
-picked c = chosen (first (walk c))
+abbrev picked : tie.After-answered Inv-loop μ-loop → tie.In-loop Inv-loop μ-loop
+picked c = turn (first (walk c))
 
-step-is : (c : tie.After-answered Inv-loop μ-loop) → SteppedTo (entry (turn (picked c)) .args .order) (wordStep (S (picked c)) (scored-from (picked c)) (w (picked c))) (c .answered .result) (backoffs (walk c))
+step-is : (c : tie.After-answered Inv-loop μ-loop) → SteppedTo (picked c .before .before .args .order) (wordStep (S (picked c)) (scored-from (picked c)) (w (picked c))) (c .answered .result) (backoffs (walk c))
 step-is c =
     let k = walk c in
     let t = first k in
-    let l = turn (chosen t) in
-    let s = entry l in
+    let i = turn t in
+    let l = i .before in
+    let s = l .before in
     let a = s .args in
-    stepped (a .base .now) (a .check .now) (s .pre .0) (l .loop .carried) (l .loop .backoffs) (closing-carries (a .base .now) (a .check .now) (l .loop .inv)) (word t) (slot t) (child-is t) (a .order) (w (chosen t)) (s .pre .1 .0) (chosen t .replaced .ensures) (k .last-node .result) (backoffs k) (walked k) (c .answered .result) (c .answered .ensures)
+    stepped (a .base .now) (a .check .now) (s .pre .0) (l .loop .carried) (l .loop .backoffs) (held i) (word i) (slot t) (child-is t) (a .order) (w i) (s .pre .1 .0) (scored-as i) (k .last-node .result) (backoffs k) (walked k) (c .answered .result) (c .answered .ensures)
 
 enum-known-stepped : tie.Need-enum-known-stepped Inv-loop μ-loop
 enum-known-stepped c = search needs
@@ -238,15 +207,17 @@ points-wide c = cc (toZ-ofZ (cast-total c), toZ-ofZ (points-fits c))
 
 small : (c : tie.After-stepped Inv-loop μ-loop) → natAbs (points c) ≤ orderLimit * largestBackoff
 small c =
-    let l = turn (picked (answer c)) in
-    let s = entry l in
-    points-small (s .args .base .now) (s .args .check .now) (s .pre .0) _ (words l) (l .loop .carried) (l .loop .backoffs) (toZ w64 (l .loop .total)) (l .loop .i) (l .loop .inv) (points c) _ (next c) (backoffs (walk (answer c))) (word-is c)
+    let i = picked (answer c) in
+    let l = i .before in
+    let s = l .before in
+    points-small (s .args .base .now) (s .args .check .now) (s .pre .0) _ (words i) (l .loop .carried) (l .loop .backoffs) (toZ w64 (l .loop .total)) (l .loop .i) (l .loop .inv) (points c) _ (next c) (backoffs (walk (answer c))) (word-is c)
 
 add-total : tie.Need-add-total Inv-loop μ-loop
 add-total c =
     let m = scored-word c in
-    let l = turn (picked (answer m)) in
-    omega (zarith, points-wide c, small m, l .loop .inv .small, abs (points m), abs (toZ w64 (l .loop .total)), more (picked (answer m) .before))
+    let i = picked (answer m) in
+    let l = i .before in
+    omega (zarith, points-wide c, small m, l .loop .inv .small, abs (points m), abs (toZ w64 (l .loop .total)), more i)
 
 add-i : tie.Need-add-i Inv-loop μ-loop
 add-i c = omega arith
@@ -258,17 +229,17 @@ loop-again : tie.Need-loop-again Inv-loop μ-loop
 loop-again c =
     let m = scored-word c in
     let k = answer m in
-    let l = turn (picked k) in
-    let s = entry l in
+    let i = picked k in
+    let l = i .before in
+    let s = l .before in
     rw (toZ-ofZ (add-total c), points-wide c)
-    (closing-on (s .args .base .now) (s .args .check .now) (s .pre .0) _ (words l) (l .loop .carried) (l .loop .backoffs) (toZ w64 (l .loop .total)) (l .loop .i) (l .loop .inv) (points m) _ (next m) (backoffs (walk k)) (word-is m) (more (picked k .before)) (subst (λ (n : ℕ). Carries n (next m) (backoffs (walk k))) (s .pre .1 .0) (step-is k .carries _ _ (m .stepped .given .1))))
+    (closing-on (s .args .base .now) (s .args .check .now) (s .pre .0) _ (words i) (l .loop .carried) (l .loop .backoffs) (toZ w64 (l .loop .total)) (l .loop .i) (l .loop .inv) (points m) _ (next m) (backoffs (walk k)) (word-is m) (more i) (subst (λ (n : ℕ). Carries n (next m) (backoffs (walk k))) (s .pre .1 .0) (step-is k .carries _ _ (m .stepped .given .1))))
 
 returns-3 : tie.Need-returns-3 Inv-loop μ-loop
 returns-3 c =
     let l = c .before in
-    let s = entry l in
-    closing-ends (storeIn (s .args .base .now) (s .args .check .now)) _ (words l) (l .loop .carried) (l .loop .backoffs) (toZ w64 (l .loop .total)) (l .loop .i) (l .loop .inv) (c .loop-test .left)
-    ∙ ap (pointsOver (storeIn (s .args .base .now) (s .args .check .now)) (words l)) (given (l .before))
+    let s = l .before in
+    closing-ends (storeIn (s .args .base .now) (s .args .check .now)) _ (s .args .last ∷ endWord ∷ []) (l .loop .carried) (l .loop .backoffs) (toZ w64 (l .loop .total)) (l .loop .i) (l .loop .inv) (c .loop-test .left)
 
 pub sum-closed-spec : {M : Type 1} → statement M
 sum-closed-spec =
@@ -276,12 +247,9 @@ sum-closed-spec =
     (tie.spec
     Inv-loop
     μ-loop
-    pack-requires
-    lent-requires
     loop-holds
-    mul-replaced
-    array-read-replaced
-    replaced-requires
+    mul-word
+    array-read-word
     root-child-requires
     enum-known-slot
     enum-told

@@ -19,8 +19,8 @@ use Rattle.double_array.specs.DoubleArray.{storeIn}
 use Rattle.double_array.proofs.DoubleArray.{opened-order}
 use Rattle.carried_state.specs.Numbers.{numbersOf}
 use Rattle.carried_state.proofs.Carried.{Four, length-numbers}
-use Rattle.word_step.proofs.Rows.{rows-in-probability, rows-in-backoff, rows-in-words}
-use Rattle.score.specs.Answers.{answerOf}
+use Rattle.word_walk.proofs.Rows.{rows-in-probability, rows-in-backoff, rows-in-words}
+use Rattle.run_answer.specs.Answers.{answerOf}
 use Rattle.sums.proofs.Pieces.{Pieced, PieceTold, pieced-begins, pieced-ends, piece-told}
 use Rattle.sums.proofs.sum_words.Statement.{statement}
 use Rattle.sums.proofs.sum_words.Tie as tie

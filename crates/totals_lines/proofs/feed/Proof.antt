@@ -9,7 +9,7 @@ use lib.Seq.{length-take-le}
 use native.Mathlib.Omega.{arith}
 use borrow.Author.Needs.{needs}
 use lib.ListN.{length, take}
-use Rattle.word_step.specs.Rows.{arrayModel}
+use Rattle.word_walk.specs.Rows.{arrayModel}
 use Rattle.totals_lines.proofs.Feeding.{Feeding, feeding-start, feeding-line, feeding-more, feeding-fits, feeding-room, feeding-within, feeding-line-within, fed-end, fed-refused, fed-long}
 use Rattle.totals_lines.proofs.feed.Statement.{statement}
 use Rattle.totals_lines.proofs.feed.Tie as tie

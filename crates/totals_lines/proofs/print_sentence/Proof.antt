@@ -3,7 +3,7 @@ use mathlib.Core.Path.{_≡_, refl, sym, ap, _∙_}
 use mathlib.Core.List.{List, [], _∷_, _++_}
 use Prim.Native.Nat.{ℕ, _+_, _≤_}
 use borrow.Author.Needs.{needs}
-use Rattle.word_step.specs.Rows.{arrayModel}
+use Rattle.word_walk.specs.Rows.{arrayModel}
 use Rattle.totals_text.specs.Lines.{textWords}
 use Rattle.totals_lines.proofs.Sentences.{not-in-form, in-form, words-few, closed-count, refused-output, sentence-is}
 use native.Mathlib.Omega.{arith}

@@ -12,7 +12,7 @@ use mir.Syntax.{w32}
 use mir.Val.{SFits, toZ, ofZ}
 use mir.Facts.{toZ-ofZ}
 use Rattle.integer.proofs.Arithmetic.{zarith}
-use Rattle.totals_text.specs.declared.Column.{Column}
+use Rattle.columns.specs.declared.Column.{Column}
 use Rattle.totals_text.specs.Lines.{columns, inForm, allInForm}
 use Rattle.totals_text.proofs.Lines.{columns-step, columns-none, columns-start, column-end}
 use Rattle.totals_text.proofs.all_in_form.Statement.{statement}

@@ -2,7 +2,7 @@
 use mathlib.Core.Path.{sym, _∙_}
 use native.Mathlib.Omega.{arith}
 use lib.IntN.{pos}
-use Rattle.totals_text.specs.Columns.{numeral, column}
+use Rattle.columns.specs.Columns.{numeral, column}
 use Rattle.totals_text.specs.Lines.{countColumns}
 use Rattle.totals_text.proofs.Lines.{length-counts}
 use Rattle.totals_text.proofs.Stores.{sets-three}

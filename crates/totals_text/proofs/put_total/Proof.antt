@@ -5,8 +5,8 @@ use lib.Signed.{ltZ}
 use mir.Syntax.{w64}
 use mir.Val.{toZ, ofZ}
 use mir.Facts.{toZ-ofZ}
-use Rattle.totals_text.specs.Columns.{signed, justified, column}
-use Rattle.totals_text.proofs.Lines.{column-signed}
+use Rattle.columns.specs.Columns.{signed, justified, column}
+use Rattle.columns.proofs.Columns.{column-signed}
 use borrow.Author.Needs.{needs}
 use Rattle.totals_text.proofs.put_total.Statement.{statement}
 use Rattle.totals_text.proofs.put_total.Tie as tie

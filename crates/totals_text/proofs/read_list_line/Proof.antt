@@ -9,10 +9,10 @@ use lib.IntN.{ℤ}
 use lib.ListN.{length}
 use Rattle.integer.proofs.Arithmetic.{and-no}
 use Rattle.integer.proofs.Ranges.{and-both}
-use Rattle.totals_text.specs.Columns.{leastNumber}
+use Rattle.integer.proofs.Stores.{sets-whole}
+use Rattle.columns.specs.Columns.{leastNumber}
 use Rattle.totals_text.specs.Lines.{listWidth, columns, allInForm, isListLine, listRow, ListLineMeans}
 use Rattle.totals_text.proofs.Lines.{list-line-length, list-line-means}
-use Rattle.totals_text.proofs.Stores.{sets-whole}
 use borrow.Author.Needs.{needs}
 use Rattle.totals_text.proofs.read_list_line.Statement.{statement}
 use Rattle.totals_text.proofs.read_list_line.Tie as tie

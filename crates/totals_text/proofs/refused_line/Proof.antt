@@ -4,7 +4,7 @@ use Prim.Native.Nat.{_+_, _<_}
 use native.Mathlib.Omega.{arith}
 use lib.IntN.{pos}
 use lib.ListN.{length}
-use Rattle.totals_text.specs.Columns.{numeral, column}
+use Rattle.columns.specs.Columns.{numeral, column}
 use Rattle.totals_text.specs.Lines.{refusedWord, refusedLine}
 use Rattle.totals_text.proofs.Lines.{length-count, length-refused}
 use Rattle.totals_text.proofs.Stores.{front-three, sets-written}

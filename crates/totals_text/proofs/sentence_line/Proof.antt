@@ -4,7 +4,7 @@ use Prim.Native.Nat.{_+_, _≤_, _<_}
 use native.Mathlib.Omega.{arith}
 use lib.ListN.{length}
 use mir.Facts.{toZ-ofZ}
-use Rattle.totals_text.specs.Columns.{column}
+use Rattle.columns.specs.Columns.{column}
 use Rattle.totals_text.specs.Lines.{countColumns, sentenceLine}
 use Rattle.totals_text.proofs.Lines.{length-count, length-counts, length-total, length-sentence}
 use Rattle.totals_text.proofs.Stores.{front-two, sets-written}

@@ -7,7 +7,7 @@ use mir.Val.{SFits}
 use mir.Facts.{toZ-ofZ}
 use borrow.Author.Needs.{sfits-of}
 use Rattle.integer.proofs.Arithmetic.{zarith, to-nat}
-use Rattle.totals_text.specs.Columns.{readColumn}
+use Rattle.columns.specs.Columns.{readColumn}
 use Rattle.totals_text.proofs.Lines.{word-negative, word-natural}
 use borrow.Author.Needs.{needs}
 use Rattle.totals_text.proofs.word_in.Statement.{statement}

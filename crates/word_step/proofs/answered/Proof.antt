@@ -13,10 +13,12 @@ use mir.Facts.{toZ-ofZ}
 use Rattle.integer.proofs.Ranges.{and-right}
 use Rattle.backoff.specs.Limits.{wordLimit}
 use Rattle.backoff.specs.Words.{isWord}
-use Rattle.word_step.specs.declared.Kept.{Kept}
+use Rattle.carried_state.specs.Packed.{pushed}
+use Rattle.word_walk.specs.declared.Kept.{Kept}
+use Rattle.word_walk.specs.declared.Walked.{Walked}
+use Rattle.word_walk.specs.declared.Walked.the-variants.{Whole, Stuck}
 use Rattle.word_step.specs.declared.Stepped.{Stepped}
-use Rattle.word_step.specs.declared.Walked.{Walked}
-use Rattle.word_step.specs.declared.Walked.the-variants.{Whole, Stuck}
+use Rattle.word_step.specs.declared.Stepped.the-variants.{Scored}
 use Rattle.word_step.specs.Inner.{Answerable, answered}
 use Rattle.word_step.proofs.answered.Statement.{statement}
 use Rattle.word_step.proofs.answered.Tie as tie
@@ -82,7 +84,7 @@ returns-2 c =
     let k = c .before .before in
     let m = k .before in
     answer (m .before .before) (Whole (points m) (passed m) (kept m) (extended m)) (m .walked .given .1)
-    (cc (c .before .kind-of .ensures, toZ-ofZ (points-fits k), toZ-ofZ (owed-fits k)))
+    (λ i. Scored (record { kind = c .before .kind-of .ensures i; points = toZ-ofZ (points-fits k) i; extended = extended m }) (record { count = kept m .count; words = pushed (m .before .before .args .word) (m .before .before .args .words); owed = toZ-ofZ (owed-fits k) i }))
 
 pub answered-spec : {M : Type 1} → statement M
 answered-spec =

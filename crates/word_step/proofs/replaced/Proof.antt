@@ -7,7 +7,7 @@ use mir.Val.{boolByte}
 use borrow.Author.Needs.{needs}
 use Rattle.backoff.specs.Limits.{unknownWord}
 use Rattle.double_array.specs.declared.Child.{Child}
-use Rattle.word_step.specs.Inner.{isChild}
+use Rattle.double_array.specs.DoubleArray.{isChild}
 use Rattle.word_step.proofs.replaced.Statement.{statement}
 use Rattle.word_step.proofs.replaced.Tie as tie
 

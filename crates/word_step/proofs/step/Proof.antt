@@ -9,7 +9,7 @@ use Rattle.double_array.specs.DoubleArray.{childAt, orderIn, storeIn}
 use Rattle.double_array.specs.declared.Child.the-variants.{At}
 use Rattle.double_array.proofs.DoubleArray.{opened-sizes, opened-head, root-child, child-inside, opened-order}
 use Rattle.carried_state.specs.Packed.{heldIn, Carries}
-use Rattle.word_step.specs.Inner.{WalkedOver}
+use Rattle.word_walk.specs.Walk.{WalkedOver}
 use Rattle.word_step.proofs.Stepping.{missing-refused, refused, answerable, stepped}
 use Rattle.word_step.proofs.step.Statement.{statement}
 use Rattle.word_step.proofs.step.Tie as tie

@@ -1,0 +1,2 @@
+-- What the contracts cite: the fixed lines, and the counts that lines announce.
+pub mod Headings

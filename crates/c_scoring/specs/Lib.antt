@@ -1,0 +1,2 @@
+-- What must be believed: start and run as they cross to C.
+pub mod Crossing

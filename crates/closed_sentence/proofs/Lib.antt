@@ -1,0 +1,2 @@
+-- The laws of one sentence.
+pub mod Calls

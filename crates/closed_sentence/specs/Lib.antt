@@ -1,0 +1,3 @@
+-- One sentence, and what its functions are held to.
+pub mod Sentence
+pub mod Inner

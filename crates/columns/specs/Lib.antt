@@ -1,0 +1,2 @@
+-- What the contracts cite: a number in a column.
+pub mod Columns

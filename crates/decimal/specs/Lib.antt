@@ -1,0 +1,2 @@
+-- What the contracts cite: the decimal digits of a number.
+pub mod Digits

@@ -1,2 +1,0 @@
--- How start and run cross to C.
-pub mod Crossing

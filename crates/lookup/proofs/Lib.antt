@@ -1,0 +1,2 @@
+-- The laws of lookup.
+pub mod LookupMeaning

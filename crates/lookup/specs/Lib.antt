@@ -1,0 +1,2 @@
+-- What must be believed of lookup.
+pub mod Lookup

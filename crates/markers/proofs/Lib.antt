@@ -1,0 +1,2 @@
+-- The laws of markers.
+pub mod Markers

@@ -1,0 +1,2 @@
+-- The laws of the checks of one row by itself.
+pub mod Fields

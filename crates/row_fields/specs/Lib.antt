@@ -1,0 +1,2 @@
+-- What must be believed of the checks of one row by itself.
+pub mod Fields

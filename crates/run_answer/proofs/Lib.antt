@@ -1,0 +1,2 @@
+-- The laws of what a run leaves in its slices.
+pub mod Written

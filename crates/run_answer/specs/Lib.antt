@@ -1,0 +1,2 @@
+-- What must be believed of a run's answer.
+pub mod Answers

@@ -1,0 +1,3 @@
+-- The laws of a run's words.
+pub mod Sizes
+pub mod Running

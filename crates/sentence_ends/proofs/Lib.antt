@@ -1,0 +1,2 @@
+-- The laws of the ends of sentences.
+pub mod Ends

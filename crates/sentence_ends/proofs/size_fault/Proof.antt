@@ -1,0 +1,28 @@
+-- `sentence_ends::size_fault` meets its contract. Assumes nothing.
+use borrow.Author.Tests.{lt-ltb, le-ltb}
+use Rattle.sentence_ends.specs.Ends.{sheetSize}
+use Rattle.sentence_ends.proofs.size_fault.Statement.{statement}
+use Rattle.sentence_ends.proofs.size_fault.Tie as tie
+
+returns : tie.Need-returns
+unfolding sheetSize
+returns c = rw (lt-ltb _ _ (c .if1 .taken))
+
+returns-2 : tie.Need-returns-2
+unfolding sheetSize
+returns-2 c = rw (le-ltb _ _ (c .before .if1 .left), lt-ltb _ _ (c .if2 .taken))
+
+returns-3 : tie.Need-returns-3
+unfolding sheetSize
+returns-3 c = rw (le-ltb _ _ (c .before .before .if1 .left), le-ltb _ _ (c .before .if2 .left), lt-ltb _ _ (c .if3 .taken))
+
+returns-4 : tie.Need-returns-4
+unfolding sheetSize
+returns-4 c = rw (le-ltb _ _ (c .before .before .before .if1 .left), le-ltb _ _ (c .before .before .if2 .left), le-ltb _ _ (c .before .if3 .left), lt-ltb _ _ (c .if4 .taken))
+
+returns-5 : tie.Need-returns-5
+unfolding sheetSize
+returns-5 c = rw (le-ltb _ _ (c .before .before .before .if1 .left), le-ltb _ _ (c .before .before .if2 .left), le-ltb _ _ (c .before .if3 .left), le-ltb _ _ (c .if4 .left))
+
+pub size-fault-spec : {M : Type 1} → statement M
+size-fault-spec = tie.close (tie.spec returns returns-2 returns-3 returns-4 returns-5)

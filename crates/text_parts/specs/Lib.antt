@@ -1,0 +1,2 @@
+-- What the contracts cite: the parts of a text.
+pub mod Parts
