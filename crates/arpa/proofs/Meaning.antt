@@ -42,11 +42,12 @@ use Rattle.arpa_words.proofs.Stores.{zeroed-length, record-text-there}
 use Rattle.arpa_sections.specs.Sections.{Reading, unread, rowOf}
 use Rattle.arpa_lines.specs.Reading.{Lines, done, stopped, readLines}
 use Rattle.arpa_lines.proofs.JoinedRows.{Eights, row-eight, joined-length}
-use Rattle.arpa.specs.Outcome.{Outcome, refusedOutcome, ordered, judged, linesOutcome, readArpa, Leaves, readNumber, readPlace, rowCount}
+use Rattle.arpa_reading.specs.Outcome.{readNumber, readPlace, rowCount, ordered, Outcome, refusedOutcome, judged, linesOutcome}
+use Rattle.arpa_reading.proofs.RowsHeld.{padded-zeros, order-length}
+use Rattle.arpa_reading.specs.declared.Rows.{Rows}
+use Rattle.arpa_reading.specs.declared.Rows.the-variants.{Read}
+use Rattle.arpa.specs.Outcome.{readArpa, Leaves}
 use Rattle.arpa.specs.Meaning.{rowLines, textsIn, lineTexts, rowWith, lineRow, wordTexts, newTexts, numberStored, EachItsOwn, ReadsTheLines, numberBy, AllRead, listOf, ReadRefusedBy, bad-list, ReadMeans}
-use Rattle.arpa.specs.declared.Rows.{Rows}
-use Rattle.arpa.specs.declared.Rows.the-variants.{Read}
-use Rattle.arpa.proofs.RowsHeld.{padded-zeros, order-length}
 use Rattle.arpa.proofs.RowLines.{row-same-numbers}
 use Rattle.arpa.proofs.NewTexts.{numberIn, Known, search-more, known-is-number, known-number}
 use Rattle.arpa.proofs.LineRows.{number-by, Holds, row-count}

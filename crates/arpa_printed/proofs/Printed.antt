@@ -37,10 +37,11 @@ use Rattle.arpa_sections.specs.Sections.{Reading, unread, goes, announce, enter
 use Rattle.arpa_sections.specs.declared.Stage.{Stage}
 use Rattle.arpa_sections.specs.declared.Stage.the-variants.{Counts, Section, Ended}
 use Rattle.arpa_lines.specs.Reading.{addRow, rowFits, recordFits, wordStep, longerStep, rowStep, sectionStep, stageStep, lineStep, done, onward, lastPiece, readLines}
-use Rattle.arpa.specs.Outcome.{ordered, linesOutcome, judged, readArpa}
-use Rattle.arpa.proofs.RowsHeld.{rows-count}
+use Rattle.arpa_reading.specs.Outcome.{ordered, linesOutcome, judged}
+use Rattle.arpa_reading.proofs.RowsHeld.{rows-count}
+use Rattle.arpa_reading.specs.declared.Rows.the-variants.{Read}
+use Rattle.arpa.specs.Outcome.{readArpa}
 use Rattle.arpa.proofs.Meaning.{first-three}
-use Rattle.arpa.specs.declared.Rows.the-variants.{Read}
 use Rattle.arpa_printed.specs.Printed.{printCount, rowsWith, wordText, rowLine, countLines, sectionLines, printed, Printable, ReadsBack}
 use Rattle.arpa_printed.proofs.PrintedLines.{Lacks, AllLack, parts-of-lines, count-read, count-some, count-lacks, row-lead, row-lacks, row-read, row-closes-none}
 use Rattle.arpa_printed.proofs.PrintedRows.{countUp, count-rows, count-length, sectionRows, section-rows, one-word-rows, AllOf, all-of-length, row-of-words, AllKnown, words-known}

@@ -28,7 +28,7 @@ use Rattle.row_codes.specs.Rows.{rowAt}
 use Rattle.row_codes.proofs.Rows.{row-field, row-length}
 use Rattle.row_order.specs.RowOrder.{rowsAt}
 use Rattle.arpa_sections.specs.Sections.{rowOf}
-use Rattle.arpa.proofs.RowsHeld.{getD-padded}
+use Rattle.arpa_reading.proofs.RowsHeld.{getD-padded}
 use Rattle.arpa_printed.specs.Printed.{rowsWith}
 
 -- ---- section by section

@@ -28,7 +28,8 @@ use Rattle.arpa_text.specs.Lines.{allAbove, isText, areTexts, listedIn, readRow
 use Rattle.arpa_words.specs.Words.{unknownText, startText, endText, reservedNumber, numberMet, numberGiven, withText, zeroed, recordOf, recordsOf, storeWith, someMissing}
 use Rattle.arpa_sections.specs.Sections.{announce, enter, firstSection, dataStep, closes, closeSection, rowOf}
 use Rattle.arpa_lines.specs.Reading.{addRow, rowFits, recordFits, wordStep, longerStep, rowStep, sectionStep, lineStep, readLines}
-use Rattle.arpa.specs.Outcome.{refusedOutcome, ordered, readArpa}
+use Rattle.arpa_reading.specs.Outcome.{ordered, refusedOutcome}
+use Rattle.arpa.specs.Outcome.{readArpa}
 use Rattle.arpa_printed.specs.Printed.{withEnds, Printable}
 use Rattle.arpa_printed.specs.Sample.{the, cat, SampleRead}
 

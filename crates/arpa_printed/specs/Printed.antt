@@ -15,8 +15,8 @@ use Rattle.arpa_headings.specs.Headings.{dataLine, sectionLine, endLine, countH
 use Rattle.arpa_logs.specs.Logs.{pointDecimals}
 use Rattle.arpa_text.specs.Lines.{isText}
 use Rattle.arpa_words.specs.Words.{unknownText, startText, endText, storeWith}
+use Rattle.arpa_reading.specs.declared.Rows.the-variants.{Read}
 use Rattle.arpa.specs.Outcome.{readArpa}
-use Rattle.arpa.specs.declared.Rows.the-variants.{Read}
 
 -- the lines one after the other, each with its LF
 unfoldable pub withEnds : List (List ℕ) → List ℕ

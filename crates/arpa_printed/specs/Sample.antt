@@ -8,9 +8,10 @@ use Rattle.backoff.specs.NineNumbers.{padded}
 use Rattle.backoff.specs.Refusal.{shortSlice, lineForm, unlistedText, sectionCount}
 use Rattle.list.specs.Sample.{sample}
 use Rattle.arpa_words.specs.Words.{unknownText, startText, endText, storeWith}
-use Rattle.arpa.specs.Outcome.{Outcome, readArpa, refusedOutcome}
+use Rattle.arpa_reading.specs.Outcome.{Outcome, refusedOutcome}
+use Rattle.arpa_reading.specs.declared.Rows.the-variants.{Read}
+use Rattle.arpa.specs.Outcome.{readArpa}
 use Rattle.arpa_printed.specs.Printed.{withEnds}
-use Rattle.arpa.specs.declared.Rows.the-variants.{Read}
 
 -- the and cat
 abbrev pub the : List ℕ

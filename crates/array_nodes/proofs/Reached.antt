@@ -18,13 +18,14 @@ use Rattle.backoff.specs.Words.{sameWords, isWord, areWords, key}
 use Rattle.backoff.proofs.Words.{same-refl}
 use Rattle.rows.specs.Order.{lastLess, precedes}
 use Rattle.rows.proofs.Keys.{precedes-key}
-use Rattle.double_array.specs.DoubleArray.{childAt}
-use Rattle.double_array.specs.declared.Child.{Child}
-use Rattle.double_array.specs.declared.Child.the-variants.{At, Nothing}
-use Rattle.double_array.proofs.DoubleArray.{child-told, child-unique}
+use Rattle.child_slots.specs.Children.{childAt}
+use Rattle.child_slots.specs.declared.Child.{Child}
+use Rattle.child_slots.specs.declared.Child.the-variants.{At, Nothing}
+use Rattle.child_slots.proofs.Children.{child-told, child-unique}
+use Rattle.slot_numbers.specs.Numbers.{EachTwo, none, more}
+use Rattle.slot_numbers.proofs.EachTwo.{first-of-two, rest-of-two, each-append, each-weaken, each-same, apart-below}
 use Rattle.array_nodes.specs.Nodes.{Reached, root, childFirst, walkTo, childrenFrom, childrenOf, childrenOfAll, level, reached}
-use Rattle.array_nodes.specs.Gathering.{EachTwo, none, more, IsReached}
-use Rattle.array_nodes.proofs.EachTwo.{first-of-two, rest-of-two, each-append, each-weaken, each-same, apart-below}
+use Rattle.array_nodes.specs.Gathering.{IsReached}
 
 -- ---- the order
 

@@ -31,15 +31,19 @@ use Rattle.list.specs.Check.{tableFits, verdict}
 use Rattle.list.specs.ListModel.{entryAt, modelOf}
 use Rattle.list.proofs.Check.{accepted-size, number-accepted}
 use Rattle.list.proofs.ListModel.{accepted-model}
-use Rattle.double_array.specs.DoubleArray.{freeCheck, headCheck, baseAt, checkAt, lookRow, sizesOk, orderOk, headOk, isArray, orderIn, storeIn, opened}
+use Rattle.child_slots.specs.Children.{freeCheck, baseAt, checkAt}
+use Rattle.double_array.specs.DoubleArray.{headCheck, lookRow, sizesOk, orderOk, headOk, isArray, orderIn, storeIn, opened}
 use Rattle.double_array.proofs.DoubleArray.{Sizes, Head, sizes-told, sizes-shown, head-shown, opened-some}
 use Rattle.placing.specs.Placing.{slots}
 use Rattle.placing.proofs.NodeByNode.{placing-head}
 use Rattle.placing.proofs.Slots.{length-slots, getD-slots}
 use Rattle.placing.proofs.Walk.{lookNode, look-placed}
-use Rattle.list_trie.specs.ListTrie.{rootOf, nodesOf, placedList, rowSlots}
-use Rattle.build.specs.Build.{Built, untouched, emptied, filled, checkedBuild, buildOutcome}
-use Rattle.list_trie.proofs.ListTrie.{nodeAt-root, nodes-ready, row-marker, nodes-sound, nodeIf, findNode-listed}
+use Rattle.row_nodes.specs.ListTrie.{rootOf, nodesOf}
+use Rattle.row_nodes.proofs.ListTrie.{nodeAt-root, nodes-ready}
+use Rattle.list_trie.specs.ListTrie.{placedList, rowSlots}
+use Rattle.list_trie.proofs.ListTrie.{row-marker, nodes-sound, nodeIf, findNode-listed}
+use Rattle.placed_list.specs.Build.{Built, untouched, emptied, filled, checkedBuild}
+use Rattle.build.specs.Build.{buildOutcome}
 
 -- BASE and CHECK hold the list, all of it and only it: 11 lets them pass, and they have for any words what the list has
 pub record HoldsList (t base check : List ℤ) : Type 0 where

@@ -18,18 +18,21 @@ use Rattle.backoff.specs.declared.Verdict.the-variants.{Accepted, Refused}
 use Rattle.rows.specs.Table.{rowsOf, orderOf}
 use Rattle.list.specs.Check.{tableFits, verdict}
 use Rattle.list.proofs.Check.{accepted-size, table-passes}
-use Rattle.double_array.specs.DoubleArray.{freeCheck, sizesOk}
+use Rattle.child_slots.specs.Children.{freeCheck}
+use Rattle.double_array.specs.DoubleArray.{sizesOk}
 use Rattle.placing.specs.Trie.{Node}
 use Rattle.placing.specs.Placing.{Placed, slots, usedSlots}
 use Rattle.placing.proofs.Placing.{Inv, below-top}
 use Rattle.placing.proofs.NodeByNode.{placing-inv, placing-head}
 use Rattle.placing.proofs.Slots.{length-slots, take-slots, slots-past, usedSlots-slots}
-use Rattle.list_trie.specs.ListTrie.{rootOf, nodesOf, placedList, rowSlots}
-use Rattle.build.specs.Build.{Built, untouched, emptied, filled, buildOutcome}
+use Rattle.row_nodes.specs.ListTrie.{rootOf, nodesOf}
+use Rattle.row_nodes.proofs.ListTrie.{nodeAt-root, nodes-ready}
+use Rattle.list_trie.specs.ListTrie.{placedList, rowSlots}
+use Rattle.placed_list.specs.Build.{Built, untouched, emptied, filled}
+use Rattle.placed_list.proofs.Outcome.{length-rowSlots}
+use Rattle.build.specs.Build.{buildOutcome}
 use Rattle.build.specs.FewestSlots.{fewest, cutBase, cutCheck, Lent, Leaves, FewestSlots}
-use Rattle.list_trie.proofs.ListTrie.{nodeAt-root, nodes-ready}
 use Rattle.build.proofs.Built.{AcceptedBuild, outcome-filled, build-accepted}
-use Rattle.build.proofs.Outcome.{length-rowSlots}
 
 -- 2 lets them pass
 passes : (t : List ℤ) {base check : List ℤ} {work : List ℕ} → Lent t base check work → (sizesOk base check && leb (rowsOf t) (length work)) ≡ true

@@ -13,15 +13,16 @@ use Rattle.backoff.specs.Limits.{slotLimit}
 use Rattle.backoff.specs.Refusal.{numberOf, placeOf, tableLength, arrayLength}
 use Rattle.backoff.specs.declared.Verdict.{Verdict}
 use Rattle.backoff.specs.declared.Verdict.the-variants.{Accepted, Refused}
-use Rattle.double_array.specs.DoubleArray.{sizesOk}
-use Rattle.double_array.proofs.DoubleArray.{sizes-told, opened-some}
 use Rattle.rows.specs.Table.{rowsOf}
 use Rattle.list.specs.Check.{verdict, tableFits}
 use Rattle.list.proofs.Check.{verdict-refused}
 use Rattle.list.proofs.ListModel.{accepted-model}
 use Rattle.list.proofs.Meaning.{table-passed, none-meets, refused-verdict}
+use Rattle.double_array.specs.DoubleArray.{sizesOk}
+use Rattle.double_array.proofs.DoubleArray.{sizes-told, opened-some}
 use Rattle.list_trie.specs.ListTrie.{placedList}
-use Rattle.build.specs.Build.{Built, untouched, filled, emptied, checkedBuild, buildOutcome, IsBuilt}
+use Rattle.placed_list.specs.Build.{Built, untouched, filled, emptied, checkedBuild, IsBuilt}
+use Rattle.build.specs.Build.{buildOutcome}
 use Rattle.build.specs.Meaning.{BadSizes, lengths-differ, too-few-slots, too-many-slots, short-work, BuildRefusedBy, bad-table, bad-sizes, bad-list, no-room, BuildMeans}
 use Rattle.build.proofs.Built.{build-accepted, build-holds, build-number}
 

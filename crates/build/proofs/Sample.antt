@@ -18,11 +18,14 @@ use Rattle.rows_before.specs.Faults.{isAfter, withoutFirsts, shorterListed, ord
 use Rattle.list.specs.Check.{tableFits, reservedListed, scan, verdictFor}
 use Rattle.list.specs.ListModel.{anyBelow, extendedIn, continuedIn}
 use Rattle.list.specs.Sample.{sample}
-use Rattle.double_array.specs.DoubleArray.{freeCheck, sizesOk}
+use Rattle.child_slots.specs.Children.{freeCheck}
+use Rattle.double_array.specs.DoubleArray.{sizesOk}
 use Rattle.placing.specs.Trie.{children}
 use Rattle.placing.specs.Placing.{isFree, update, isOpen, allOpen, fits, search, firstFit, own, topWith, give, settle, placeAt, withMarker, withoutMarker, place, placeAll, unplaced, placing, slots}
-use Rattle.list_trie.specs.ListTrie.{nodeOf, rootOf, nodesFrom, nodesOf, placedList, slotsFrom, rowSlots}
-use Rattle.build.specs.Build.{Built, untouched, emptied, filled, buildOutcome}
+use Rattle.row_nodes.specs.ListTrie.{nodeOf, rootOf, nodesFrom, nodesOf}
+use Rattle.list_trie.specs.ListTrie.{placedList, slotsFrom, rowSlots}
+use Rattle.placed_list.specs.Build.{Built, untouched, emptied, filled}
+use Rattle.build.specs.Build.{buildOutcome}
 
 -- the sample built into N slots, and a work slice one longer than the rows; what the slices held is 7 throughout
 abbrev sampleBuilt : ℕ → Built

@@ -15,10 +15,11 @@ use Rattle.list.specs.Check.{verdict}
 use Rattle.placing.specs.Trie.{longestNodes}
 use Rattle.placing.specs.Placing.{takenSlots}
 use Rattle.placing.proofs.TakenSlots.{taken-slots}
-use Rattle.list_trie.specs.ListTrie.{nodeOf, rootOf, nodesFrom, nodesOf, placedList}
+use Rattle.row_nodes.specs.ListTrie.{nodeOf, rootOf, nodesFrom, nodesOf}
+use Rattle.row_nodes.proofs.ListTrie.{length-nodesOf, nodes-ready}
+use Rattle.list_trie.specs.ListTrie.{placedList}
 use Rattle.build.specs.Build.{buildOutcome}
 use Rattle.build.specs.TakenSlots.{longestFrom}
-use Rattle.list_trie.proofs.ListTrie.{length-nodesOf, nodes-ready}
 use Rattle.build.proofs.Built.{build-accepted}
 
 longest-rows : (t : List ℤ) (i k : ℕ) → i + k ≤ rowsOf t → longestNodes (orderOf t) (nodesFrom t i k) ≡ longestFrom t i k

@@ -8,10 +8,12 @@ use lib.IntN.{ℤ, pos}
 use Rattle.backoff.specs.Refusal.{noRoom}
 use Rattle.backoff.specs.Run.{written}
 use Rattle.backoff.specs.declared.Verdict.the-variants.{Accepted, Refused}
-use Rattle.double_array.specs.DoubleArray.{freeCheck, sizesOk}
 use Rattle.rows.specs.Table.{rowsOf}
+use Rattle.child_slots.specs.Children.{freeCheck}
+use Rattle.double_array.specs.DoubleArray.{sizesOk}
 use Rattle.placing.specs.Placing.{usedSlots}
-use Rattle.build.specs.Build.{Built, buildOutcome, IsBuilt}
+use Rattle.placed_list.specs.Build.{Built, IsBuilt}
+use Rattle.build.specs.Build.{buildOutcome}
 
 module _ (built : Built) where
   -- the slots of the array cut behind its last slot that is not free

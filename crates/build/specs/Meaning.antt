@@ -10,10 +10,10 @@ use Rattle.backoff.specs.Limits.{slotLimit}
 use Rattle.backoff.specs.Refusal.{tableLength, arrayLength, noRoom}
 use Rattle.backoff.specs.Model.{AcceptedModel}
 use Rattle.backoff.specs.Store.{modelIn}
-use Rattle.double_array.specs.DoubleArray.{storeIn, opened}
 use Rattle.rows.specs.Table.{rowsOf}
 use Rattle.list.specs.ListModel.{modelOf}
 use Rattle.list.specs.Meaning.{Meets, NoneMeets, VerdictMeans}
+use Rattle.double_array.specs.DoubleArray.{storeIn, opened}
 use Rattle.list_trie.specs.ListTrie.{placedList}
 
 module _ (table base check : List ℤ) (work : List ℕ) where

@@ -8,8 +8,8 @@ use Rattle.backoff.specs.declared.Verdict.{Verdict}
 use Rattle.backoff.specs.Run.{Answer}
 use Rattle.lookup.specs.Lookup as lookup
 use Rattle.lookup.specs.declared.Lookup.{Lookup}
-use Rattle.arpa.specs.Outcome as arpa
-use Rattle.arpa.specs.declared.Rows.{Rows}
+use Rattle.arpa_reading.specs.declared.Rows.{Rows}
+use Rattle.arpa_reading.specs.Outcome.{readNumber, rowCount, readPlace}
 use Rattle.c_answers.specs.declared.Status.{Status}
 use Rattle.c_answers.specs.declared.Found.{Found}
 use Rattle.c_answers.specs.declared.Total.{Total}
@@ -31,9 +31,9 @@ pub record FoundIs (l : Lookup) (r : Found) : Type 0 where
 
 -- a reading's answer: the row count, or a refusal's number with its line or row
 pub record RowCountIs (a : Rows) (r : RowCount) : Type 0 where
-  pub number : r .number ≡ arpa.readNumber a
-  pub rows : r .rows ≡ arpa.rowCount a
-  pub place : r .place ≡ arpa.readPlace a
+  pub number : r .number ≡ readNumber a
+  pub rows : r .rows ≡ rowCount a
+  pub place : r .place ≡ readPlace a
 
 -- a run's answer or that of plain scoring, and the slices of points and of length bytes at exit
 pub record TotalIs {S : Type 0} (a : Answer S) (r : Total) (points : List ℤ) (lengths : List ℕ) : Type 0 where

@@ -1,5 +1,5 @@
 // Answers as they cross to C, where all are numbers. The definitions that the contracts cite are in specs/.
-use arpa::Rows;
+use arpa_reading::Rows;
 use backoff::Verdict;
 use lookup::Lookup;
 ghost use Rattle.c_answers.specs.Answers.{StatusIs, FoundIs, RowCountIs};

@@ -1,3 +1,2 @@
 -- The laws of the double array.
-pub mod Items
 pub mod DoubleArray

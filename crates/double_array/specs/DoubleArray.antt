@@ -1,26 +1,22 @@
--- The double array of document 01: two lists of numbers, BASE and CHECK, of which nothing is known. The nodes' markers and children, the walk, the head,
--- and the array as a store. Slots are natural numbers; words are newest first on a walk. Assumes nothing.
-use mathlib.Core.Bool.{Bool, true, false, cond, _&&_}
+-- The double array of document 01: two lists of numbers, BASE and CHECK, of which nothing is known. The nodes' markers, the walk, the head, and the array as
+-- a store. Slots are natural numbers; words are newest first on a walk. Assumes nothing.
+use mathlib.Core.Bool.{Bool, cond, _&&_}
 use mathlib.Core.List.{List, [], _∷_}
 use mathlib.Core.Option.{Option, none, some}
 use Prim.Native.Nat.{ℕ, suc, _+_, _-_}
-use lib.Dec.{eqb, leb, ltb}
+use lib.Dec.{eqb, leb}
 use lib.ListN.{length, getD}
 use lib.IntN.{ℤ, pos, negsuc, natAbs}
 use lib.Signed.{leZ, ltZ}
 use Rattle.integer.specs.Integer.{eqZ, between}
 use Rattle.backoff.specs.Limits.{orderLimit, rowLimit, slotLimit}
-use Rattle.backoff.specs.Words.{isWord}
 use Rattle.backoff.specs.Store.{Look, absent, broken, Store}
 use Rattle.markers.specs.Markers.{markerOf, lookMarker}
 use Rattle.markers.specs.declared.Marker.{Marker}
 use Rattle.markers.specs.declared.Marker.the-variants.{Sound, Broken}
-use Rattle.double_array.specs.declared.Child.{Child}
-use Rattle.double_array.specs.declared.Child.the-variants.{At, Nothing}
-
--- "A free slot has BASE 0 and CHECK −2,147,483,648."
-abbrev pub freeCheck : ℤ
-freeCheck = negsuc 2147483647
+use Rattle.child_slots.specs.Children.{freeCheck, baseAt, checkAt, childAt}
+use Rattle.child_slots.specs.declared.Child.{Child}
+use Rattle.child_slots.specs.declared.Child.the-variants.{At, Nothing}
 
 -- "CHECK[0] becomes n + 24, and 11 meets any other head": the order, and what is added to it there
 abbrev pub headOffset : ℕ
@@ -33,58 +29,18 @@ headCheck n = pos (n + headOffset)
 unfoldable pub orderIn : List ℤ → ℕ
 orderIn check = natAbs (getD check 0 freeCheck) - headOffset
 
--- "the children's slots d − w (all ≥ 1) are tried first, then d + w": the slot of the child for word w, behind d or ahead of it
-abbrev pub childSlot : Bool → ℕ → ℕ → ℕ
-childSlot true d w = d - w
-childSlot false d w = d + w
-
--- the word of the child in slot t, on whichever side of d that lies
-abbrev pub wordAt : ℕ → ℕ → ℕ
-wordAt d t = (t - d) + (d - t)
-
--- slot t as a child of the node in slot s: "d + w < N and CHECK[d + w] = s"
-abbrev pub ownedBy : List ℤ → ℕ → ℕ → Child
-ownedBy check s t = cond (ltb t (length check) && eqZ (getD check t freeCheck) (pos s)) (At t) Nothing
-
-abbrev pub orElse : Child → Child → Child
-orElse (At t) other = At t
-orElse Nothing other = other
-
--- whether there is a child
-abbrev pub isChild : Child → Bool
-isChild (At t) = true
-isChild Nothing = false
-
--- "A walk looks at d + w, then at d − w if that is at least 1", from the node in slot s
-abbrev pub onEitherSide : List ℤ → ℕ → ℕ → ℕ → Child
-onEitherSide check s d w = orElse (ownedBy check s (childSlot false d w)) (cond (ltb w d) (ownedBy check s (childSlot true d w)) Nothing)
-
 module _ (base check : List ℤ) where
-  abbrev pub baseAt : ℕ → ℤ
-  baseAt s = getD base s (pos 0)
-
-  abbrev pub checkAt : ℕ → ℤ
-  checkAt s = getD check s freeCheck
-
   -- The marker of the node in slot s, whose BASE is d: "A marker is sound if 1 ≤ d < N and the p and b read from it are in range."
   unfoldable pub keptMarker : ℕ → Marker
-  keptMarker s = cond (leZ (pos 1) (baseAt s) && ltZ (baseAt s) (pos (length check))) (markerOf (checkAt (natAbs (baseAt s))) (baseAt (natAbs (baseAt s)))) Broken
+  keptMarker s = cond (leZ (pos 1) (baseAt base check s) && ltZ (baseAt base check s) (pos (length check))) (markerOf (checkAt base check (natAbs (baseAt base check s))) (baseAt base check (natAbs (baseAt base check s)))) Broken
 
   -- "the node's own BASE holds p − 1", and there is no b, e or f: what a marker says that has this CHECK and BASE 0
   unfoldable pub ownMarker : ℕ → Marker
-  ownMarker s = markerOf (baseAt s) (pos 0)
+  ownMarker s = markerOf (baseAt base check s) (pos 0)
 
   -- What the node in slot s says, to which k words lead: "Rows of n words .. give up their marker", and "All other nodes keep theirs, the root included."
   unfoldable pub markerAt : ℕ → ℕ → Marker
   markerAt k s = cond (eqb k (orderIn check)) (ownMarker s) (keptMarker s)
-
-  -- "a child exists if 1 ≤ d, d + w < N and CHECK[d + w] = s", and else on the other side; a word "outside 1..65,535 is unlisted"
-  unfoldable pub childAt : ℕ → ℕ → Child
-  childAt s w = cond (isWord w && leZ (pos 1) (baseAt s)) (onEitherSide check s (natAbs (baseAt s)) w) Nothing
-
--- the root's child for w, where BASE[0] is 1, so that no slot behind it is at least 1
-abbrev pub rootChild : List ℤ → ℕ → Child
-rootChild check w = cond (isWord w) (ownedBy check 0 (childSlot false 1 w)) Nothing
 
 -- the rest of a walk past a node, which needs a sound marker
 abbrev pub past : Marker → Look → Look

@@ -20,11 +20,14 @@ use Rattle.backoff.specs.declared.Verdict.the-variants.{Accepted, Refused}
 use Rattle.rows.specs.Table.{rowsOf, probabilityAt, orderOf, words}
 use Rattle.list.specs.Check.{tableFits, verdict}
 use Rattle.list.proofs.Check.{accepted-row}
-use Rattle.double_array.specs.DoubleArray.{childSlot, sizesOk}
+use Rattle.child_slots.specs.Children.{childSlot}
+use Rattle.double_array.specs.DoubleArray.{sizesOk}
 use Rattle.placing.specs.Trie.{Node, childOf, children}
 use Rattle.placing.specs.Placing.{Room, isFree, update, isOpen, allOpen, fits, search, firstFit, own, topWith, give, Placed, settle, placeAt, withMarker, withoutMarker, place, placeAll, placing}
-use Rattle.list_trie.specs.ListTrie.{nodeOf, rootOf, nodesFrom, nodesOf, placedList, slotsFrom, rowSlots}
-use Rattle.build.specs.Build.{Built, untouched, emptied, filled, checkedBuild, buildOutcome}
+use Rattle.row_nodes.specs.ListTrie.{nodeOf, rootOf, nodesFrom, nodesOf}
+use Rattle.list_trie.specs.ListTrie.{placedList, slotsFrom, rowSlots}
+use Rattle.placed_list.specs.Build.{Built, untouched, emptied, filled, checkedBuild}
+use Rattle.build.specs.Build.{buildOutcome}
 use Rattle.finer.specs.FinerList.{OlderPoints, takenOver}
 use Rattle.finer.proofs.FinerList.{length-times, rows-times, orderOf-times, words-times, taken-over-verdict}
 

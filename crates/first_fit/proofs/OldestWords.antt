@@ -11,9 +11,9 @@ use lib.IntN.{ℤ, pos}
 use lib.ListN.{length, getD, set, length-set}
 use lib.Seq.{getD-set-same, getD-set-other}
 use borrow.Author.Count.{below-more}
-use Rattle.double_array.specs.DoubleArray.{childSlot}
-use Rattle.double_array.proofs.DoubleArray.{slots-apart, marker-apart}
 use Rattle.rows.specs.Table.{rowsOf, field, wordOf}
+use Rattle.child_slots.specs.Children.{childSlot}
+use Rattle.child_slots.proofs.Children.{slots-apart, marker-apart}
 use Rattle.placing.specs.Placing.{Room, isFree, isOpen, allOpen, update, own, topWith}
 use Rattle.placing.proofs.FirstFit.{isFree-yes, open-told, all-open-at}
 use Rattle.placing.proofs.Rooms.{update-other}

@@ -7,8 +7,8 @@ use lib.IntN.{ℤ, pos}
 use lib.ListN.{length, getD}
 use Rattle.integer.specs.Integer.{between}
 use Rattle.backoff.specs.Limits.{wordLimit}
-use Rattle.double_array.specs.DoubleArray.{childSlot}
 use Rattle.rows.specs.Table.{rowsOf, field, wordOf}
+use Rattle.child_slots.specs.Children.{childSlot}
 use Rattle.placing.specs.Placing.{Room, isFree, isOpen, allOpen, firstFit, update, own, topWith}
 use Rattle.free_slots.specs.Chain.{isLink, Linked}
 

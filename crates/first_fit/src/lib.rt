@@ -6,8 +6,8 @@ ghost use Prim.Native.Nat.{ℕ, _+_, _≤_, _<_, max};
 ghost use lib.IntN.{ℤ, pos};
 ghost use lib.ListN.{length};
 ghost use Rattle.backoff.specs.Limits.{wordLimit, slotLimit};
-ghost use Rattle.double_array.specs.DoubleArray.{childSlot};
 ghost use Rattle.rows.specs.Table.{rowsOf, field, wordOf};
+ghost use Rattle.child_slots.specs.Children.{childSlot};
 ghost use Rattle.placing.specs.Placing.{Room, isOpen, update, own, topWith};
 ghost use Rattle.free_slots.specs.Chain.{Linked, Chain};
 ghost use Rattle.first_fit.specs.Steps.{ChildRows, oldestOf, Rising, FoundFit, LastWord, ChildSlots, Settles, Fitting, Given, NodePlaced};
@@ -127,7 +127,7 @@ fn settle(base: &mut [i32], check: &mut [i32], rows: &[i32], node: Node, behind:
     let count = rows.len() / 8;
     let mut k = 0;
     while k < count {
-        let t = double_array::child_slot(behind, d, oldest_word(rows, k));
+        let t = child_slots::child_slot(behind, d, oldest_word(rows, k));
         free_slots::take(base, check, t, 0, slot as i32);
         k += 1;
     }
@@ -143,7 +143,7 @@ fn give_slots(work: &mut [u32], rows: &[i32], behind: bool, d: usize)
 {
     let mut k = 0;
     while k < work.len() {
-        let t = double_array::child_slot(behind, d, oldest_word(rows, k));
+        let t = child_slots::child_slot(behind, d, oldest_word(rows, k));
         work[k] = t as u32;
         k += 1;
     }

@@ -1,4 +1,3 @@
--- What must be believed: fragments with check 21, how they cross, and what scoring one returns and means.
+-- What must be believed: fragments with check 21, and how they cross.
 pub mod Fragment
 pub mod Outcome
-pub mod Meaning

@@ -1,19 +1,10 @@
--- How a fragment crosses, and what scoring one returns over the lent arrays, which are a store unless 11 meets them. Assumes nothing.
+-- How a fragment crosses, and what scoring or joining returns. Assumes nothing.
 use mathlib.Core.Path.{_≡_}
-use mathlib.Core.Bool.{cond}
 use mathlib.Core.List.{List, [], _∷_, _++_}
-use mathlib.Core.Option.{Option, none, some}
 use Prim.Native.Nat.{ℕ, _-_}
 use lib.ListN.{length, take, getD, replicate}
 use lib.IntN.{ℤ}
-use lib.Dec.{ltb}
-use Rattle.integer.specs.Integer.{sum}
-use Rattle.backoff.specs.Limits.{runLimit}
-use Rattle.backoff.specs.Refusal.{arrayHead, brokenNode, wordCount}
-use Rattle.backoff.specs.State.{empty}
-use Rattle.backoff.specs.Run.{Answer}
-use Rattle.backoff.specs.NineNumbers.{nine, nineZeros}
-use Rattle.backoff.specs.Store.{Store, Ran, ran, refusedAt, runOver}
+use Rattle.backoff.specs.NineNumbers.{nineZeros}
 use Rattle.carried_state.specs.Numbers.{numbersOf, stateFrom}
 use Rattle.fragments.specs.declared.Fragment.{Fragment as Numbers}
 use Rattle.fragments.specs.declared.Joined.{Joined}
@@ -52,28 +43,12 @@ toNumbers f = record { total = f .total; count = f .count; kept = length (f .fir
 abbrev pub crossed : Reply → Joined
 crossed r = record { number = r .number; place = r .place; fragment = toNumbers (r .fragment) }
 
--- ---- scoring
+-- ---- the fragment of scored words
 
 -- the fragment of the words ws where the order is n, with the total and the state that scoring them gave
 abbrev pub scoredFragment : ℕ → List ℕ → ℤ → List ℤ → Fragment (List ℤ)
 scoredFragment n ws total end = record { total = total; first = take (n - 1) ws; count = length ws; end = end }
 
--- 12 has the word's number
-abbrev pub scoredAs : ℕ → List ℕ → Ran → Reply
-scoredAs n ws (ran ps bs s) = returned (scoredFragment n ws (sum ps) (nine s))
-scoredAs n ws (refusedAt k) = refusedBy brokenNode k
-
--- "refuses by 11, 14 and 12 as a run does"
-abbrev pub scoredIn : Option Store → List ℕ → Reply
-scoredIn none ws = refusedBy arrayHead 0
-scoredIn (some S) ws = cond (ltb runLimit (length ws)) (refusedBy wordCount 0) (scoredAs (S .order) ws (runOver S ws empty 1))
-
-unfoldable pub fragmentOutcome : Option Store → List ℕ → Joined
-fragmentOutcome o ws = crossed (scoredIn o ws)
-
--- a fragment is returned with the number, place, total and end state that a run returned
-pub record SameResult (j : Joined) (a : Answer (List ℤ)) : Type 0 where
-  pub number : j .number ≡ a .number
-  pub place : j .place ≡ a .place
-  pub total : j .fragment .total ≡ a .total
-  pub state : numbersOf (j .fragment .state) ≡ a .end
+-- "A refused fragment or join is the empty fragment."
+abbrev pub RefusedIsEmpty : Joined → Type 0
+RefusedIsEmpty r = (r .number ≡ 0 → ⊥) → r .fragment ≡ toNumbers (noWords nineZeros)

@@ -1,20 +1,15 @@
-// Fragments of a sentence: what one is, with check 21, and words scored as one without left context, over any lent double array.
+// Fragments of a sentence: what one is, how it crosses to C, and check 21.
 use carried_state::State;
 ghost use mathlib.Core.Path.{_≡_};
-ghost use mathlib.Core.Bool.{true};
 ghost use mathlib.Core.List.{_++_};
 ghost use Prim.Native.Nat.{_*_, _-_, _≤_, _<_, min};
 ghost use lib.ListN.{length, take, getD};
 ghost use lib.IntN.{natAbs};
 ghost use lib.Dec.{leb};
 ghost use Rattle.backoff.specs.Limits.{orderLimit, largestBackoff, runLimit};
-ghost use Rattle.backoff.specs.State.{empty};
-ghost use Rattle.backoff.specs.Store.{runOver};
-ghost use Rattle.double_array.specs.DoubleArray.{isArray, orderIn, storeIn, opened};
 ghost use Rattle.carried_state.specs.Numbers.{numbersOf};
 ghost use Rattle.fragments.specs.Fragment.{fragmentOk};
-ghost use Rattle.fragments.specs.Outcome.{refusedBy, fourPlaces, fragmentIn, toNumbers, crossed, scoredFragment, scoredAs, fragmentOutcome};
-ghost use Rattle.fragments.specs.Meaning.{ScoringMeans};
+ghost use Rattle.fragments.specs.Outcome.{refusedBy, fourPlaces, fragmentIn, toNumbers, crossed, scoredFragment};
 
 // A fragment as it crosses to C. The first `kept` places of `first` hold its first words, as given; the others are written 0 and not read. A fragment of
 // the caller's own making may hold any numbers: check 21 decides.
@@ -121,7 +116,7 @@ pub fn first_words(first: [u32; 4], kept: usize, words: &[u32], most: usize) -> 
 }
 
 // The fragment of scored words.
-fn kept_fragment(order: usize, words: &[u32], total: i64, end: State) -> Fragment
+pub fn kept_fragment(order: usize, words: &[u32], total: i64, end: State) -> Fragment
     requires { ⌜ (1 ≤ order) × (order ≤ orderLimit) ⌝ }
     requires { ⌜ length (now words) ≤ runLimit ⌝ }
     ensures { λ r. ⌜ r ≡ toNumbers (scoredFragment order (now (words .entry)) total (numbersOf end)) ⌝ }
@@ -135,38 +130,4 @@ fn kept_fragment(order: usize, words: &[u32], total: i64, end: State) -> Fragmen
         first,
         state: end,
     }
-}
-
-// The words scored as a fragment, where neither 11 nor 14 refuses them.
-fn scored(base: &[i32], check: &[i32], order: usize, words: &[u32]) -> Joined
-    requires { ⌜ isArray (now base) (now check) ≡ true ⌝ }
-    requires { ⌜ order ≡ orderIn (now check) ⌝ }
-    requires { ⌜ length (now words) ≤ runLimit ⌝ }
-    ensures { λ r. ⌜ r ≡ crossed (scoredAs order (now (words .entry)) (runOver (storeIn (now (base .entry)) (now (check .entry))) (now (words .entry)) empty 1)) ⌝ }
-{
-    let ran = sums::sum_words(base, check, order, carried_state::empty(), words);
-    if ran.number != 0 {
-        return refused(ran.number, ran.place);
-    }
-    let end = ran.end;
-    Joined {
-        number: 0,
-        place: 0,
-        fragment: kept_fragment(order, words, ran.total, end),
-    }
-}
-
-// Scores words without left context: 11, 14, 12.
-pub fn score_fragment(base: &[i32], check: &[i32], words: &[u32]) -> Joined
-    ensures outcome { λ r. ⌜ r ≡ fragmentOutcome (opened (now (base .entry)) (now (check .entry))) (now (words .entry)) ⌝ }
-    ensures meaning { λ r. ⌜ ScoringMeans (now (base .entry)) (now (check .entry)) (now (words .entry)) r ⌝ }
-{
-    if !double_array::is_array(base, check) {
-        return refused(backoff::ARRAY_HEAD, 0);
-    }
-    if backoff::RUN_LIMIT < words.len() {
-        return refused(backoff::WORD_COUNT, 0);
-    }
-    let order = double_array::order_of(check);
-    scored(base, check, order, words)
 }

@@ -10,7 +10,7 @@ use lib.IntN.{ℤ, pos, natAbs, _-ℤ_}
 use lib.ListN.{length, getD}
 use borrow.Author.Tests.{ne-eqb, lt-ltb, le-ltb}
 use Rattle.integer.proofs.Arithmetic.{zarith, add, sub}
-use Rattle.double_array.specs.DoubleArray.{freeCheck}
+use Rattle.child_slots.specs.Children.{freeCheck}
 use Rattle.placing.specs.Placing.{Room, isFree}
 use Rattle.free_slots.specs.Chain.{freeFrom, nextFree, lastFree, inChain, takenBelow, linkCheck, Linked, freeSlots, above, below, upFrom, downFrom, LinksRun}
 use Rattle.free_slots.proofs.Neighbours.{next-first, Last, lastFree-last}

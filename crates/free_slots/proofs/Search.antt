@@ -7,7 +7,7 @@ use mathlib.Core.List.{List}
 use Prim.Native.Nat.{ℕ, suc, _≤_, _<_, min}
 use native.Mathlib.Omega.{arith}
 use Rattle.integer.proofs.Ranges.{lt-or-ge}
-use Rattle.double_array.specs.DoubleArray.{freeCheck}
+use Rattle.child_slots.specs.Children.{freeCheck}
 use Rattle.placing.specs.Placing.{Room, isFree, fits, firstFit, topWith}
 use Rattle.placing.proofs.FirstFit.{sideAt, fit-fits, fit-only, fit-positive}
 use Rattle.placing.proofs.Rooms.{reach-top}

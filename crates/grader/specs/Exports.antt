@@ -4,10 +4,10 @@ use mathlib.Core.List.{List}
 use Prim.Native.Nat.{ℕ}
 use lib.IntN.{ℤ}
 use Rattle.backoff.specs.Refusal.{numberOf, placeOf}
-use Rattle.build.specs.Build.{Built}
+use Rattle.placed_list.specs.Build.{Built}
 use Rattle.filling.specs.Fill.{Filled}
 use Rattle.unload.specs.Unload.{Unloaded}
-use Rattle.arpa.specs.Outcome as arpa
+use Rattle.arpa_reading.specs.Outcome as arpa
 use Rattle.c_answers.specs.Answers.{StatusIs, RowCountIs}
 use Rattle.c_answers.specs.declared.Status.{Status}
 use Rattle.c_answers.specs.declared.RowCount.{RowCount}

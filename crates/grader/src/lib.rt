@@ -24,8 +24,8 @@ ghost use Rattle.sentences.specs.Listing.{listingOutcome};
 ghost use Rattle.sentences.specs.Meaning.{ListingMeans};
 ghost use Rattle.largest_move.specs.Move.{moveOutcome};
 ghost use Rattle.largest_move.specs.Meaning.{MoveMeans};
-ghost use Rattle.fragments.specs.Outcome.{fragmentOutcome};
-ghost use Rattle.fragments.specs.Meaning.{ScoringMeans};
+ghost use Rattle.fragment_scoring.specs.Outcome.{fragmentOutcome};
+ghost use Rattle.fragment_scoring.specs.Meaning.{ScoringMeans};
 ghost use Rattle.joining.specs.Outcome.{joinOutcome};
 ghost use Rattle.joining.specs.Meaning.{JoinMeans};
 ghost use Rattle.plain.specs.Plain.{runOf, plainOutcome, PlainMeans};
@@ -148,7 +148,7 @@ pub extern "C" fn backoff_score_fragment(base: &[i32], check: &[i32], words: &[u
     ensures outcome { λ r. ⌜ r ≡ fragmentOutcome (opened (now (base .entry)) (now (check .entry))) (now (words .entry)) ⌝ }
     ensures meaning { λ r. ⌜ ScoringMeans (now (base .entry)) (now (check .entry)) (now (words .entry)) r ⌝ }
 {
-    fragments::score_fragment(base, check, words)
+    fragment_scoring::score_fragment(base, check, words)
 }
 
 // Joins two neighbours, whatever they hold: 11, 21 with 1 or 2 for the first or second, 14, 12.

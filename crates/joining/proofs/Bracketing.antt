@@ -27,11 +27,12 @@ use Rattle.carried_state.proofs.Carried.{numbers-stateFrom}
 use Rattle.fragments.specs.declared.Fragment.{Fragment as Numbers}
 use Rattle.fragments.specs.declared.Joined.{Joined}
 use Rattle.fragments.specs.Fragment.{Fragment, noWords, packed, fragmentOk, fragmentFrom, fragmentOf}
-use Rattle.fragments.specs.Outcome.{refusedBy, fragmentIn, toNumbers, crossed, fragmentOutcome, SameResult}
+use Rattle.fragments.specs.Outcome.{refusedBy, fragmentIn, toNumbers, crossed}
 use Rattle.fragments.proofs.ByRule.{fragmentOf-is, no-words-scored}
 use Rattle.fragments.proofs.Check.{fragmentFrom-passes, fragments-pass}
 use Rattle.fragments.proofs.Crossing.{packed-back}
-use Rattle.fragments.proofs.Outcome.{shown, fragmentOutcome-is, fragmentOutcome-too-many, scored-few, few-kept, nothing-scored}
+use Rattle.fragment_scoring.specs.Outcome.{fragmentOutcome, SameResult}
+use Rattle.fragment_scoring.proofs.Outcome.{shown, fragmentOutcome-is, fragmentOutcome-too-many, scored-few, few-kept, nothing-scored}
 use Rattle.joining.specs.Outcome.{joinOutcome}
 use Rattle.joining.specs.Bracketing.{Bracketing, piece, both, Begun, at-start, onto, wordsIn, wordsSince, evaluate, allAccepted, evaluateSince}
 use Rattle.joining.proofs.Outcome.{joined-few, joined-many, joined-scored}

@@ -23,11 +23,12 @@ use Rattle.backoff.proofs.Run.{runEnd-is-after}
 use Rattle.backoff.proofs.Store.{Whole, modelRan, runOver-is}
 use Rattle.fragments.specs.declared.Joined.{Joined}
 use Rattle.fragments.specs.Fragment.{Fragment, packed, fragmentOk, fragmentFrom, fragmentOf}
-use Rattle.fragments.specs.Outcome.{Reply, returned, refusedBy, toNumbers, crossed, fragmentOutcome}
+use Rattle.fragments.specs.Outcome.{Reply, returned, refusedBy, toNumbers, crossed}
 use Rattle.fragments.proofs.ByRule.{fragmentOf-is}
 use Rattle.fragments.proofs.Check.{fragmentFrom-passes, fragments-pass}
 use Rattle.fragments.proofs.Crossing.{packed-back}
-use Rattle.fragments.proofs.Outcome.{shown, fragmentOutcome-is, fragmentOutcome-too-many, scored-few, few-kept}
+use Rattle.fragment_scoring.specs.Outcome.{fragmentOutcome}
+use Rattle.fragment_scoring.proofs.Outcome.{shown, fragmentOutcome-is, fragmentOutcome-too-many, scored-few, few-kept}
 use Rattle.joining.specs.Join.{joinedTotal, joinedEnd, join}
 use Rattle.joining.specs.Outcome.{joinedAs, joinedIn, joinOutcome}
 use Rattle.joining.proofs.Join.{join-after}

@@ -13,8 +13,9 @@ use Rattle.backoff.proofs.Store.{Whole}
 use Rattle.fragments.specs.declared.Fragment.{Fragment as Numbers}
 use Rattle.fragments.specs.declared.Joined.{Joined}
 use Rattle.fragments.specs.Fragment.{packed, fragmentFrom, fragmentOf}
-use Rattle.fragments.specs.Outcome.{toNumbers, fragmentOutcome}
-use Rattle.fragments.proofs.Outcome.{fragmentOutcome-is, fragmentOutcome-too-many, nothing-scored}
+use Rattle.fragments.specs.Outcome.{toNumbers}
+use Rattle.fragment_scoring.specs.Outcome.{fragmentOutcome}
+use Rattle.fragment_scoring.proofs.Outcome.{fragmentOutcome-is, fragmentOutcome-too-many, nothing-scored}
 use Rattle.joining.specs.Outcome.{joinOutcome}
 use Rattle.joining.specs.Bracketing.{Bracketing, piece, both, wordsIn, evaluate, joinsAccepted}
 use Rattle.joining.proofs.Outcome.{joined-scored}

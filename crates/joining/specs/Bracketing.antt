@@ -8,7 +8,8 @@ use lib.Dec.{eqb}
 use Rattle.backoff.specs.Store.{Store}
 use Rattle.fragments.specs.declared.Joined.{Joined}
 use Rattle.fragments.specs.Fragment.{noWords}
-use Rattle.fragments.specs.Outcome.{returned, crossed, fragmentOutcome}
+use Rattle.fragments.specs.Outcome.{returned, crossed}
+use Rattle.fragment_scoring.specs.Outcome.{fragmentOutcome}
 use Rattle.joining.specs.Outcome.{joinOutcome}
 
 -- words that are scored as one fragment, or two neighbours that are joined

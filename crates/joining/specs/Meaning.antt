@@ -17,8 +17,7 @@ use Rattle.score.specs.Meaning.{StuckWords}
 use Rattle.fragments.specs.declared.Fragment.{Fragment as Numbers}
 use Rattle.fragments.specs.declared.Joined.{Joined}
 use Rattle.fragments.specs.Fragment.{packed, unpacked, fragmentOk}
-use Rattle.fragments.specs.Outcome.{fragmentIn, toNumbers}
-use Rattle.fragments.specs.Meaning.{RefusedIsEmpty}
+use Rattle.fragments.specs.Outcome.{fragmentIn, toNumbers, RefusedIsEmpty}
 use Rattle.joining.specs.Join.{join}
 
 -- 21, "with 1 or 2 for the first or second": those of two fragments, counted from 0, that do not pass it where the order is n

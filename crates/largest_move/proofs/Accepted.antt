@@ -11,8 +11,8 @@ use lib.ListN.{length, take, getD}
 use lib.Seq.{length-take-le, getD-take}
 use lib.IntN.{ℤ, pos}
 use borrow.Author.Tests.{eqb-true}
-use Rattle.backoff.specs.OneWord.{distance}
 use Rattle.backoff.specs.Store.{Store}
+use Rattle.one_word.specs.OneWord.{distance}
 use Rattle.double_array.specs.DoubleArray.{opened}
 use Rattle.sentence_order.specs.Sentences.{usableWords}
 use Rattle.sentence_order.proofs.Sentences.{few-sentences, length-sentences}
@@ -22,12 +22,12 @@ use Rattle.sentences.specs.Listing.{Outcome, sizeRefusal, usableOver, sentences
 use Rattle.sentences.specs.Meaning.{Listed}
 use Rattle.sentences.proofs.Outcome.{Sized, sized}
 use Rattle.sentences.proofs.Meaning.{listing-means}
-use Rattle.largest_move.specs.declared.Pair.{Pair}
-use Rattle.largest_move.specs.Pairs.{noPair, firstLargest}
+use Rattle.group_pairs.specs.declared.Pair.{Pair}
+use Rattle.group_pairs.specs.Groups.{totalAt, apartIn, Small}
+use Rattle.largest_pair.specs.Pairs.{noPair, firstLargest, IsPair}
+use Rattle.largest_pair.specs.Inner.{Kept, nothing, something, IsListing, oneDigit}
+use Rattle.largest_pair.proofs.Earliest.{first-kept, first-same}
 use Rattle.largest_move.specs.Move.{sentencesApart, totalsApart, largestPair}
-use Rattle.largest_move.specs.Meaning.{IsPair}
-use Rattle.largest_move.specs.Inner.{totalAt, apartIn, Small, Kept, nothing, something, IsListing, oneDigit}
-use Rattle.largest_move.proofs.Earliest.{first-kept, first-same}
 use Rattle.largest_move.proofs.Apart.{apart-by-digits}
 
 pub accepted-sized : (o : Option Store) (k : ℕ) (words : List ℕ) (totals : List ℤ) → listingOutcome o k words totals .listing .number ≡ 0 → Sized k (length (usableOver o)) (length words) (length totals)

@@ -19,9 +19,9 @@ use Rattle.sentence_order.specs.Inner.{sentenceAt}
 use Rattle.sentence_order.proofs.Passing.{passing-ascends}
 use Rattle.sentence_order.proofs.Sentences.{some-word, sentence-nth, length-sentenceAt}
 use Rattle.sentences.specs.Listing.{usableOver, sentencesOver}
+use Rattle.largest_pair.specs.Inner.{digitsApart, oneDigit}
 use Rattle.largest_move.specs.Pairs.{differing, oneApart}
 use Rattle.largest_move.specs.Move.{sentencesApart}
-use Rattle.largest_move.specs.Inner.{digitsApart, oneDigit}
 
 differing-snoc : (p q : List ℕ) (x y : ℕ) → length p ≡ length q → differing (p ++ (x ∷ [])) (q ++ (y ∷ [])) ≡ differing p q + cond (eqb x y) 0 1
 unfolding differing

@@ -12,21 +12,22 @@ use lib.ListN.{length, getD}
 use lib.IntN.{ℤ, pos, _-ℤ_}
 use borrow.Author.Tests.{eqb-true, eqb-false}
 use Rattle.integer.proofs.Arithmetic.{zarith, abs, sub}
-use Rattle.backoff.specs.OneWord.{distance}
 use Rattle.backoff.specs.Store.{Store}
+use Rattle.one_word.specs.OneWord.{distance}
 use Rattle.double_array.specs.DoubleArray.{opened}
 use Rattle.sentence_order.proofs.Sentences.{length-sentences}
 use Rattle.sentence_totals.specs.Totals.{sentenceTotal}
 use Rattle.sentences.specs.Listing.{Outcome as Listed, usableOver, sentencesOver, listingOutcome}
 use Rattle.sentences.specs.Meaning.{ListingMeans}
 use Rattle.sentences.proofs.Meaning.{listing-means}
-use Rattle.largest_move.specs.declared.Pair.{Pair}
-use Rattle.largest_move.specs.Pairs.{noPair, pairOf}
+use Rattle.group_pairs.specs.declared.Pair.{Pair}
+use Rattle.group_pairs.specs.Pairs.{pairOf, NotAfter}
+use Rattle.largest_pair.specs.Pairs.{noPair, IsPair}
+use Rattle.largest_pair.specs.Inner.{Kept, nothing, something}
+use Rattle.largest_pair.proofs.Earliest.{first-kept}
+use Rattle.largest_pair.proofs.Seen.{first-two}
 use Rattle.largest_move.specs.Move.{sentencesApart, totalsApart, largestPair, moveOf, refusedMove, moveOutcome}
-use Rattle.largest_move.specs.Meaning.{IsPair, NotAfter, Names, MoveMeans}
-use Rattle.largest_move.specs.Inner.{Kept, nothing, something}
-use Rattle.largest_move.proofs.Earliest.{first-kept}
-use Rattle.largest_move.proofs.Seen.{first-two}
+use Rattle.largest_move.specs.Meaning.{Names, MoveMeans}
 use Rattle.largest_move.proofs.Apart.{apart-by-digits}
 use Rattle.largest_move.proofs.Accepted.{accepted-sized}
 

@@ -11,7 +11,7 @@ use Rattle.backoff.specs.Store.{Store}
 use Rattle.double_array.specs.DoubleArray.{opened}
 use Rattle.sentence_totals.specs.Totals.{sentenceTotal}
 use Rattle.sentences.specs.Listing.{Outcome as Listed, sentencesOver, listingOutcome}
-use Rattle.largest_move.specs.declared.Pair.{Pair}
+use Rattle.group_pairs.specs.declared.Pair.{Pair}
 use Rattle.largest_move.specs.declared.Move.{Move}
 use Rattle.largest_move.specs.Move.{largestPair, moveOf, refusedMove, moveOutcome}
 use Rattle.largest_move.specs.Meaning.{MoveMeans}

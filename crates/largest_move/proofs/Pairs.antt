@@ -7,7 +7,7 @@ use native.Mathlib.Omega.{arith}
 use lib.Dec.{eqb}
 use lib.ListN.{length, getD}
 use borrow.Author.Tests.{eqb-true}
-use Rattle.backoff.specs.OneWord.{DifferAt}
+use Rattle.one_word.specs.OneWord.{DifferAt}
 use Rattle.largest_move.specs.Pairs.{differing, oneApart}
 
 nowhere : (s t : List ℕ) → length s ≡ length t → differing s t ≡ 0 → (j : ℕ) → getD s j 0 ≡ getD t j 0

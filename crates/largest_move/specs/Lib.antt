@@ -1,5 +1,4 @@
--- What must be believed of the largest move, and what the inner functions are held to.
+-- What must be believed of the largest move.
 pub mod Pairs
 pub mod Move
 pub mod Meaning
-pub mod Inner

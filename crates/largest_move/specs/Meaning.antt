@@ -1,7 +1,5 @@
 -- What the answer of the largest move means. Sentences are counted from 0 here. The sentences quoted are those of document 02, T-13. Assumes nothing.
 use mathlib.Core.Path.{_≡_}
-use mathlib.Core.Logic.{_⊎_}
-use mathlib.Core.Bool.{Bool, true}
 use mathlib.Core.List.{List, []}
 use Prim.Native.Nat.{ℕ, suc, _≤_, _<_}
 use lib.ListN.{length, getD}
@@ -10,25 +8,10 @@ use Rattle.double_array.specs.DoubleArray.{opened}
 use Rattle.sentence_totals.specs.Totals.{sentenceTotal}
 use Rattle.sentences.specs.Listing.{usableOver, sentencesOver}
 use Rattle.sentences.specs.Meaning.{ListingMeans}
+use Rattle.group_pairs.specs.Pairs.{IsLargest}
+use Rattle.largest_pair.specs.Pairs.{IsPair, noPair}
 use Rattle.largest_move.specs.declared.Move.{Move}
-use Rattle.largest_move.specs.Pairs.{noPair}
 use Rattle.largest_move.specs.Move.{sentencesApart, totalsApart, Outcome, moveOf, refusedMove}
-
--- a pair of the n sentences, the first before the second, that differs at one place
-pub record IsPair (apart : ℕ → ℕ → Bool) (n i j : ℕ) : Type 0 where
-  pub ordered : i < j
-  pub inside : j < n
-  pub one-place : apart i j ≡ true
-
--- the pair (i, j) is (a, b), or its first, then second, comes earlier
-abbrev pub NotAfter : ℕ → ℕ → ℕ → ℕ → Type 0
-NotAfter i j a b = (i < a) ⊎ ((i ≡ a) × (j ≤ b))
-
--- the largest distance is that of the pairs that P holds of, and (i, j) is "the pair that reaches it whose first sentence, then second, is earliest"
-pub record IsLargest (P : ℕ → ℕ → Type 0) (distance : ℕ → ℕ → ℕ) (i j : ℕ) : Type 0 where
-  pub pair : P i j
-  pub largest : (a b : ℕ) → P a b → distance a b ≤ distance i j
-  pub earliest : (a b : ℕ) → P a b → distance a b ≡ distance i j → NotAfter i j a b
 
 -- the answer names two of the sentences ss, "by their numbers there from 1"
 pub record Names (ss : List (List ℕ)) (total : List ℕ → ℤ) (m : Move) : Type 0 where

@@ -7,13 +7,14 @@ use Prim.Native.Nat.{ℕ}
 use lib.Dec.{eqb}
 use lib.ListN.{length, getD}
 use lib.IntN.{ℤ, pos}
-use Rattle.backoff.specs.OneWord.{distance}
 use Rattle.backoff.specs.Store.{Store}
+use Rattle.one_word.specs.OneWord.{distance}
 use Rattle.sentence_totals.specs.Totals.{sentenceTotal}
 use Rattle.sentences.specs.Listing.{sentencesOver, listingOutcome}
-use Rattle.largest_move.specs.declared.Pair.{Pair}
+use Rattle.group_pairs.specs.declared.Pair.{Pair}
+use Rattle.largest_pair.specs.Pairs.{firstLargest}
 use Rattle.largest_move.specs.declared.Move.{Move}
-use Rattle.largest_move.specs.Pairs.{oneApart, firstLargest}
+use Rattle.largest_move.specs.Pairs.{oneApart}
 
 -- the i-th and the j-th of the sentences ss, counted from 0, differ at one place
 unfoldable pub sentencesApart : List (List ℕ) → ℕ → ℕ → Bool

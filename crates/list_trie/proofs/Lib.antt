@@ -1,6 +1,4 @@
 -- The laws of the trie of a list, and of its nodes placed one by one.
 pub mod ListTrie
 pub mod RowLengths
-pub mod Parts
-pub mod Turn
 pub mod NodeByNode

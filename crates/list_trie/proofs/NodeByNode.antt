@@ -6,9 +6,10 @@ use native.Mathlib.Omega.{arith}
 use lib.IntN.{ℤ}
 use Rattle.rows.specs.Table.{rowsOf, orderOf}
 use Rattle.placing.proofs.NodeByNode.{placedFirst-all, placedFirst-over}
-use Rattle.list_trie.specs.ListTrie.{nodesOf, placedList}
-use Rattle.list_trie.specs.Steps.{placedNodes, Filled, Tried}
-use Rattle.list_trie.proofs.ListTrie.{length-nodesOf}
+use Rattle.row_nodes.specs.ListTrie.{nodesOf}
+use Rattle.row_nodes.specs.Steps.{placedNodes, Filled, Tried}
+use Rattle.row_nodes.proofs.ListTrie.{length-nodesOf}
+use Rattle.list_trie.specs.ListTrie.{placedList}
 
 module _ {t : List ℤ} {N : ℕ} (n : ℕ) {B C : List ℤ} {W : List ℕ} where
   pub over-refused : {r : ℕ} → N < r → Tried t N (placedNodes t n) r B C W → Tried t N (placedList t) r B C W

@@ -1,3 +1,2 @@
--- The trie of a list, and what the steps of placing its nodes promise each other.
+-- A list placed by the placing rule.
 pub mod ListTrie
-pub mod Steps

@@ -1,5 +1,5 @@
 // The paper's lookup over any two lent slices: the walk from the root over the words, and its answer. The definitions that the contracts cite are in specs/.
-use double_array::Child;
+use child_slots::Child;
 use markers::Marker;
 ghost use mathlib.Core.Path.{_≡_};
 ghost use mathlib.Core.Bool.{true};
@@ -39,7 +39,7 @@ fn walk(base: &[i32], check: &[i32], order: usize, words: &[u32]) -> Lookup
     ensures { λ r. ⌜ r ≡ lookupOf (lookFrom (now (base .entry)) (now (check .entry)) 0 0 (reverse (now (words .entry)))) ⌝ }
 {
     let mut left = words.len() - 1;
-    let Child::At(first) = double_array::root_child(check, words[left]) else {
+    let Child::At(first) = child_slots::root_child(check, words[left]) else {
         return Lookup::NotFound;
     };
     let mut s = first;
@@ -48,7 +48,7 @@ fn walk(base: &[i32], check: &[i32], order: usize, words: &[u32]) -> Lookup
             return found_at(Marker::Broken);
         };
         left -= 1;
-        let Child::At(t) = double_array::find_child(base, check, s, words[left]) else {
+        let Child::At(t) = child_slots::find_child(base, check, s, words[left]) else {
             return Lookup::NotFound;
         };
         s = t;

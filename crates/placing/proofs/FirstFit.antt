@@ -11,7 +11,7 @@ use lib.Dec.{leb}
 use lib.IntN.{ℤ}
 use Rattle.integer.proofs.Arithmetic.{zarith}
 use Rattle.integer.proofs.Ranges.{and-left, and-right, and-both}
-use Rattle.double_array.specs.DoubleArray.{freeCheck, childSlot}
+use Rattle.child_slots.specs.Children.{freeCheck, childSlot}
 use Rattle.placing.specs.Placing.{Room, isFree, isOpen, allOpen, fits, search, firstFit}
 
 pub isFree-true : (z : ℤ) → isFree z ≡ true → z ≡ freeCheck

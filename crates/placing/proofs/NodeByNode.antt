@@ -10,10 +10,11 @@ use borrow.Author.Tests.{eq-eqb, ne-eqb}
 use lib.IntN.{pos, negsuc, pos-ne-negsuc}
 use lib.ListN.{length, getD, take, drop, length-take, take-append-drop}
 use lib.Seq.{take-suc, take-length, getD-take}
-use Rattle.double_array.specs.DoubleArray.{freeCheck, headCheck}
+use Rattle.integer.proofs.Items.{getD-in, in-getD}
+use Rattle.child_slots.specs.Children.{freeCheck}
+use Rattle.double_array.specs.DoubleArray.{headCheck}
 use Rattle.placing.specs.Trie.{Node, children, nodeAt, Ready}
 use Rattle.placing.specs.Placing.{Room, Placed, update, settle, placeAt, withMarker, withoutMarker, place, firstFit, placeAll, unplaced, placing}
-use Rattle.double_array.proofs.Items.{getD-in, in-getD}
 use Rattle.placing.proofs.Trie.{in-child, root-in, child-positive, child-short}
 use Rattle.placing.proofs.FirstFit.{sideAt, open-told, past-top, fit-positive, fit-free, fit-children-open, fit-only}
 use Rattle.placing.proofs.Rooms.{update-same, update-other, reach-top}

@@ -9,11 +9,12 @@ use native.Mathlib.Omega.{arith}
 use native.Mathlib.Decide.{ℕ-discrete, decLt}
 use lib.IntN.{pos, negsuc, pos-ne-negsuc}
 use lib.ListN.{length}
-use Rattle.double_array.specs.DoubleArray.{freeCheck, headCheck, childSlot}
-use Rattle.double_array.proofs.DoubleArray.{slots-apart, marker-apart}
+use Rattle.backoff.proofs.Words.{same-refl, same-ne}
+use Rattle.child_slots.specs.Children.{freeCheck, childSlot}
+use Rattle.child_slots.proofs.Children.{slots-apart, marker-apart}
+use Rattle.double_array.specs.DoubleArray.{headCheck}
 use Rattle.placing.specs.Trie.{Node, children}
 use Rattle.placing.specs.Placing.{Placed, update, own, give, settle, withoutMarker}
-use Rattle.backoff.proofs.Words.{same-refl, same-ne}
 use Rattle.placing.proofs.Rooms.{update-same, update-other, Owned, kept, given, own-cases, reach-top, reach-child, Highest, of-before, of-marker, of-child, reach-highest}
 
 -- ---- the slots of nodes once n has taken d: its children's are given, all others kept

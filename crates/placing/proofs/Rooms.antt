@@ -8,7 +8,7 @@ use native.Mathlib.Omega.{arith}
 use native.Mathlib.Decide.{ℕ-discrete, decLt}
 use borrow.Author.Tests.{eq-eqb, ne-eqb}
 use lib.IntN.{ℤ, pos}
-use Rattle.double_array.specs.DoubleArray.{childSlot}
+use Rattle.child_slots.specs.Children.{childSlot}
 use Rattle.placing.specs.Placing.{Room, update, own, topWith}
 
 module _ (f : Room) (i : ℕ) (v : ℤ) where

@@ -16,7 +16,7 @@ use Rattle.integer.proofs.Ranges.{and-left, and-right}
 use Rattle.backoff.specs.Words.{sameWords, isWord, areWords}
 use Rattle.backoff.proofs.Words.{same-eq, same-refl}
 use Rattle.markers.specs.Markers.{markerBase}
-use Rattle.double_array.specs.DoubleArray.{freeCheck}
+use Rattle.child_slots.specs.Children.{freeCheck}
 use Rattle.placing.specs.Trie.{Node, children, nodeAt, HasParent, Ready}
 use Rattle.placing.specs.Placing.{Placed, isFree, update, isOpen, allOpen, fits, search, firstFit, own, topWith, give, settle, placeAt, withMarker, withoutMarker, place, placeAll, unplaced, placing, slots, usedSlots, takenSlots}
 

@@ -10,7 +10,7 @@ use borrow.Author.Tests.{ne-eqb}
 use lib.IntN.{ℤ, pos}
 use lib.ListN.{length, getD, set, take, replicate, length-set}
 use lib.Seq.{ext-getD, getD-set-same, getD-set-other}
-use Rattle.double_array.specs.DoubleArray.{freeCheck}
+use Rattle.child_slots.specs.Children.{freeCheck}
 use Rattle.placing.specs.Placing.{Room, slots, usedSlots, isFree, update}
 use Rattle.placing.proofs.FirstFit.{isFree-yes, isFree-no}
 use Rattle.placing.proofs.Rooms.{update-same, update-other}

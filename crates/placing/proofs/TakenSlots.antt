@@ -12,13 +12,14 @@ use lib.Dec.{eqb}
 use lib.IntN.{ℤ, pos, negsuc, pos-ne-negsuc}
 use lib.ListN.{length, getD, set, take}
 use lib.Seq.{take-suc, take-length}
+use Rattle.integer.proofs.Items.{getD-in, in-getD}
 use Rattle.backoff.specs.Words.{sameWords}
 use Rattle.backoff.proofs.Words.{same-eq, same-refl, same-ne}
-use Rattle.double_array.specs.DoubleArray.{freeCheck, headCheck, childSlot}
-use Rattle.double_array.proofs.DoubleArray.{slots-apart, marker-apart}
+use Rattle.child_slots.specs.Children.{freeCheck, childSlot}
+use Rattle.child_slots.proofs.Children.{slots-apart, marker-apart}
+use Rattle.double_array.specs.DoubleArray.{headCheck}
 use Rattle.placing.specs.Trie.{Node, childOf, children, longestNodes, nodeAt, Ready}
 use Rattle.placing.specs.Placing.{Room, Placed, isFree, update, firstFit, own, settle, placeAt, withMarker, withoutMarker, placeAll, unplaced, placing, slots, takenSlots}
-use Rattle.double_array.proofs.Items.{getD-in, in-getD}
 use Rattle.placing.proofs.FirstFit.{isFree-yes, isFree-no, sideAt}
 use Rattle.placing.proofs.Rooms.{update-other, Owned, kept, given, own-cases, reach-top, reach-child}
 use Rattle.placing.proofs.Slots.{length-slots, getD-slots, set-slots}

@@ -11,11 +11,11 @@ use lib.Dec.{leb}
 use lib.IntN.{pos}
 use lib.ListN.{length}
 use Rattle.integer.proofs.Ranges.{and-left}
+use Rattle.integer.proofs.Items.{getD-in, in-getD}
 use Rattle.backoff.specs.Limits.{wordLimit}
 use Rattle.backoff.specs.Words.{sameWords, isWord, areWords}
-use Rattle.placing.specs.Trie.{Node, childOf, children, findNode, nodeAt, Ready}
 use Rattle.backoff.proofs.Words.{same-eq, same-refl}
-use Rattle.double_array.proofs.Items.{getD-in, in-getD}
+use Rattle.placing.specs.Trie.{Node, childOf, children, findNode, nodeAt, Ready}
 
 -- ---- children and nodes found
 

@@ -17,10 +17,12 @@ use Rattle.backoff.specs.Store.{Look, absent}
 use Rattle.markers.specs.declared.Marker.{Marker}
 use Rattle.markers.specs.declared.Marker.the-variants.{Sound, Broken}
 use Rattle.markers.specs.Markers.{markerOf, lookMarker}
-use Rattle.double_array.specs.declared.Child.{Child}
-use Rattle.double_array.specs.declared.Child.the-variants.{At, Nothing}
-use Rattle.double_array.specs.DoubleArray.{freeCheck, childSlot, ownedBy, baseAt, checkAt, keptMarker, ownMarker, markerAt, childAt, past, downTo, lookFrom, orderIn}
-use Rattle.double_array.proofs.DoubleArray.{child-absent, marker-own, marker-kept, owned-none, child-told, child-shown, child-word, negative-childless}
+use Rattle.child_slots.specs.declared.Child.{Child}
+use Rattle.child_slots.specs.declared.Child.the-variants.{At, Nothing}
+use Rattle.child_slots.specs.Children.{freeCheck, childSlot, ownedBy, baseAt, checkAt, childAt}
+use Rattle.child_slots.proofs.Children.{child-absent, owned-none, child-told, child-shown, child-word, negative-childless}
+use Rattle.double_array.specs.DoubleArray.{keptMarker, ownMarker, markerAt, past, downTo, lookFrom, orderIn}
+use Rattle.double_array.proofs.DoubleArray.{marker-own, marker-kept}
 use Rattle.placing.specs.Trie.{Node, children, findNode, Ready}
 use Rattle.placing.specs.Placing.{Placed, placing, slots}
 use Rattle.placing.proofs.Trie.{child-found, found-child, found-in, root-found, found-word, child-short, node-bare, absent-below}

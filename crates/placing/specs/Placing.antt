@@ -8,7 +8,8 @@ use lib.ListN.{length}
 use lib.IntN.{ℤ, pos, negsuc}
 use Rattle.integer.specs.Integer.{eqZ}
 use Rattle.backoff.specs.Words.{sameWords}
-use Rattle.double_array.specs.DoubleArray.{freeCheck, headCheck, childSlot}
+use Rattle.child_slots.specs.Children.{freeCheck, childSlot}
+use Rattle.double_array.specs.DoubleArray.{headCheck}
 use Rattle.placing.specs.Trie.{Node, children}
 
 abbrev pub Room : Type 0

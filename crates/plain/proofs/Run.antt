@@ -15,10 +15,11 @@ use Rattle.backoff.specs.Limits.{runLimit}
 use Rattle.backoff.specs.Model.{Model, AcceptedModel, reach}
 use Rattle.backoff.specs.Rule.{Score, grow, rule, ruleByte, rulePoints, ruleBytes}
 use Rattle.backoff.specs.Run.{front, written}
-use Rattle.plain.specs.declared.Recent.{Recent}
+use Rattle.plain_history.specs.declared.Recent.{Recent}
+use Rattle.plain_history.specs.History.{firstHistory}
+use Rattle.plain_history.proofs.Preceding.{Holds, begun-holds, rule-held, pushed-holds}
 use Rattle.plain.specs.declared.Next.{Next}
-use Rattle.plain.specs.Held.{IsNext, firstHistory}
-use Rattle.plain.proofs.Preceding.{Holds, begun-holds, rule-held, pushed-holds}
+use Rattle.plain.specs.Held.{IsNext}
 use Rattle.plain.proofs.Progress.{Progress, progress-none, progress-more, progress-length, progress-end, Summed, summed-none, summed-more, summed-end, total-fits}
 
 -- the rule over the words that are left

@@ -13,46 +13,11 @@ ghost use Rattle.backoff.specs.declared.Verdict.the-variants.{Accepted};
 ghost use Rattle.rows.specs.Table.{orderOf, wordOf};
 ghost use Rattle.list.specs.Check.{verdict};
 ghost use Rattle.list.specs.ListModel.{modelOf};
+ghost use Rattle.plain_history.specs.History.{IsRecent, inUse};
 ghost use Rattle.plain.specs.Plain.{runOf, plainOutcome, Answers, PlainMeans};
-ghost use Rattle.plain.specs.Held.{IsScored, IsRecent, inUse, firstHistory, pushed, IsNext};
+ghost use Rattle.plain.specs.Held.{IsScored, IsNext};
 use backoff::Verdict;
-
-const START_WORD: i32 = backoff::START_WORD as i32;
-
-// The history: the newest words, each replaced, oldest first, in the last `count` places. The places before them hold some word and take no part.
-struct Recent {
-    words: [i32; 4],
-    count: usize,
-}
-
-// The history of the run's first word, where a history has at most `most` words.
-fn begin(most: usize, after_start: bool) -> Recent
-    ensures { λ r. ⌜ r ≡ firstHistory most «after_start» ⌝ }
-{
-    let words = [START_WORD; 4];
-    if after_start {
-        return Recent {
-            words,
-            count: row_starts::smaller(most, 1),
-        };
-    }
-    Recent { words, count: 0 }
-}
-
-// The history once the given word is scored as `known`: after a 3 `<s>` alone, else that word too.
-fn push(most: usize, recent: Recent, word: u32, known: i32) -> Recent
-    requires { ⌜ recent .count ≤ 4 ⌝ }
-    ensures { λ r. ⌜ r ≡ pushed most recent word known ⌝ }
-{
-    if word == backoff::END_WORD {
-        return begin(most, true);
-    }
-    let old = recent.words;
-    Recent {
-        words: [old[1], old[2], old[3], known],
-        count: row_starts::smaller(most, recent.count + 1),
-    }
-}
+use plain_history::Recent;
 
 struct Scored {
     points: i32,
@@ -90,7 +55,7 @@ fn score_next(table: &[i32], starts: &[usize; 8], most: usize, recent: Recent, w
     Next {
         points: scored.points,
         byte: scored.byte,
-        recent: push(most, recent, word, known),
+        recent: plain_history::push(most, recent, word, known),
     }
 }
 
@@ -110,7 +75,7 @@ fn score_words(
 {
     let starts = row_starts::find_starts(table);
     let most = n - 1;
-    let mut recent = begin(most, after_start);
+    let mut recent = plain_history::begin(most, after_start);
     let mut total: i64 = 0;
     for i in 0..words.len() {
         let next = score_next(table, &starts, most, recent, words[i]);

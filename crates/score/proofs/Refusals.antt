@@ -23,9 +23,10 @@ use Rattle.backoff.proofs.Climb.{climb-stopped}
 use Rattle.backoff.proofs.Store.{modelRan, wordStuck, stuckAt, step-stuck, onward-scored}
 use Rattle.markers.specs.declared.Marker.{Marker}
 use Rattle.markers.specs.declared.Marker.the-variants.{Sound, Broken}
-use Rattle.double_array.specs.DoubleArray.{markerAt, childAt, downTo, lookFrom, storeIn}
-use Rattle.double_array.specs.declared.Child.{Child}
-use Rattle.double_array.specs.declared.Child.the-variants.{At, Nothing}
+use Rattle.child_slots.specs.Children.{childAt}
+use Rattle.child_slots.specs.declared.Child.{Child}
+use Rattle.child_slots.specs.declared.Child.the-variants.{At, Nothing}
+use Rattle.double_array.specs.DoubleArray.{markerAt, downTo, lookFrom, storeIn}
 use Rattle.double_array.proofs.DoubleArray.{look-here, look-down, look-broken}
 use Rattle.score.specs.Meaning.{Unwalkable, broken-walk, broken-unknown, no-unknown, Stuck, at-the-word, at-start, StuckWord, StuckWords}
 

@@ -16,9 +16,10 @@ use Rattle.backoff.specs.Words.{isWord}
 use Rattle.markers.specs.declared.Marker.{Marker}
 use Rattle.markers.specs.declared.Marker.the-variants.{Sound, Broken}
 use Rattle.markers.specs.Markers.{lookMarker}
-use Rattle.double_array.specs.declared.Child.{Child}
-use Rattle.double_array.specs.declared.Child.the-variants.{At, Nothing}
-use Rattle.double_array.specs.DoubleArray.{childSlot, markerAt, rootChild, downTo, lookFrom, isArray, storeIn, isChild}
+use Rattle.child_slots.specs.declared.Child.{Child}
+use Rattle.child_slots.specs.declared.Child.the-variants.{At, Nothing}
+use Rattle.child_slots.specs.Children.{childSlot, rootChild, isChild}
+use Rattle.double_array.specs.DoubleArray.{markerAt, downTo, lookFrom, isArray, storeIn}
 use Rattle.double_array.proofs.DoubleArray.{root-sound, root-child}
 use Rattle.sentence_order.specs.Sentences.{passing, isThere, isOther, usable, usableWords}
 use Rattle.sentence_order.specs.Inner.{usableChild}

@@ -6,7 +6,7 @@ use Prim.Native.Nat.{ℕ, zero, suc, _/_, _%_, _≤_, _<_}
 use lib.ListN.{length, take, getD}
 use lib.IntN.{ℤ}
 use Rattle.backoff.specs.Limits.{usableLimit}
-use Rattle.double_array.specs.DoubleArray.{isChild, rootChild}
+use Rattle.child_slots.specs.Children.{isChild, rootChild}
 use Rattle.sentence_order.specs.declared.Usable.{Usable}
 use Rattle.sentence_order.specs.Sentences.{isOther}
 

@@ -1,12 +1,12 @@
 // The sentences of k words over the usable words of a lent double array, in their order: the usable words, how many sentences there are, and the one with a number.
-use double_array::Child;
+use child_slots::Child;
 ghost use mathlib.Core.Path.{_≡_};
 ghost use mathlib.Core.List.{_++_};
 ghost use Prim.Native.Nat.{_-_, _^_, _≤_, _<_, min};
 ghost use lib.ListN.{take, getD, replicate};
 ghost use lib.IntN.{negsuc};
 ghost use Rattle.backoff.specs.Limits.{wordLimit, sentenceLimit, usableLimit};
-ghost use Rattle.double_array.specs.DoubleArray.{freeCheck};
+ghost use Rattle.child_slots.specs.Children.{freeCheck};
 ghost use Rattle.sentence_order.specs.Sentences.{passing};
 ghost use Rattle.sentence_order.specs.Inner.{usableChild, Holds, sentenceAt};
 
@@ -24,7 +24,7 @@ fn is_usable(check: &[i32], w: u32) -> bool
     if (w == backoff::START_WORD) | (w == backoff::END_WORD) {
         return false;
     }
-    if let Child::At(_) = double_array::root_child(check, w) {
+    if let Child::At(_) = child_slots::root_child(check, w) {
         return true;
     }
     false

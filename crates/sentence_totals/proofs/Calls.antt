@@ -24,9 +24,10 @@ use Rattle.backoff.specs.NineNumbers.{nine, stateIn, stateOk}
 use Rattle.backoff.specs.Store.{Store, Step, scored, stuck, wordStep, Ran, ran, refusedAt, runOver, modelIn, brokenRun, ranAnswer, runOutcome, Started, startStep}
 use Rattle.backoff.proofs.NineNumbers.{length-nine, runEnd-ok, stateIn-runEnd}
 use Rattle.backoff.proofs.Store.{modelRan, runOver-cases}
-use Rattle.double_array.specs.declared.Child.{Child}
-use Rattle.double_array.specs.declared.Child.the-variants.{At, Nothing}
-use Rattle.double_array.specs.DoubleArray.{rootChild, isArray, orderIn, storeIn, opened}
+use Rattle.child_slots.specs.declared.Child.{Child}
+use Rattle.child_slots.specs.declared.Child.the-variants.{At, Nothing}
+use Rattle.child_slots.specs.Children.{rootChild}
+use Rattle.double_array.specs.DoubleArray.{isArray, orderIn, storeIn, opened}
 use Rattle.double_array.proofs.DoubleArray.{opened-some, opened-order}
 use Rattle.carried_state.specs.declared.State.{State}
 use Rattle.carried_state.specs.Numbers.{numbersOf, stateFrom}

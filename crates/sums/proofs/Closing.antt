@@ -7,10 +7,12 @@ use native.Mathlib.Numerals.{add-one}
 use native.Mathlib.Omega.{arith}
 use lib.ListN.{length, drop, getD, drop-of-length-le}
 use lib.Seq.{drop-cons}
+use mir.Syntax.{w64}
+use mir.Val.{SFits}
 use lib.IntN.{ℤ, pos, natAbs, _+ℤ_, +ℤ-idl, +ℤ-idr, +ℤ-assoc}
 use borrow.Author.Tests.{ne-eqb}
 use Rattle.integer.specs.Integer.{sum}
-use Rattle.integer.proofs.Arithmetic.{abs, add}
+use Rattle.integer.proofs.Arithmetic.{zarith, abs, add}
 use Rattle.integer.proofs.Sums.{sum-append}
 use Rattle.backoff.specs.Limits.{startWord, endWord, orderLimit, largestBackoff}
 use Rattle.backoff.specs.State.{State as Carried, empty}
@@ -76,6 +78,13 @@ module _ (base check : List ℤ) (h : isArray base check ≡ true) (s : Carried)
     carries = unfold storeIn in k;
     small = omega (arith, add total x, abs total, abs x, abs (total +ℤ x), r .small, points-small);
   }
+
+-- ---- one turn of the loop of two
+pub total-fits : (total x : ℤ) {i : ℕ} → SmallTotal i total → natAbs x ≤ orderLimit * largestBackoff → i < 2 → SFits w64 (total +ℤ x)
+total-fits total x small h more = omega (zarith, abs total, abs x)
+
+pub four-at-most : {k n : ℕ} → k ≤ n - 1 → n ≤ orderLimit → k ≤ 4
+four-at-most few h = omega arith
 
 -- ---- beside a run of the same words
 

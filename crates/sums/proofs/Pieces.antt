@@ -8,10 +8,12 @@ use native.Mathlib.Omega.{arith}
 use lib.ListN.{length, take, drop, length-drop, drop-of-length-le, take-append-drop}
 use lib.Seq.{drop-drop, length-take-le}
 use lib.IntN.{ℤ, pos, _+ℤ_, +ℤ-idl, +ℤ-idr}
+use mir.Syntax.{w64}
+use mir.Val.{SFits}
 use Rattle.integer.specs.Integer.{sum}
 use Rattle.integer.proofs.Arithmetic.{zarith, add, abs}
 use Rattle.integer.proofs.Sums.{sum-append}
-use Rattle.backoff.specs.Limits.{orderLimit}
+use Rattle.backoff.specs.Limits.{orderLimit, runLimit}
 use Rattle.backoff.specs.Refusal.{brokenNode}
 use Rattle.backoff.specs.Words.{areWords}
 use Rattle.backoff.specs.Model.{Model, inProbability, inBackoff, listed, probability, backoff, reach}
@@ -228,3 +230,11 @@ module _ (S : Store) (l : List ℤ) (ws : List ℕ) where
           small = piece-small;
           on = pieced-on;
         }
+
+-- the total of a piece is added to that of the words before it
+pub piece-fits : (total x : ℤ) {a e n : ℕ} → SmallTotal a total → SmallTotal (e - a) x → a ≤ e → e ≤ n → n ≤ runLimit → SFits w64 (total +ℤ x)
+piece-fits total x h k l m o = omega (zarith, abs total, abs x)
+
+-- fewer words are left behind a piece
+pub fewer-left : {a e n : ℕ} → a < e → e ≤ n → n - e < n - a
+fewer-left h k = omega arith

@@ -1,7 +1,7 @@
 // Sums of points over any lent double array, without the slices of a run: the words of a run, and a sentence's last word with its 3.
 use carried_state::Packed;
 use carried_state::State;
-use double_array::Child;
+use child_slots::Child;
 use run_answer::Ran;
 use word_step::Stepped;
 ghost use mathlib.Core.Path.{_≡_};
@@ -106,7 +106,7 @@ pub fn sum_closed(
     let mut i = 0;
     while i < 2 {
         let word = words[i];
-        let Child::At(slot) = double_array::root_child(check, word) else {
+        let Child::At(slot) = child_slots::root_child(check, word) else {
             return Closed::Refused;
         };
         let reached = word_walk::walk(base, check, slot, carried, &mut backoffs);

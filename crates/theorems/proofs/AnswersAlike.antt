@@ -11,14 +11,15 @@ use Rattle.backoff.specs.Store.{Store, startOutcome, runOutcome}
 use Rattle.backoff.specs.declared.Verdict.the-variants.{Accepted}
 use Rattle.double_array.proofs.DoubleArray.{sizes-shown}
 use Rattle.lookup.specs.Lookup.{lookupIn, lookupOutcome}
-use Rattle.build.specs.Build.{Built, buildOutcome}
+use Rattle.placed_list.specs.Build.{Built}
+use Rattle.build.specs.Build.{buildOutcome}
 use Rattle.build.specs.FewestSlots.{fewest, cutBase, cutCheck, Lent}
 use Rattle.build.proofs.Built.{build-accepted, build-opened}
 use Rattle.build.proofs.FewestSlots.{fewest-slots, length-base}
 use Rattle.batch.specs.Sheet.{sheetOutcome}
 use Rattle.sentences.specs.Listing.{listingOutcome}
 use Rattle.largest_move.specs.Move.{moveOutcome}
-use Rattle.fragments.specs.Outcome.{fragmentOutcome}
+use Rattle.fragment_scoring.specs.Outcome.{fragmentOutcome}
 use Rattle.joining.specs.Outcome.{joinOutcome}
 use Rattle.theorems.specs.AnswersAlike.{AnswersAlike}
 use Rattle.theorems.proofs.Returns.{build-unloads}

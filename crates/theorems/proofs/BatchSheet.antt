@@ -24,7 +24,8 @@ use Rattle.backoff.proofs.Counts.{count-both}
 use Rattle.list.specs.ListModel.{modelOf}
 use Rattle.double_array.specs.DoubleArray.{storeIn, opened}
 use Rattle.double_array.proofs.DoubleArray.{opened-some}
-use Rattle.build.specs.Build.{Built, buildOutcome}
+use Rattle.placed_list.specs.Build.{Built}
+use Rattle.build.specs.Build.{buildOutcome}
 use Rattle.build.proofs.Built.{build-holds}
 use Rattle.sentence_ends.specs.Ends.{lastEnd, badEnd, sheetSize, earlyRefusal}
 use Rattle.sentence_ends.proofs.Ends.{good-end, good-last, lastEnd-next}

@@ -10,7 +10,7 @@ use Rattle.build.specs.Build.{buildOutcome}
 use Rattle.build.proofs.Built.{build-opened}
 use Rattle.build.proofs.Found.{found-exactly-if-listed}
 use Rattle.batch.specs.Sheet.{sheetOutcome}
-use Rattle.fragments.specs.Outcome.{fragmentOutcome}
+use Rattle.fragment_scoring.specs.Outcome.{fragmentOutcome}
 use Rattle.joining.specs.Outcome.{joinOutcome}
 use Rattle.theorems.specs.RunsInARow.{arrayOf}
 use Rattle.theorems.specs.EitherSide.{listStore, ScoresAsTheList}

@@ -22,12 +22,14 @@ use Rattle.list.specs.ListModel.{modelOf}
 use Rattle.list.proofs.ListModel.{accepted-model}
 use Rattle.double_array.specs.DoubleArray.{storeIn}
 use Rattle.double_array.proofs.DoubleArray.{opened-some}
-use Rattle.build.specs.Build.{Built, buildOutcome}
+use Rattle.placed_list.specs.Build.{Built}
+use Rattle.build.specs.Build.{buildOutcome}
 use Rattle.build.proofs.Built.{build-accepted, build-holds}
 use Rattle.fragments.specs.Fragment.{packed, fragmentOk}
-use Rattle.fragments.specs.Outcome.{returned, refusedBy, fragmentIn, crossed, fragmentOutcome, SameResult}
+use Rattle.fragments.specs.Outcome.{returned, refusedBy, fragmentIn, crossed}
 use Rattle.fragments.proofs.ByRule.{fragmentOf-is, fragment-by-rule}
-use Rattle.fragments.proofs.Outcome as outcome
+use Rattle.fragment_scoring.specs.Outcome.{fragmentOutcome, SameResult}
+use Rattle.fragment_scoring.proofs.Outcome as outcome
 use Rattle.joining.specs.Outcome.{joinOutcome}
 use Rattle.joining.specs.Bracketing.{Bracketing, Begun, at-start, onto, piece, wordsIn, wordsSince, beginning, evaluate, evaluateSince, joinsAccepted, allAccepted}
 use Rattle.joining.proofs.Outcome as joined

@@ -32,8 +32,9 @@ use Rattle.build.proofs.Built.{build-accepted, build-holds}
 use Rattle.build.proofs.Found.{found-exactly-if-listed}
 use Rattle.carried_state.proofs.Carried.{numbers-stateFrom}
 use Rattle.fragments.specs.Fragment.{packed as packedFragment, noWords, fragmentFrom, fragmentOf}
-use Rattle.fragments.specs.Outcome.{refusedBy, crossed, fragmentOutcome}
-use Rattle.fragments.proofs.Outcome.{shown, fragmentOutcome-is, fragmentOutcome-too-many}
+use Rattle.fragments.specs.Outcome.{refusedBy, crossed}
+use Rattle.fragment_scoring.specs.Outcome.{fragmentOutcome}
+use Rattle.fragment_scoring.proofs.Outcome.{shown, fragmentOutcome-is, fragmentOutcome-too-many}
 use Rattle.plain.specs.Plain.{plainOutcome}
 use Rattle.finer.specs.Times.{times, timesModel, timesScore, timesState, timesNine, AnsweredTimes, ScoreTimes}
 use Rattle.finer.specs.FinerList.{OlderPoints, takenOver, timesLookup}

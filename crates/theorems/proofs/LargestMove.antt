@@ -15,28 +15,28 @@ use Rattle.integer.proofs.Ranges.{lt-or-ge}
 use Rattle.backoff.specs.Limits.{endWord, sentenceLimit}
 use Rattle.backoff.specs.Model.{Model, AcceptedModel}
 use Rattle.backoff.specs.Run.{front}
-use Rattle.backoff.specs.OneWord.{DifferAt, distance, totalMove, closerMove}
 use Rattle.backoff.specs.Store.{Store}
 use Rattle.backoff.specs.declared.Verdict.the-variants.{Accepted}
-use Rattle.backoff.proofs.OneWord.{one-word-by-the-rule}
-use Rattle.backoff.proofs.OneWordByTheRule.{one-word-closer}
+use Rattle.one_word.specs.OneWord.{DifferAt, distance, totalMove, closerMove}
+use Rattle.one_word.proofs.OneWord.{one-word-by-the-rule}
+use Rattle.one_word.proofs.OneWordByTheRule.{one-word-closer}
 use Rattle.list.specs.ListModel.{modelOf}
 use Rattle.list.proofs.ListModel.{accepted-model}
 use Rattle.double_array.specs.DoubleArray.{opened}
-use Rattle.build.specs.Build.{Built, buildOutcome}
+use Rattle.placed_list.specs.Build.{Built}
+use Rattle.build.specs.Build.{buildOutcome}
 use Rattle.build.proofs.Built.{build-accepted}
 use Rattle.sentence_order.specs.Sentences.{sentencesOf}
 use Rattle.sentence_order.proofs.Sentences.{each-long}
 use Rattle.sentence_totals.specs.Totals.{sentenceTotal}
 use Rattle.sentences.specs.Listing.{sizeRefusal, sentencesOver, listingOutcome}
 use Rattle.sentences.proofs.Outcome.{sized}
-use Rattle.largest_move.specs.declared.Pair.{Pair}
-use Rattle.largest_move.specs.Pairs.{noPair, firstLargest}
+use Rattle.group_pairs.specs.declared.Pair.{Pair}
+use Rattle.largest_pair.specs.Pairs.{noPair, firstLargest, IsPair}
+use Rattle.largest_pair.specs.Inner.{Kept, nothing, something}
+use Rattle.largest_pair.proofs.Earliest.{first-kept, first-same}
 use Rattle.largest_move.specs.Move.{sentencesApart, totalsApart, largestPair, moveOf, refusedMove, moveOutcome}
-use Rattle.largest_move.specs.Meaning.{IsPair}
-use Rattle.largest_move.specs.Inner.{Kept, nothing, something}
 use Rattle.largest_move.proofs.Pairs.{differ-at}
-use Rattle.largest_move.proofs.Earliest.{first-kept, first-same}
 use Rattle.theorems.specs.RunsInARow.{arrayOf}
 use Rattle.theorems.specs.Sentences.{listedWords, listedSentences, ruleTotal}
 use Rattle.theorems.specs.LargestMove.{MoveIsTheRule}

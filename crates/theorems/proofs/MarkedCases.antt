@@ -16,12 +16,15 @@ use Rattle.rows_before.specs.Faults.{isAfter, withoutFirsts, shorterListed, ord
 use Rattle.list.specs.Check.{tableFits, reservedListed, scan, verdictFor}
 use Rattle.list.specs.ListModel.{anyBelow, extendedIn, continuedIn, modelOf}
 use Rattle.markers.specs.Markers.{markerOf}
-use Rattle.double_array.specs.DoubleArray.{keptMarker, ownMarker, markerAt, childAt, lookFrom, sizesOk, orderOk, headOk, orderIn, storeIn, opened}
+use Rattle.child_slots.specs.Children.{childAt}
+use Rattle.double_array.specs.DoubleArray.{keptMarker, ownMarker, markerAt, lookFrom, sizesOk, orderOk, headOk, orderIn, storeIn, opened}
 use Rattle.lookup.specs.Lookup.{lookupOutcome}
 use Rattle.placing.specs.Trie.{children}
 use Rattle.placing.specs.Placing.{isFree, update, isOpen, allOpen, fits, search, firstFit, own, topWith, give, settle, placeAt, withMarker, withoutMarker, place, placeAll, unplaced, placing, slots}
-use Rattle.list_trie.specs.ListTrie.{nodeOf, rootOf, nodesFrom, nodesOf, placedList, slotsFrom, rowSlots}
-use Rattle.build.specs.Build.{untouched, emptied, filled, buildOutcome}
+use Rattle.row_nodes.specs.ListTrie.{nodeOf, rootOf, nodesFrom, nodesOf}
+use Rattle.list_trie.specs.ListTrie.{placedList, slotsFrom, rowSlots}
+use Rattle.placed_list.specs.Build.{untouched, emptied, filled}
+use Rattle.build.specs.Build.{buildOutcome}
 use Rattle.plain.specs.Plain.{plainOutcome}
 use Rattle.theorems.specs.RunsInARow.{arrayOf}
 use Rattle.theorems.specs.MarkedCases.{MarkedCases}

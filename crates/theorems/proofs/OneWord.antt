@@ -17,21 +17,22 @@ use Rattle.backoff.specs.State.{after}
 use Rattle.backoff.specs.Run.{Run, Answer, refusal, accepted, refusedRun, acceptedRun, front, runPoints, runBytes, runEnd, plain}
 use Rattle.backoff.specs.NineNumbers.{nine, stateIn, stateOk}
 use Rattle.backoff.specs.Runs.{SameRoom, joined, lastState}
-use Rattle.backoff.specs.OneWord.{DifferAt, distance, closerMove, OneWordMoves}
 use Rattle.backoff.specs.Store.{Store, modelIn, runOutcome}
 use Rattle.backoff.specs.declared.Verdict.the-variants.{Accepted}
 use Rattle.backoff.proofs.Rule.{length-rulePoints, length-ruleBytes}
 use Rattle.backoff.proofs.Run.{length-runPoints, length-runBytes, runEnd-is-after}
 use Rattle.backoff.proofs.Runs.{standing-written, standing-refused, equal-states-score-alike as score-alike}
 use Rattle.backoff.proofs.NineNumbers.{Bounded, stateOk-bounded, after-bounded}
-use Rattle.backoff.proofs.OneWord.{one-word-from-a-state, one-word-ends, one-word-by-the-rule}
-use Rattle.backoff.proofs.OneWordByTheRule.{one-word-closer}
 use Rattle.backoff.proofs.Store.{Whole, runOver-is, runOutcome-blind}
+use Rattle.one_word.specs.OneWord.{DifferAt, distance, closerMove, OneWordMoves}
+use Rattle.one_word.proofs.OneWord.{one-word-from-a-state, one-word-ends, one-word-by-the-rule}
+use Rattle.one_word.proofs.OneWordByTheRule.{one-word-closer}
 use Rattle.list.specs.ListModel.{modelOf}
 use Rattle.list.proofs.ListModel.{accepted-model}
 use Rattle.double_array.specs.DoubleArray.{storeIn}
 use Rattle.double_array.proofs.DoubleArray.{opened-some}
-use Rattle.build.specs.Build.{Built, buildOutcome}
+use Rattle.placed_list.specs.Build.{Built}
+use Rattle.build.specs.Build.{buildOutcome}
 use Rattle.build.proofs.Built.{build-accepted, build-holds}
 use Rattle.plain.specs.Plain.{plainOutcome}
 use Rattle.theorems.specs.RunsInARow.{arrayOf, firstState, RunsInARow}

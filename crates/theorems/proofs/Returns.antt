@@ -19,24 +19,27 @@ use Rattle.backoff.specs.declared.Verdict.the-variants.{Accepted, Refused}
 use Rattle.rows.specs.Table.{rowsOf, orderOf, words}
 use Rattle.list.specs.Check.{verdict}
 use Rattle.list.proofs.Check.{accepted-size}
+use Rattle.child_slots.specs.declared.Child.the-variants.{At}
 use Rattle.double_array.specs.DoubleArray.{orderIn}
-use Rattle.double_array.specs.declared.Child.the-variants.{At}
 use Rattle.placing.specs.Trie.{Node, findNode, Ready}
 use Rattle.placing.specs.Placing.{slots}
 use Rattle.placing.proofs.Trie.{root-found, parent-found}
 use Rattle.placing.proofs.NodeByNode.{placing-head}
 use Rattle.placing.proofs.Slots.{getD-slots}
 use Rattle.placing.proofs.Walk.{LaidOut, childIf, placing-laid-out}
-use Rattle.list_trie.specs.ListTrie.{rootOf, nodesOf, placedList, slotsFrom, rowSlots}
+use Rattle.row_nodes.specs.ListTrie.{rootOf, nodesOf}
+use Rattle.row_nodes.proofs.ListTrie.{nodeAt-root, nodes-ready}
+use Rattle.list_trie.specs.ListTrie.{placedList, slotsFrom, rowSlots}
+use Rattle.list_trie.proofs.ListTrie.{findNode-row}
+use Rattle.placed_list.proofs.Outcome.{length-slotsFrom, getD-slotsFrom}
 use Rattle.build.specs.Build.{buildOutcome}
-use Rattle.list_trie.proofs.ListTrie.{nodeAt-root, nodes-ready, findNode-row}
 use Rattle.build.proofs.Built.{built-array, built-order, built-model, built-whole, build-accepted}
-use Rattle.build.proofs.Outcome.{length-slotsFrom, getD-slotsFrom}
 use Rattle.array_nodes.specs.Nodes.{walkTo, reached, slotsOf}
-use Rattle.unload.specs.Unload.{rowsIn, Unloaded, untouched, unloadOutcome}
-use Rattle.unload.specs.Meaning.{Holds}
 use Rattle.array_nodes.proofs.Gathering.{length-slotsOf}
-use Rattle.unload.proofs.Rows.{rows-tableOf}
+use Rattle.node_rows.proofs.Rows.{rows-tableOf}
+use Rattle.node_list.specs.Listed.{rowsIn}
+use Rattle.unload.specs.Unload.{Unloaded, untouched, unloadOutcome}
+use Rattle.unload.specs.Meaning.{Holds}
 use Rattle.unload.proofs.Held.{held-table}
 use Rattle.unload.proofs.Meaning.{held-unloads, held-slot}
 use Rattle.theorems.specs.Returns.{ReturnsList}

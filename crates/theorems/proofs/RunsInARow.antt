@@ -22,7 +22,8 @@ use Rattle.list.specs.ListModel.{modelOf}
 use Rattle.list.proofs.ListModel.{accepted-model}
 use Rattle.double_array.specs.DoubleArray.{storeIn}
 use Rattle.double_array.proofs.DoubleArray.{opened-some}
-use Rattle.build.specs.Build.{Built, buildOutcome}
+use Rattle.placed_list.specs.Build.{Built}
+use Rattle.build.specs.Build.{buildOutcome}
 use Rattle.build.proofs.Built.{build-accepted, build-holds}
 use Rattle.plain.specs.Plain.{plainOutcome}
 use Rattle.theorems.specs.RunsInARow.{arrayOf, firstState, RunsInARow, endOf, EqualStatesScoreAlike}

@@ -23,7 +23,8 @@ use Rattle.backoff.proofs.Store.{Whole}
 use Rattle.list.specs.ListModel.{modelOf}
 use Rattle.double_array.specs.DoubleArray.{storeIn, opened}
 use Rattle.double_array.proofs.DoubleArray.{opened-some}
-use Rattle.build.specs.Build.{Built, buildOutcome}
+use Rattle.placed_list.specs.Build.{Built}
+use Rattle.build.specs.Build.{buildOutcome}
 use Rattle.build.proofs.Built.{build-holds}
 use Rattle.score.specs.Answers.{startedOver}
 use Rattle.sentence_order.specs.Sentences.{isThere, isOther, usable, usableWords, sentencesOf}

@@ -11,7 +11,7 @@ use Rattle.batch.specs.Sheet.{sheetOutcome}
 use Rattle.sentences.specs.Listing.{listingOutcome}
 use Rattle.largest_move.specs.Move.{moveOutcome}
 use Rattle.fragments.specs.declared.Fragment.{Fragment}
-use Rattle.fragments.specs.Outcome.{fragmentOutcome}
+use Rattle.fragment_scoring.specs.Outcome.{fragmentOutcome}
 use Rattle.joining.specs.Outcome.{joinOutcome}
 use Rattle.unload.specs.Unload.{unloadOutcome}
 

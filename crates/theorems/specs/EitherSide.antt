@@ -9,11 +9,11 @@ use Rattle.backoff.specs.Run.{Run}
 use Rattle.backoff.specs.Store.{Store, storeOf, startOutcome, runOutcome}
 use Rattle.list.specs.ListModel.{modelOf}
 use Rattle.lookup.specs.Lookup.{lookupOutcome}
-use Rattle.build.specs.Build.{Built}
+use Rattle.placed_list.specs.Build.{Built}
 use Rattle.build.specs.Listed.{listedAnswer}
 use Rattle.batch.specs.Sheet.{sheetOutcome}
 use Rattle.fragments.specs.declared.Fragment.{Fragment}
-use Rattle.fragments.specs.Outcome.{fragmentOutcome}
+use Rattle.fragment_scoring.specs.Outcome.{fragmentOutcome}
 use Rattle.joining.specs.Outcome.{joinOutcome}
 use Rattle.theorems.specs.RunsInARow.{arrayOf}
 

@@ -19,7 +19,7 @@ use Rattle.lookup.specs.declared.Lookup.{Lookup}
 use Rattle.build.specs.Build.{buildOutcome}
 use Rattle.carried_state.specs.Numbers.{numbersOf}
 use Rattle.fragments.specs.declared.Joined.{Joined}
-use Rattle.fragments.specs.Outcome.{fragmentOutcome}
+use Rattle.fragment_scoring.specs.Outcome.{fragmentOutcome}
 use Rattle.plain.specs.Plain.{plainOutcome}
 use Rattle.finer.specs.Times.{times, timesModel, timesNine, AnsweredTimes, ScoreTimes}
 use Rattle.finer.specs.FinerList.{takenOver, timesLookup}

@@ -7,8 +7,8 @@ use Prim.Native.Nat.{ℕ, _≤_}
 use lib.ListN.{length}
 use lib.IntN.{ℤ, natAbs}
 use Rattle.backoff.specs.Model.{Model}
-use Rattle.backoff.specs.OneWord.{totalMove, closerMove}
 use Rattle.backoff.specs.Store.{Store}
+use Rattle.one_word.specs.OneWord.{totalMove, closerMove}
 use Rattle.sentences.specs.Listing.{sizeRefusal}
 use Rattle.largest_move.specs.Move.{largestPair, moveOf, moveOutcome}
 use Rattle.theorems.specs.Sentences.{listedWords, listedSentences, ruleTotal}

@@ -13,10 +13,11 @@ use Rattle.backoff.specs.Store.{Store, startOutcome, runOutcome}
 use Rattle.backoff.specs.declared.Verdict.the-variants.{Accepted, Refused}
 use Rattle.list.specs.Check.{verdict}
 use Rattle.list.specs.Sample.{sample, sampleWith}
-use Rattle.double_array.specs.DoubleArray.{freeCheck}
+use Rattle.child_slots.specs.Children.{freeCheck}
 use Rattle.lookup.specs.Lookup.{lookupOutcome}
 use Rattle.lookup.specs.declared.Lookup.the-variants.{Found, NotFound}
-use Rattle.build.specs.Build.{Built, buildOutcome}
+use Rattle.placed_list.specs.Build.{Built}
+use Rattle.build.specs.Build.{buildOutcome}
 use Rattle.plain.specs.Plain.{plainOutcome}
 use Rattle.theorems.specs.RunsInARow.{arrayOf}
 

@@ -9,8 +9,8 @@ use lib.ListN.{length}
 use lib.IntN.{ℤ, pos}
 use Rattle.backoff.specs.Run.{Run, Answer}
 use Rattle.backoff.specs.Runs.{standing, flat, joined, answers, lastState, standingPoints, standingLengths, totals, SameRoom, AllAlike, ScoreAlike}
-use Rattle.backoff.specs.OneWord.{DifferAt, distance, totalMove, closerMove, OneWordMoves}
 use Rattle.backoff.specs.Store.{Store, runOutcome}
+use Rattle.one_word.specs.OneWord.{DifferAt, distance, totalMove, closerMove, OneWordMoves}
 use Rattle.theorems.specs.RunsInARow.{firstState}
 
 -- What two calls answer whose words differ at place i and that are refused by the same number, 0 for none: what stands in their slices for the words, nothing where

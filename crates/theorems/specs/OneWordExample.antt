@@ -9,8 +9,8 @@ use Rattle.integer.specs.Integer.{sum}
 use Rattle.backoff.specs.Limits.{largestBackoff}
 use Rattle.backoff.specs.Rule.{rulePoints}
 use Rattle.backoff.specs.Run.{front}
-use Rattle.backoff.specs.OneWord.{distance}
 use Rattle.backoff.specs.declared.Verdict.the-variants.{Accepted}
+use Rattle.one_word.specs.OneWord.{distance}
 use Rattle.list.specs.Check.{verdict}
 use Rattle.list.specs.ListModel.{modelOf}
 

@@ -6,7 +6,8 @@ use lib.ListN.{length, take, drop}
 use lib.IntN.{ℤ}
 use Rattle.backoff.specs.declared.Verdict.the-variants.{Accepted}
 use Rattle.rows.specs.Table.{rowsOf}
-use Rattle.build.specs.Build.{Built, buildOutcome}
+use Rattle.placed_list.specs.Build.{Built}
+use Rattle.build.specs.Build.{buildOutcome}
 use Rattle.unload.specs.Unload.{Unloaded, unloadOutcome}
 
 -- The table was built with the lent slices base, check and work; unload is lent the two arrays that the build left, and table′ and work′.

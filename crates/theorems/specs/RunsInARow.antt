@@ -16,7 +16,7 @@ use Rattle.backoff.specs.Runs.{standing, flat, joined, answers, lastState, stan
 use Rattle.backoff.specs.NineNumbers.{nine, nineZeros}
 use Rattle.backoff.specs.Store.{Store, runOutcome, startOutcome}
 use Rattle.double_array.specs.DoubleArray.{opened}
-use Rattle.build.specs.Build.{Built}
+use Rattle.placed_list.specs.Build.{Built}
 
 -- "the array that an accepted build of those rows left", as start and run are lent it
 unfoldable pub arrayOf : Built → Option Store

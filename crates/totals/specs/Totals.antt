@@ -8,7 +8,8 @@ use Rattle.backoff.specs.Refusal.{textLine}
 use Rattle.backoff.specs.declared.Verdict.{Verdict}
 use Rattle.backoff.specs.declared.Verdict.the-variants.{Accepted, Refused}
 use Rattle.list.specs.ListModel.{modelOf}
-use Rattle.build.specs.Build.{Built, buildOutcome}
+use Rattle.placed_list.specs.Build.{Built}
+use Rattle.build.specs.Build.{buildOutcome}
 use Rattle.totals_text.specs.Lines.{refusedLine}
 use Rattle.totals_list.specs.List.{linesOf, ListText, rows, notInForm, readList}
 use Rattle.totals_lines.specs.Text.{textOutput}

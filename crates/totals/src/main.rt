@@ -9,7 +9,8 @@ ghost use Prim.Native.Nat.{_+_, _<_, _≤_, _^_};
 ghost use lib.ListN.{length};
 ghost use Rattle.io.specs.Counts.{Counts};
 ghost use Rattle.carried_state.specs.Numbers.{numbersOf};
-ghost use Rattle.totals_lines.specs.Steps.{Ready, Begun};
+ghost use Rattle.totals_sentence.specs.Steps.{Ready};
+ghost use Rattle.totals_lines.specs.Steps.{Begun};
 ghost use Rattle.totals.specs.Totals.{HoldsBuilt};
 
 // The most pieces of TEXT that are read: 2^53, of up to 1,024 bytes.

@@ -11,11 +11,13 @@ use Rattle.bytes.specs.Bytes.{indexOf}
 use Rattle.backoff.specs.Refusal.{textLine}
 use Rattle.backoff.specs.Model.{Model}
 use Rattle.totals_text.specs.Lines.{isTextLine, textWords, refusedLine}
-use Rattle.totals_lines.specs.declared.Printed.{Printed}
-use Rattle.totals_lines.specs.declared.Progress.{Progress}
 use Rattle.totals_list.specs.List.{linesOf, lineEnd}
-use Rattle.totals_lines.specs.Text.{sentenceOutput, textOutput}
-use Rattle.totals_lines.specs.Steps.{lineOutput, PrintedAs, Begun, Fed}
+use Rattle.totals_sentence.specs.declared.Printed.{Printed}
+use Rattle.totals_sentence.specs.Sentence.{sentenceOutput}
+use Rattle.totals_sentence.specs.Steps.{lineOutput}
+use Rattle.totals_lines.specs.declared.Progress.{Progress}
+use Rattle.totals_lines.specs.Text.{textOutput}
+use Rattle.totals_lines.specs.Steps.{PrintedAs, Begun, Fed}
 use Rattle.totals_lines.proofs.Begun.{begun-more, begun-ends, too-long}
 
 -- the first i characters of the piece are read: what they printed stands in `out`, and the line that has begun in `line`

@@ -1,7 +1,5 @@
--- The laws of TEXT: a sentence's words, its scoring, its line, and the pieces in which TEXT is read.
+-- The laws of TEXT: a line that has begun, a line at the front of a buffer, and the pieces in which TEXT is read.
 pub mod Begun
-pub mod Scoring
 pub mod Printing
-pub mod Sentences
 pub mod Feeding
 pub mod Pieces

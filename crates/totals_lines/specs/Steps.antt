@@ -1,41 +1,20 @@
 -- What the functions over TEXT are held to. Assumes nothing.
 use mathlib.Core.Path.{_≡_}
 use mathlib.Core.Bool.{true, false, cond}
-use mathlib.Core.List.{List, [], _∷_, _++_}
+use mathlib.Core.List.{List, [], _++_}
 use Prim.Native.Nat.{ℕ, _+_, _≤_}
 use lib.Dec.{eqb}
-use lib.IntN.{ℤ}
 use lib.ListN.{length, take}
-use Rattle.backoff.specs.Limits.{endWord}
 use Rattle.backoff.specs.Refusal.{textLine}
-use Rattle.backoff.specs.Model.{Model, AcceptedModel}
-use Rattle.backoff.specs.State.{start}
-use Rattle.backoff.specs.NineNumbers.{nine}
-use Rattle.backoff.specs.Store.{isBroken}
-use Rattle.double_array.specs.DoubleArray.{isArray, storeIn}
-use Rattle.word_walk.specs.Rows.{arrayModel}
-use Rattle.totals_text.specs.Lines.{isTextLine, textWords, refusedLine}
+use Rattle.backoff.specs.Model.{Model}
+use Rattle.totals_text.specs.Lines.{isTextLine, refusedLine}
 use Rattle.totals_list.specs.List.{linesOf, lineEnd}
-use Rattle.totals_lines.specs.declared.Printed.{Printed}
+use Rattle.totals_sentence.specs.declared.Printed.{Printed}
+use Rattle.totals_sentence.specs.Steps.{lineOutput}
 use Rattle.totals_lines.specs.declared.Progress.{Progress}
-use Rattle.totals_lines.specs.Text.{sentenceOutput, textOutput}
+use Rattle.totals_lines.specs.Text.{textOutput}
 
--- the words of a sentence and the closing word
-abbrev pub Closed : List ℕ → List ℕ → Type 0
-Closed line words = isTextLine line ≡ true → take (length (textWords line) + 1) words ≡ textWords line ++ (endWord ∷ [])
-
--- arrays with no broken node, whose rows are an accepted model, and start's state over them
-pub record Ready (base check state : List ℤ) : Type 0 where
-  pub array : isArray base check ≡ true
-  pub sound : (l : List ℕ) → isBroken (storeIn base check .look l) ≡ false
-  pub rows : AcceptedModel (arrayModel base check)
-  pub state-is : state ≡ nine (start (arrayModel base check))
-
--- what a line of TEXT prints
-unfoldable pub lineOutput : Model → ℕ → List ℕ → List ℕ
-lineOutput M k line = cond (isTextLine line) (sentenceOutput M k (textWords line)) (refusedLine textLine k)
-
--- it stands in `out` behind `before`, up to `end`
+-- what a line of TEXT prints stands in `out` behind `before`, up to `end`
 pub record PrintedAs (M : Model) (k : ℕ) (line : List ℕ) (r : Printed) (before : List ℕ) (end : ℕ) (out : List ℕ) : Type 0 where
   pub accepted : r .accepted ≡ isTextLine line
   pub room : r .length ≤ 64

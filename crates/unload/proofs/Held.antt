@@ -38,15 +38,18 @@ use Rattle.list.proofs.ListModel.{accepted-model}
 use Rattle.markers.specs.Markers.{lookMarker}
 use Rattle.markers.specs.declared.Marker.{Marker}
 use Rattle.markers.specs.declared.Marker.the-variants.{Sound, Broken}
-use Rattle.double_array.specs.DoubleArray.{markerAt, childAt, past, downTo, lookFrom, lookRow, orderIn, storeIn, opened}
-use Rattle.double_array.specs.declared.Child.{Child}
-use Rattle.double_array.specs.declared.Child.the-variants.{At, Nothing}
+use Rattle.child_slots.specs.Children.{childAt}
+use Rattle.child_slots.specs.declared.Child.{Child}
+use Rattle.child_slots.specs.declared.Child.the-variants.{At, Nothing}
+use Rattle.double_array.specs.DoubleArray.{markerAt, past, downTo, lookFrom, lookRow, orderIn, storeIn, opened}
 use Rattle.double_array.proofs.DoubleArray.{opened-order, opened-some, look-row}
 use Rattle.lookup.specs.Lookup.{lookupIn, lookupOutcome}
+use Rattle.slot_numbers.specs.Numbers.{EachTwo, none as no-two, more}
 use Rattle.array_nodes.specs.Nodes.{Reached, walkTo, reached}
-use Rattle.array_nodes.specs.Gathering.{EachTwo, none as no-two, more, IsReached}
+use Rattle.array_nodes.specs.Gathering.{IsReached}
 use Rattle.array_nodes.proofs.Reached.{ByKey, walk-child, walk-slot, reached-unique}
-use Rattle.unload.specs.Unload.{isRight, reachedMarker, rowOf, tableOf, allRight, isList, rowsIn}
+use Rattle.node_rows.specs.Rows.{reachedMarker, rowOf, tableOf}
+use Rattle.node_list.specs.Listed.{isRight, allRight, isList, rowsIn}
 use Rattle.unload.specs.Meaning.{Holds, Says}
 use Rattle.unload.proofs.Agree.{runOutcome-agrees, startOutcome-agrees}
 

@@ -30,16 +30,20 @@ use Rattle.list.specs.Check.{verdict}
 use Rattle.list.specs.ListModel.{entryAt, modelOf}
 use Rattle.list.proofs.Check.{accepted-good, accepted-size, number-accepted}
 use Rattle.markers.specs.declared.Marker.the-variants.{Sound}
-use Rattle.double_array.specs.DoubleArray.{markerAt, childAt, lookFrom, lookRow, isArray, orderIn, storeIn, opened}
-use Rattle.double_array.specs.declared.Child.{Child}
-use Rattle.double_array.specs.declared.Child.the-variants.{At, Nothing}
+use Rattle.child_slots.specs.Children.{childAt}
+use Rattle.child_slots.specs.declared.Child.{Child}
+use Rattle.child_slots.specs.declared.Child.the-variants.{At, Nothing}
+use Rattle.double_array.specs.DoubleArray.{markerAt, lookFrom, lookRow, isArray, orderIn, storeIn, opened}
 use Rattle.double_array.proofs.DoubleArray.{root-sound, look-here, look-down}
 use Rattle.array_nodes.specs.Nodes.{Reached, walkTo, reached, slotsOf}
 use Rattle.array_nodes.proofs.Reached.{reached-told, reached-shown, walk-child, walk-slot}
 use Rattle.array_nodes.proofs.Gathering.{length-slotsOf, readable}
-use Rattle.unload.specs.Unload.{tableOf, allRight, rowsIn, isList, Unloaded, untouched, emptied, filled, unloadOutcome}
+use Rattle.node_rows.specs.Rows.{tableOf}
+use Rattle.node_rows.proofs.Rows.{length-tableOf, rows-tableOf, row-node, node-row}
+use Rattle.node_list.specs.Listed.{allRight, rowsIn, isList}
+use Rattle.node_list.proofs.Listed.{all-sound}
+use Rattle.unload.specs.Unload.{Unloaded, untouched, emptied, filled, unloadOutcome}
 use Rattle.unload.specs.Meaning.{Holds, Says, unloadRefusals, rowsPart, UnloadMeans}
-use Rattle.unload.proofs.Rows.{length-tableOf, rows-tableOf, row-node, node-row, all-sound}
 use Rattle.unload.proofs.Held.{held-says, held-runs-in-a-row, held-table, held-is-list}
 
 -- ---- an array whose nodes reached are a list

@@ -15,11 +15,11 @@ use Rattle.backoff.specs.declared.Verdict.the-variants.{Accepted}
 use Rattle.rows.specs.Table.{rowsOf, orderOf, words}
 use Rattle.list.specs.Check.{verdict}
 use Rattle.list.specs.ListModel.{modelOf}
+use Rattle.child_slots.specs.declared.Child.the-variants.{At}
 use Rattle.double_array.specs.DoubleArray.{isArray, orderIn, storeIn, opened}
-use Rattle.double_array.specs.declared.Child.the-variants.{At}
 use Rattle.lookup.specs.Lookup.{lookupIn, lookupOutcome}
 use Rattle.array_nodes.specs.Nodes.{walkTo}
-use Rattle.unload.specs.Unload.{rowsIn}
+use Rattle.node_list.specs.Listed.{rowsIn}
 
 -- The array holds the list t: t has the array's order n and number of rows, and of at most n words the array has what t has, on sound nodes. Of nodes
 -- of more than n words, which no lookup, start or run comes to, nothing is said.

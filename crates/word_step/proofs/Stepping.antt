@@ -24,10 +24,12 @@ use Rattle.backoff.proofs.NineNumbers.{nextFrom-bounded}
 use Rattle.markers.specs.Markers.{lookMarker}
 use Rattle.markers.specs.declared.Marker.{Marker}
 use Rattle.markers.specs.declared.Marker.the-variants.{Sound, Broken}
-use Rattle.double_array.specs.DoubleArray.{markerAt, childAt, rootChild, downTo, lookFrom, isArray, orderIn, storeIn, isChild}
-use Rattle.double_array.specs.declared.Child.{Child}
-use Rattle.double_array.specs.declared.Child.the-variants.{At, Nothing}
-use Rattle.double_array.proofs.DoubleArray.{root-sound, root-child, look-down, opened-order, child-told}
+use Rattle.child_slots.specs.Children.{childAt, rootChild, isChild}
+use Rattle.child_slots.specs.declared.Child.{Child}
+use Rattle.child_slots.specs.declared.Child.the-variants.{At, Nothing}
+use Rattle.child_slots.proofs.Children.{child-told}
+use Rattle.double_array.specs.DoubleArray.{markerAt, downTo, lookFrom, isArray, orderIn, storeIn}
+use Rattle.double_array.proofs.DoubleArray.{root-sound, root-child, look-down, opened-order}
 use Rattle.carried_state.specs.declared.Packed.{Packed}
 use Rattle.carried_state.specs.Packed.{digits, pushed, heldIn, Carries}
 use Rattle.carried_state.proofs.Digits.{length-digits, digits-pushed}

@@ -8,7 +8,7 @@ use lib.IntN.{ℤ}
 use Rattle.backoff.specs.Limits.{unknownWord}
 use Rattle.backoff.specs.Words.{isWord}
 use Rattle.backoff.specs.Store.{Step}
-use Rattle.double_array.specs.DoubleArray.{isChild, rootChild}
+use Rattle.child_slots.specs.Children.{isChild, rootChild}
 use Rattle.carried_state.specs.declared.Packed.{Packed}
 use Rattle.carried_state.specs.Packed.{pushed, Carries}
 use Rattle.word_walk.specs.declared.Walked.{Walked}

@@ -1,6 +1,6 @@
 // One word from a carried state over any lent double array: the word's answer by its walk, and the state that it leaves.
 use carried_state::Packed;
-use double_array::Child;
+use child_slots::Child;
 use word_walk::Walked;
 ghost use mathlib.Core.Path.{_≡_};
 ghost use mathlib.Core.Bool.{true};
@@ -10,7 +10,8 @@ ghost use lib.IntN.{negsuc};
 ghost use Rattle.backoff.specs.Limits.{startWord};
 ghost use Rattle.backoff.specs.State.{empty as emptyState};
 ghost use Rattle.backoff.specs.Store.{wordStep};
-ghost use Rattle.double_array.specs.DoubleArray.{freeCheck, isArray, orderIn, storeIn, isChild};
+ghost use Rattle.child_slots.specs.Children.{freeCheck, isChild};
+ghost use Rattle.double_array.specs.DoubleArray.{isArray, orderIn, storeIn};
 ghost use Rattle.carried_state.specs.Packed.{heldIn, Carries};
 ghost use Rattle.word_step.specs.Inner.{replaced, kindOf, Answerable, answered, SteppedTo};
 
@@ -48,7 +49,7 @@ pub fn replaced(check: &[i32], w: u32) -> u32
     requires { ⌜ getD (now check) 1 freeCheck ≡ negsuc 0 ⌝ }
     ensures { λ r. ⌜ r ≡ replaced (now (check .entry)) w ⌝ }
 {
-    let child = double_array::root_child(check, w);
+    let child = child_slots::root_child(check, w);
     let known = is_child(child) as u32;
     w * known + (1 - known)
 }
@@ -100,7 +101,7 @@ pub fn begin(base: &[i32], check: &[i32], order: usize, backoffs: &mut [i32; 5])
     ensures { λ r. ⌜ SteppedTo order (wordStep (storeIn (now (base .entry)) (now (check .entry))) emptyState startWord) r (now (backoffs .exit)) ⌝ }
 {
     let word = replaced(check, backoff::START_WORD);
-    let Child::At(slot) = double_array::root_child(check, word) else {
+    let Child::At(slot) = child_slots::root_child(check, word) else {
         return Stepped::Refused;
     };
     let walked = word_walk::walk_alone(base, check, order, slot, backoffs);
@@ -121,7 +122,7 @@ pub fn step(
     requires { ⌜ Carries order carried (now backoffs) ⌝ }
     ensures { λ r. ⌜ ((w : ℕ) → word ≡ replaced (now (check .entry)) w → SteppedTo order (wordStep (storeIn (now (base .entry)) (now (check .entry))) (heldIn carried (now (backoffs .entry))) w) r (now (backoffs .exit))) ⌝ }
 {
-    let Child::At(slot) = double_array::root_child(check, word) else {
+    let Child::At(slot) = child_slots::root_child(check, word) else {
         return Stepped::Refused;
     };
     let reached = word_walk::walk(base, check, slot, carried, backoffs);

@@ -8,8 +8,9 @@ use lib.ListN.{length}
 use lib.IntN.{ℤ, pos}
 use Rattle.backoff.specs.State.{empty}
 use Rattle.markers.specs.declared.Marker.{Marker}
-use Rattle.double_array.specs.DoubleArray.{markerAt, childAt, isArray, storeIn}
-use Rattle.double_array.specs.declared.Child.the-variants.{At}
+use Rattle.child_slots.specs.Children.{childAt}
+use Rattle.child_slots.specs.declared.Child.the-variants.{At}
+use Rattle.double_array.specs.DoubleArray.{markerAt, isArray, storeIn}
 use Rattle.double_array.proofs.DoubleArray.{opened-order}
 use Rattle.word_walk.specs.declared.Kept.{Kept}
 use Rattle.word_walk.specs.Walk.{endedAt, storedAt, WalkedOver}

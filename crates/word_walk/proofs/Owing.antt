@@ -8,8 +8,8 @@ use native.Mathlib.Omega.{arith}
 use lib.ListN.{length, take, drop, getD, set, length-set}
 use lib.Seq.{drop-cons, take-suc-set, take-set-le, drop-set-lt, length-take-le, getD-take}
 use lib.IntN.{ℤ, pos, natAbs, _+ℤ_, _-ℤ_, +ℤ-idr}
-use mir.Syntax.{w32}
-use mir.Val.{SFits}
+use mir.Syntax.{w32, w64}
+use mir.Val.{Fits, SFits}
 use Rattle.integer.specs.Integer.{sum}
 use Rattle.integer.proofs.Arithmetic.{zarith, abs, add, sub}
 use Rattle.integer.proofs.Parts.{drop-more}
@@ -41,6 +41,17 @@ owing-begins count given owed e = record {
   kept-few = omega arith;
   kept-owed = refl;
 }
+
+-- a sum of few back-offs fits
+pub size-fits : {n : ℕ} (z : ℤ) → natAbs z ≤ n * largestBackoff → n ≤ 5 → SFits w32 z
+size-fits z h k = omega (zarith, abs z)
+
+-- a place among the state's back-offs, and the one behind it
+pub below-five : {j k : ℕ} → j < k → k ≤ 4 → j < 5
+below-five h k = omega arith
+
+pub next-fits : {j : ℕ} → j < 5 → Fits w64 (j + 1)
+next-fits h = omega arith
 
 module _ (count : ℕ) (given : List ℤ) (passed : ℕ) (kept : Kept) (total owed : ℤ) (backoffs : List ℤ) (o : Owing count given passed kept total owed backoffs) (inside : passed < length given) where
   -- the next item is still the state's

@@ -13,10 +13,12 @@ use Rattle.backoff.specs.Store.{Look, absent, broken, here, Store, entryOf, isB
 use Rattle.markers.specs.Markers.{lookMarker}
 use Rattle.markers.specs.declared.Marker.{Marker}
 use Rattle.markers.specs.declared.Marker.the-variants.{Sound, Broken}
-use Rattle.double_array.specs.DoubleArray.{markerAt, childAt, past, downTo, lookFrom, storeIn, lookRow}
-use Rattle.double_array.specs.declared.Child.{Child}
-use Rattle.double_array.specs.declared.Child.the-variants.{At, Nothing}
-use Rattle.double_array.proofs.DoubleArray.{marker-in-range, child-told}
+use Rattle.child_slots.specs.Children.{childAt}
+use Rattle.child_slots.specs.declared.Child.{Child}
+use Rattle.child_slots.specs.declared.Child.the-variants.{At, Nothing}
+use Rattle.child_slots.proofs.Children.{child-told}
+use Rattle.double_array.specs.DoubleArray.{markerAt, past, downTo, lookFrom, storeIn, lookRow}
+use Rattle.double_array.proofs.DoubleArray.{marker-in-range}
 use Rattle.word_walk.specs.Rows.{arrayModel, InRange}
 
 module _ (S : Store) (l : List ℕ) where

@@ -18,8 +18,9 @@ use Rattle.backoff.specs.State.{largest, backoffsOf, liveLength, walk, pointsFr
 use Rattle.backoff.specs.Store.{absent, broken, here, Store, isBroken, modelIn, endsBroken}
 use Rattle.backoff.proofs.Climb.{climb-stops, largest-here, largest-down}
 use Rattle.markers.specs.declared.Marker.the-variants.{Sound, Broken}
-use Rattle.double_array.specs.DoubleArray.{markerAt, childAt, lookFrom, isArray, orderIn, storeIn}
-use Rattle.double_array.specs.declared.Child.the-variants.{At, Nothing}
+use Rattle.child_slots.specs.Children.{childAt}
+use Rattle.child_slots.specs.declared.Child.the-variants.{At, Nothing}
+use Rattle.double_array.specs.DoubleArray.{markerAt, lookFrom, isArray, orderIn, storeIn}
 use Rattle.double_array.proofs.DoubleArray.{own-told, marker-own, root-sound, look-here, look-down, look-broken}
 use Rattle.carried_state.specs.Packed.{Owes}
 use Rattle.word_walk.specs.declared.Kept.{Kept}

@@ -1,6 +1,6 @@
 // The walk of a word through a state's words over any lent double array.
 use carried_state::Packed;
-use double_array::Child;
+use child_slots::Child;
 use markers::Marker;
 ghost use mathlib.Core.Path.{_≡_};
 ghost use mathlib.Core.Bool.{true, false};
@@ -12,7 +12,8 @@ ghost use Rattle.backoff.specs.Words.{radix};
 ghost use Rattle.backoff.specs.State.{State as Carried, empty as emptyState};
 ghost use Rattle.backoff.specs.Store.{isBroken};
 ghost use Rattle.markers.specs.Markers.{lookMarker};
-ghost use Rattle.double_array.specs.DoubleArray.{keptMarker, childAt, isArray, orderIn, storeIn};
+ghost use Rattle.child_slots.specs.Children.{childAt};
+ghost use Rattle.double_array.specs.DoubleArray.{keptMarker, isArray, orderIn, storeIn};
 ghost use Rattle.carried_state.specs.Packed.{heldIn, Carries};
 ghost use Rattle.word_walk.specs.Rows.{InRange};
 ghost use Rattle.word_walk.specs.Walk.{longestLive, endedAt, storedAt, WalkedOver, Readable, ReachedOver};
@@ -75,7 +76,7 @@ fn next_node(base: &[i32], check: &[i32], s: usize, older: u64) -> Child
     ensures { λ r. ⌜ r ≡ childAt (now (base .entry)) (now (check .entry)) s (older % radix) ⌝ }
 {
     let d = base[s] as usize;
-    double_array::beside_marker(check, s, d, (older % backoff::RADIX) as usize)
+    child_slots::beside_marker(check, s, d, (older % backoff::RADIX) as usize)
 }
 
 // The end of a walk at a node with this marker, once `passed` of the state's words are passed: `owed` is the sum of the state's back-offs that are left, `sum` that

@@ -7,7 +7,7 @@ use borrow.Author.Needs.{needs}
 use Rattle.text_parts.specs.Parts.{parts}
 use Rattle.arpa_sections.specs.Sections.{unread}
 use Rattle.arpa_lines.specs.Reading.{readLines}
-use Rattle.arpa.specs.Held.{LinesHeld, Concluded}
+use Rattle.arpa_reading.specs.Held.{LinesHeld, Concluded}
 use Rattle.arpa.proofs.Answers.{lines-here, lines-length, lines-store-length, lines-sized, leaves-refused, leaves-read}
 use Rattle.arpa.proofs.Meaning.{read-means}
 use Rattle.arpa.proofs.read_arpa.Statement.{statement}

@@ -1,5 +1,5 @@
 -- Each way through the refusals, in their order, is that of the outcome.
-use mathlib.Core.Path.{_≡_, sym, _∙_}
+use mathlib.Core.Path.{_≡_, refl, sym, _∙_}
 use mathlib.Core.Bool.{Bool, true, false, _&&_}
 use mathlib.Core.Logic.{⊎-elim}
 use Prim.Native.Nat.{ℕ}
@@ -11,9 +11,9 @@ use borrow.Author.Needs.{needs}
 use borrow.Author.Tests.{ltb-true, ltb-false, le-leb, lt-leb, not-true, not-false}
 use Rattle.integer.proofs.Arithmetic.{and-no}
 use Rattle.integer.proofs.Ranges.{and-both}
-use Rattle.double_array.specs.DoubleArray.{sizesOk}
 use Rattle.rows.specs.Table.{rowsOf}
 use Rattle.list.specs.Check.{tableFits}
+use Rattle.double_array.specs.DoubleArray.{sizesOk}
 use Rattle.build.proofs.Outcome.{outcome-table, outcome-sizes, outcome-checked}
 use Rattle.build.proofs.Meaning.{answers}
 use Rattle.build.proofs.build.Statement.{statement}
@@ -40,10 +40,10 @@ sizes-ok-requires : tie.Need-sizes-ok-requires
 sizes-ok-requires c κs = search needs
 
 same-length : tie.Need-same-length
-same-length c = search needs
+same-length c = refl
 
 same-length-2 : tie.Need-same-length-2
-same-length-2 c = search needs
+same-length-2 c = refl
 
 abbrev sizes : tie.After-sizes-ok → Bool
 sizes c = sizesOk (now (start c .args .base)) (now (start c .args .check))
@@ -80,7 +80,7 @@ returns-2 c =
     (⊎-elim (λ v. bad-sizes (record { before = k; if2 = v })) (λ v. short-work (record { before = record { before = k; if2 = v .0 }; if3 = v .1 })) (c .if2 .came)))
 
 slice-relend-prefix-check-and-place : tie.Need-slice-relend-prefix-check-and-place
-slice-relend-prefix-check-and-place c = search needs
+slice-relend-prefix-check-and-place c = ltb-false _ _ (c .before .before .if3 .left)
 
 slice-aggregate-check-and-place : tie.Need-slice-aggregate-check-and-place
 slice-aggregate-check-and-place c = sym (length-take-le _ _ (ltb-false _ _ (c .before .before .before .if3 .left)))
@@ -93,10 +93,10 @@ check-and-place-requires c κs =
     (fits (passed k), sym (k .sizes-ok .ensures) ∙ not-false _ (e .before .if2 .left), length-take-le _ _ (ltb-false _ _ (e .if3 .left)))
 
 same-length-3 : tie.Need-same-length-3
-same-length-3 c = search needs
+same-length-3 c = c .before .before .before .before .check-and-place .kept .1 .0
 
 same-length-4 : tie.Need-same-length-4
-same-length-4 c = search needs
+same-length-4 c = c .before .before .before .before .check-and-place .kept .1 .1 .0
 
 same-length-5 : tie.Need-same-length-5
 same-length-5 c = search needs

@@ -6,7 +6,6 @@ use Prim.Native.Nat.{ℕ, _≤_}
 use native.Mathlib.Omega.{arith}
 use lib.ListN.{length, take, drop, replicate}
 use denote.Ref.{now}
-use borrow.Author.Needs.{needs}
 use Rattle.backoff.specs.Limits.{rowLimit}
 use Rattle.backoff.specs.declared.Verdict.the-variants.{Accepted}
 use Rattle.rows.specs.Table.{rowsOf}
@@ -14,7 +13,7 @@ use Rattle.list.specs.Check.{verdict}
 use Rattle.list.specs.ListModel.{continuedIn}
 use Rattle.list.proofs.Check.{fitting-table}
 use Rattle.list.proofs.Marks.{lent-none, lent-fit, lent-length, back-fit, back}
-use Rattle.build.specs.Steps.{Passed}
+use Rattle.placed_list.specs.Steps.{Passed}
 use Rattle.build.proofs.Outcome.{outcome-rows}
 use Rattle.build.proofs.check_and_place.Statement.{statement}
 use Rattle.build.proofs.check_and_place.Tie as tie
@@ -36,10 +35,10 @@ check-and-mark-requires : tie.Need-check-and-mark-requires
 check-and-mark-requires c κs = lent-none (rows (c .before .before)) rowLimit
 
 enum-told : tie.Need-enum-told
-enum-told c = search needs
+enum-told c = c .match .keys1
 
 enum-told-2 : tie.Need-enum-told-2
-enum-told-2 c = search needs
+enum-told-2 c = c .match .keys2
 
 returns : tie.Need-returns
 returns c = let m = c .before .before .before in outcome-rows _ _ _ _ (m .check-and-mark .ensures .0) (c .enum-told2 .given .1)
@@ -51,16 +50,20 @@ start m = m .before .before .before
 abbrev marks : tie.After-check-and-mark → List Bool
 marks m = m .check-and-mark .last .1 .1 .0
 
+-- they are as many as were lent
+kept : (m : tie.After-check-and-mark) → length (marks m) ≡ length (take (rows (start m)) (replicate rowLimit false))
+kept m = m .check-and-mark .kept .1 .1 .0
+
 many : (m : tie.After-check-and-mark) → length (marks m) ≡ rows (start m)
-many m = m .check-and-mark .kept .1 .1 .0 ∙ lent-length (rows (start m)) rowLimit (few (start m))
+many m = kept m ∙ lent-length (rows (start m)) rowLimit (few (start m))
 
 left : (m : tie.After-check-and-mark) → take (rows (start m)) (marks m ++ drop (rows (start m)) (replicate rowLimit false)) ≡ marks m
-left m = back (rows (start m)) rowLimit (few (start m)) (marks m) (m .check-and-mark .kept .1 .1 .0)
+left m = back (rows (start m)) rowLimit (few (start m)) (marks m) (kept m)
 
 array-share-prefix-marks : tie.Need-array-share-prefix-marks
 array-share-prefix-marks c =
     let m = c .before .before .before .before .before in
-    back-fit (rows (start m)) rowLimit (few (start m)) (marks m) (m .check-and-mark .kept .1 .1 .0)
+    back-fit (rows (start m)) rowLimit (few (start m)) (marks m) (kept m)
 
 slice-aggregate-place-list : tie.Need-slice-aggregate-place-list
 slice-aggregate-place-list c = let m = c .before .before .before .before .before .before in sym (ap length (left m) ∙ many m)
@@ -79,13 +82,13 @@ place-list-requires c κs =
     (record { accepted = accepted e; sizes = s .pre .1; each = s .pre .2; flags = record { each = each; mark = λ j l. m .check-and-mark .ensures .1 (e .enum-told .given .1) j l (omega (arith, each)) } })
 
 same-length : tie.Need-same-length
-same-length c = search needs
+same-length c = c .before .before .before .before .place-list .kept .1 .0
 
 same-length-2 : tie.Need-same-length-2
-same-length-2 c = search needs
+same-length-2 c = c .before .before .before .before .place-list .kept .1 .1 .0
 
 same-length-3 : tie.Need-same-length-3
-same-length-3 c = search needs
+same-length-3 c = c .before .before .before .before .place-list .kept .1 .1 .1 .1 .0
 
 returns-2 : tie.Need-returns-2
 returns-2 c = let p = c .before .before .before .before in rw (accepted (p .before .before .before .before .before)) (p .place-list .ensures)

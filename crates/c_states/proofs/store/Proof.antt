@@ -1,75 +1,76 @@
 -- `c_states::store` meets its contract: nine stores in a slice of nine. Assumes nothing.
 use mathlib.Core.Path.{_≡_, sym, ap₂, _∙_}
 use mathlib.Core.List.{List, [], _∷_, _++_}
-use native.Mathlib.Omega.{arith}
 use lib.IntN.{ℤ}
-use lib.ListN.{length, length-set}
+use lib.Dec.{lit<}
+use lib.ListN.{length}
+use lib.Seq.{length-sets}
 use Rattle.integer.proofs.Stores.{sets-whole}
 use Rattle.carried_state.specs.Numbers.{numbersOf}
-use Rattle.c_states.proofs.Items.{items-drop, equal-nine, read-back}
-use borrow.Author.Needs.{needs}
+use Rattle.c_states.proofs.Items.{items-drop, equal-nine, read-back, in-nine}
+use borrow.Author.Needs.{length-unmapped}
 use Rattle.c_states.proofs.store.Statement.{statement}
 use Rattle.c_states.proofs.store.Tie as tie
 
 slice-set-from-count : tie.Need-slice-set-from-count
-slice-set-from-count c = search needs
+slice-set-from-count c = in-nine (c .before .before .before .args .numbers .now) (c .before .before .before .pre) [] (lit< tt)
 
 array-copy-out-numbers : tie.Need-array-copy-out-numbers
-array-copy-out-numbers c = search needs
+array-copy-out-numbers c = lit< tt
 
 slice-set-from-numbers : tie.Need-slice-set-from-numbers
-slice-set-from-numbers c = search needs
+slice-set-from-numbers c = in-nine (c .before .before .before .before .args .numbers .now) (c .before .before .before .before .pre) (_ ∷ []) (lit< tt)
 
 array-copy-out-numbers-2 : tie.Need-array-copy-out-numbers-2
-array-copy-out-numbers-2 c = search needs
+array-copy-out-numbers-2 c = lit< tt
 
 slice-set-from-numbers-2 : tie.Need-slice-set-from-numbers-2
-slice-set-from-numbers-2 c = search needs
+slice-set-from-numbers-2 c = in-nine (c .before .before .before .before .before .args .numbers .now) (c .before .before .before .before .before .pre) (_ ∷ _ ∷ []) (lit< tt)
 
 array-copy-out-numbers-3 : tie.Need-array-copy-out-numbers-3
-array-copy-out-numbers-3 c = search needs
+array-copy-out-numbers-3 c = lit< tt
 
 slice-set-from-numbers-3 : tie.Need-slice-set-from-numbers-3
-slice-set-from-numbers-3 c = simp length-set (omega arith)
+slice-set-from-numbers-3 c = in-nine (c .before .before .before .before .before .before .args .numbers .now) (c .before .before .before .before .before .before .pre) (_ ∷ _ ∷ _ ∷ []) (lit< tt)
 
 array-copy-out-numbers-4 : tie.Need-array-copy-out-numbers-4
-array-copy-out-numbers-4 c = search needs
+array-copy-out-numbers-4 c = lit< tt
 
 slice-set-from-numbers-4 : tie.Need-slice-set-from-numbers-4
-slice-set-from-numbers-4 c = simp length-set (omega arith)
+slice-set-from-numbers-4 c = in-nine (c .before .before .before .before .before .before .before .args .numbers .now) (c .before .before .before .before .before .before .before .pre) (_ ∷ _ ∷ _ ∷ _ ∷ []) (lit< tt)
 
 array-copy-out-numbers-5 : tie.Need-array-copy-out-numbers-5
-array-copy-out-numbers-5 c = search needs
+array-copy-out-numbers-5 c = lit< tt
 
 slice-set-from-numbers-5 : tie.Need-slice-set-from-numbers-5
-slice-set-from-numbers-5 c = simp length-set (omega arith)
+slice-set-from-numbers-5 c = in-nine (c .before .before .before .before .before .before .before .before .args .numbers .now) (c .before .before .before .before .before .before .before .before .pre) (_ ∷ _ ∷ _ ∷ _ ∷ _ ∷ []) (lit< tt)
 
 array-copy-out-numbers-6 : tie.Need-array-copy-out-numbers-6
-array-copy-out-numbers-6 c = search needs
+array-copy-out-numbers-6 c = lit< tt
 
 slice-set-from-numbers-6 : tie.Need-slice-set-from-numbers-6
-slice-set-from-numbers-6 c = simp length-set (omega arith)
+slice-set-from-numbers-6 c = in-nine (c .before .before .before .before .before .before .before .before .before .args .numbers .now) (c .before .before .before .before .before .before .before .before .before .pre) (_ ∷ _ ∷ _ ∷ _ ∷ _ ∷ _ ∷ []) (lit< tt)
 
 array-copy-out-numbers-7 : tie.Need-array-copy-out-numbers-7
-array-copy-out-numbers-7 c = search needs
+array-copy-out-numbers-7 c = lit< tt
 
 slice-set-from-numbers-7 : tie.Need-slice-set-from-numbers-7
-slice-set-from-numbers-7 c = simp length-set (omega arith)
+slice-set-from-numbers-7 c = in-nine (c .before .before .before .before .before .before .before .before .before .before .args .numbers .now) (c .before .before .before .before .before .before .before .before .before .before .pre) (_ ∷ _ ∷ _ ∷ _ ∷ _ ∷ _ ∷ _ ∷ []) (lit< tt)
 
 array-copy-out-numbers-8 : tie.Need-array-copy-out-numbers-8
-array-copy-out-numbers-8 c = search needs
+array-copy-out-numbers-8 c = lit< tt
 
 slice-set-from-numbers-8 : tie.Need-slice-set-from-numbers-8
-slice-set-from-numbers-8 c = simp length-set (omega arith)
+slice-set-from-numbers-8 c = in-nine (c .before .before .before .before .before .before .before .before .before .before .before .args .numbers .now) (c .before .before .before .before .before .before .before .before .before .before .before .pre) (_ ∷ _ ∷ _ ∷ _ ∷ _ ∷ _ ∷ _ ∷ _ ∷ []) (lit< tt)
 
 same-length : tie.Need-same-length
-same-length c = simp length-set
+same-length c = length-sets (c .before .before .before .before .before .before .before .before .before .before .before .args .numbers .now) 0 (_ ∷ _ ∷ _ ∷ _ ∷ _ ∷ _ ∷ _ ∷ _ ∷ _ ∷ [])
 
 four-words : (s : tie.Start) → length (s .args .state .words) ≡ 4
-four-words s = search needs
+four-words s = length-unmapped ℤ (s .args .state .words) 4 (s .good .0 .1 .1 .1 .0 .1 .0 .1)
 
 four-backoffs : (s : tie.Start) → length (s .args .state .backoffs) ≡ 4
-four-backoffs s = search needs
+four-backoffs s = length-unmapped ℤ (s .args .state .backoffs) 4 (s .good .0 .1 .1 .1 .1 .0 .1 .0 .1)
 
 returns : tie.Need-returns
 unfolding numbersOf
@@ -79,7 +80,7 @@ returns c =
     let backoffs = s .args .state .backoffs in
     sets-whole (s .args .numbers .now) (_ ∷ _ ∷ _ ∷ _ ∷ _ ∷ _ ∷ _ ∷ _ ∷ _ ∷ []) (sym (s .pre))
     ∙ equal-nine
-    (search needs)
+    (read-back (s .good .0 .1 .1 .0 .1))
     (read-back (c .before .before .before .before .before .before .before .numbers .given))
     (read-back (c .before .before .before .before .before .before .numbers2 .given))
     (read-back (c .before .before .before .before .before .numbers3 .given))

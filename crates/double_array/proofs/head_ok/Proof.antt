@@ -11,9 +11,10 @@ use mir.Facts.{toZ-ofZ, sfits-lit}
 use Rattle.integer.proofs.Arithmetic.{bits-test}
 use Rattle.integer.specs.Integer.{eqZ, between}
 use Rattle.backoff.specs.Limits.{orderLimit, rowLimit}
-use Rattle.double_array.specs.DoubleArray.{freeCheck, headCheck, orderOk, headOk}
+use Rattle.child_slots.specs.Children.{freeCheck}
+use Rattle.double_array.specs.DoubleArray.{headCheck, orderOk, headOk}
 use borrow.Author.Needs.{needs, sfits-of}
-use Rattle.double_array.proofs.Items.{getD-inside}
+use Rattle.integer.proofs.Items.{getD-inside}
 use Rattle.double_array.proofs.head_ok.Statement.{statement}
 use Rattle.double_array.proofs.head_ok.Tie as tie
 

@@ -10,8 +10,9 @@ use mir.Syntax.{w32}
 use mir.Val.{SFits, toZ, ofZ}
 use mir.Facts.{toZ-ofZ}
 use Rattle.integer.proofs.Arithmetic.{zarith, to-nat, abs}
-use Rattle.double_array.specs.DoubleArray.{freeCheck, keptMarker}
-use Rattle.double_array.proofs.Items.{getD-inside}
+use Rattle.integer.proofs.Items.{getD-inside}
+use Rattle.child_slots.specs.Children.{freeCheck}
+use Rattle.double_array.specs.DoubleArray.{keptMarker}
 use borrow.Author.Needs.{needs, sfits-of}
 use Rattle.double_array.proofs.kept_marker.Statement.{statement}
 use Rattle.double_array.proofs.kept_marker.Tie as tie

@@ -7,8 +7,9 @@ use mir.Syntax.{w32}
 use mir.Val.{SFits}
 use mir.Facts.{toZ-ofZ}
 use Rattle.integer.proofs.Arithmetic.{zarith, sub, abs, fit, to-nat}
-use Rattle.double_array.specs.DoubleArray.{freeCheck, headOffset, headCheck, orderIn}
-use Rattle.double_array.proofs.Items.{getD-inside}
+use Rattle.integer.proofs.Items.{getD-inside}
+use Rattle.child_slots.specs.Children.{freeCheck}
+use Rattle.double_array.specs.DoubleArray.{headOffset, headCheck, orderIn}
 use Rattle.double_array.proofs.DoubleArray.{order-told}
 use Rattle.double_array.proofs.order_of.Statement.{statement}
 use Rattle.double_array.proofs.order_of.Tie as tie

@@ -9,8 +9,8 @@ use denote.Ref.{now}
 use borrow.Author.Needs.{needs}
 use borrow.Author.Tests.{not-true, not-false}
 use Rattle.backoff.specs.Limits.{wordLimit, slotLimit}
-use Rattle.double_array.specs.DoubleArray.{childSlot}
 use Rattle.rows.specs.Table.{rowsOf}
+use Rattle.child_slots.specs.Children.{childSlot}
 use Rattle.placing.specs.Placing.{Room, isFree, isOpen, allOpen, fits}
 use Rattle.placing.proofs.FirstFit.{open-yes, open-taken, sideAt, fits-yes, d-taken, sides-taken}
 use Rattle.free_slots.specs.Chain.{nextFree, Linked}

@@ -6,9 +6,9 @@ use lib.ListN.{length}
 use denote.Ref.{now}
 use borrow.Author.Needs.{needs}
 use Rattle.backoff.specs.Limits.{wordLimit, slotLimit}
-use Rattle.double_array.specs.DoubleArray.{childSlot}
-use Rattle.double_array.proofs.DoubleArray.{child-slot-high}
 use Rattle.rows.specs.Table.{rowsOf, field, wordOf}
+use Rattle.child_slots.specs.Children.{childSlot}
+use Rattle.child_slots.proofs.Children.{child-slot-high}
 use Rattle.first_fit.proofs.OldestWords.{Giving, giving-none, giving-next, giving-end}
 use Rattle.first_fit.proofs.give_slots.Statement.{statement}
 use Rattle.first_fit.proofs.give_slots.Tie as tie

@@ -11,8 +11,8 @@ use mir.Val.{toZ, ofZ}
 use mir.Facts.{toZ-ofZ, toZ-pos}
 use borrow.Author.Needs.{needs, sfits-of}
 use Rattle.backoff.specs.Limits.{slotLimit}
-use Rattle.double_array.specs.DoubleArray.{childSlot}
 use Rattle.rows.specs.Table.{rowsOf, field, wordOf}
+use Rattle.child_slots.specs.Children.{childSlot}
 use Rattle.placing.specs.Placing.{Room, isFree, update, own}
 use Rattle.placing.proofs.Rooms.{update-other, reach-top}
 use Rattle.free_slots.specs.Chain.{Linked}

@@ -1,7 +1,7 @@
 -- `grader::backoff_arpa` meets its contract: its numbers are those of the reading's outcome. Assumes nothing.
 use borrow.Author.Needs.{needs}
 use mathlib.Core.Path.{ap, _∙_}
-use Rattle.arpa.specs.Outcome.{readNumber, rowCount, readPlace}
+use Rattle.arpa_reading.specs.Outcome.{readNumber, rowCount, readPlace}
 use Rattle.grader.proofs.backoff_arpa.Statement.{statement}
 use Rattle.grader.proofs.backoff_arpa.Tie as tie
 

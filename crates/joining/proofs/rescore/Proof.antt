@@ -8,7 +8,7 @@ use Rattle.backoff.specs.Store.{runOver}
 use Rattle.double_array.specs.DoubleArray.{storeIn}
 use Rattle.carried_state.specs.Numbers.{numbersOf}
 use Rattle.carried_state.proofs.Carried.{zeros-ok}
-use Rattle.fragments.proofs.Summed.{summed-empty}
+use Rattle.fragment_scoring.proofs.Summed.{summed-empty}
 use Rattle.joining.proofs.Rescoring.{rescored-as}
 use borrow.Author.Needs.{needs, sfits-of}
 use Rattle.joining.proofs.rescore.Statement.{statement}

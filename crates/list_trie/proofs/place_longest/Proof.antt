@@ -15,9 +15,9 @@ use Rattle.rows.specs.Table.{rowsOf, probabilityAt, lengthOf, orderOf}
 use Rattle.rows.proofs.Table.{row-in}
 use Rattle.list.proofs.Check.{accepted-row}
 use Rattle.markers.specs.Markers.{markerCheck}
-use Rattle.list_trie.specs.Steps.{placedNodes, Filled}
+use Rattle.row_nodes.specs.Steps.{placedNodes, Filled}
+use Rattle.row_nodes.proofs.Turn.{filled-base, row-held, row-taken, row-bare, row-top}
 use Rattle.list_trie.proofs.RowLengths.{longest-row}
-use Rattle.list_trie.proofs.Turn.{filled-base, row-held, row-taken, row-bare, row-top}
 use Rattle.list_trie.proofs.NodeByNode.{all-placed}
 use Rattle.list_trie.proofs.place_longest.Statement.{statement}
 use Rattle.list_trie.proofs.place_longest.Tie as tie

@@ -1,11 +1,12 @@
 -- The rows are placed where the root is; where it has no room, the list has none.
+use mathlib.Core.Path.{_∙_}
 use Prim.Native.Nat.{_≤_}
 use native.Mathlib.Omega.{arith}
 use lib.ListN.{length}
 use denote.Ref.{now}
 use borrow.Author.Needs.{needs}
-use Rattle.list_trie.specs.Steps.{placedNodes, Filled}
-use Rattle.list_trie.proofs.Turn.{filled-check, filled-here}
+use Rattle.row_nodes.specs.Steps.{placedNodes, Filled}
+use Rattle.row_nodes.proofs.Turn.{filled-check, filled-here}
 use Rattle.list_trie.proofs.NodeByNode.{over-refused}
 use Rattle.list_trie.proofs.place_nodes.Statement.{statement}
 use Rattle.list_trie.proofs.place_nodes.Tie as tie
@@ -14,13 +15,13 @@ place-root-requires : tie.Need-place-root-requires
 place-root-requires c κs = search needs
 
 same-length : tie.Need-same-length
-same-length c = search needs
+same-length c = c .before .before .before .before .before .place-root .kept .1 .0
 
 same-length-2 : tie.Need-same-length-2
-same-length-2 c = search needs
+same-length-2 c = c .before .before .before .before .before .place-root .kept .1 .1 .0
 
 same-length-3 : tie.Need-same-length-3
-same-length-3 c = search needs
+same-length-3 c = c .before .before .before .before .before .place-root .kept .1 .1 .1 .0
 
 returns : tie.Need-returns
 returns c = let r = c .before .before .before .before .before in over-refused 1 (omega (arith, c .if1 .taken, r .place-root .kept .1 .1 .0)) (r .place-root .ensures)
@@ -49,13 +50,13 @@ place-rows-requires c κs =
     ((start e .pre .0 .0, rw (b .before .order-of .ensures .0) at (b .rows-below .ensures), omega (arith, room e, r .place-root .ensures .answer), start e .pre .0 .1), filled-here (placed e))
 
 same-length-4 : tie.Need-same-length-4
-same-length-4 c = search needs
+same-length-4 c = let r = c .before .before .before .before in r .place-rows .kept .1 .1 .0 ∙ r .before .before .before .before .before .before .before .before .before .before .before .place-root .kept .1 .0
 
 same-length-5 : tie.Need-same-length-5
-same-length-5 c = search needs
+same-length-5 c = let r = c .before .before .before .before in r .place-rows .kept .1 .1 .1 .0 ∙ r .before .before .before .before .before .before .before .before .before .before .before .place-root .kept .1 .1 .0
 
 same-length-6 : tie.Need-same-length-6
-same-length-6 c = search needs
+same-length-6 c = let r = c .before .before .before .before in r .place-rows .kept .1 .1 .1 .1 .1 .0 ∙ r .before .before .before .before .before .before .before .before .before .before .before .place-root .kept .1 .1 .1 .0
 
 returns-2 : tie.Need-returns-2
 returns-2 c =

@@ -9,13 +9,13 @@ use lib.ListN.{length}
 use denote.Ref.{now}
 use borrow.Author.Needs.{needs}
 use Rattle.rows.specs.Table.{rowsOf}
-use Rattle.extensions.specs.Stretch.{ChildrenFrom}
 use Rattle.rows.proofs.Table.{row-in}
 use Rattle.list.proofs.Check.{accepted-good}
+use Rattle.extensions.specs.Stretch.{ChildrenFrom}
 use Rattle.extensions.proofs.Stretches.{children-first, children-next}
 use Rattle.placing.specs.Placing.{Placed}
-use Rattle.list_trie.specs.Steps.{placedNodes, Filled, Tried}
-use Rattle.list_trie.proofs.Turn.{filled-base, filled-check, filled-here}
+use Rattle.row_nodes.specs.Steps.{placedNodes, Filled, Tried}
+use Rattle.row_nodes.proofs.Turn.{filled-base, filled-check, filled-here}
 use Rattle.list_trie.proofs.NodeByNode.{over-refused}
 use Rattle.list_trie.proofs.place_rows.Statement.{statement}
 use Rattle.list_trie.proofs.place_rows.Tie as tie

@@ -13,10 +13,12 @@ use Rattle.backoff.specs.Store.{Look}
 use Rattle.markers.specs.Markers.{lookMarker}
 use Rattle.markers.specs.declared.Marker.{Marker}
 use Rattle.markers.specs.declared.Marker.the-variants.{Sound, Broken}
-use Rattle.double_array.specs.DoubleArray.{markerAt, childAt, downTo, lookFrom}
-use Rattle.double_array.specs.declared.Child.{Child}
-use Rattle.double_array.specs.declared.Child.the-variants.{At, Nothing}
-use Rattle.double_array.proofs.DoubleArray.{marker-kept, Sizes, opened-sizes, opened-head, root-sound, root-child, child-inside, look-down, look-broken}
+use Rattle.child_slots.specs.Children.{childAt}
+use Rattle.child_slots.specs.declared.Child.{Child}
+use Rattle.child_slots.specs.declared.Child.the-variants.{At, Nothing}
+use Rattle.child_slots.proofs.Children.{child-inside}
+use Rattle.double_array.specs.DoubleArray.{markerAt, downTo, lookFrom}
+use Rattle.double_array.proofs.DoubleArray.{marker-kept, Sizes, opened-sizes, opened-head, root-sound, root-child, look-down, look-broken}
 use Rattle.lookup.specs.Lookup.{lookupOf}
 use Rattle.lookup.proofs.walk.Statement.{statement}
 use Rattle.lookup.proofs.walk.Tie as tie

@@ -11,8 +11,8 @@ use Rattle.rows.specs.Table.{wordOf}
 use Rattle.list.specs.ListModel.{modelOf}
 use Rattle.plain_word.specs.Score.{IsScore}
 use Rattle.plain_word.proofs.TextRule.{text-matched}
-use Rattle.plain.specs.Held.{inUse}
-use Rattle.plain.proofs.Newest.{history-part, history-are-words, history-length}
+use Rattle.plain_history.specs.History.{inUse}
+use Rattle.plain_history.proofs.Newest.{history-part, history-are-words, history-length}
 use Rattle.plain.proofs.score_word.Statement.{statement}
 use Rattle.plain.proofs.score_word.Tie as tie
 

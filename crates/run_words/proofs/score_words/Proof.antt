@@ -16,7 +16,8 @@ use Rattle.backoff.specs.Run.{written}
 use Rattle.backoff.specs.NineNumbers.{stateIn}
 use Rattle.backoff.specs.State.{State as Carried}
 use Rattle.backoff.specs.Store.{Store, scored, wordStep, step}
-use Rattle.double_array.specs.DoubleArray.{freeCheck, storeIn}
+use Rattle.child_slots.specs.Children.{freeCheck}
+use Rattle.double_array.specs.DoubleArray.{storeIn}
 use Rattle.double_array.proofs.DoubleArray.{opened-head, opened-order}
 use Rattle.carried_state.specs.declared.Packed.{Packed}
 use Rattle.carried_state.specs.Numbers.{numbersOf}

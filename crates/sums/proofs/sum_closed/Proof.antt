@@ -1,31 +1,37 @@
 -- `sums::sum_closed` meets its contract. The loop's invariant: what is left are the points of the words from the i-th on. Assumes nothing.
-use mathlib.Core.Path.{_≡_, sym, _∙_, subst}
+use mathlib.Core.Path.{_≡_, sym, ap, _∙_, subst}
 use mathlib.Core.List.{List, [], _∷_}
-use Prim.Native.Nat.{ℕ, zero, suc, _*_, _-_, _≤_, _<_}
+use Prim.Native.Nat.{ℕ, zero, suc, _+_, _*_, _-_, _≤_, _<_}
+use native.Mathlib.Nat.{lt-of-lt-of-le}
 use native.Mathlib.Omega.{arith}
-use borrow.Author.Needs.{needs}
+use borrow.Author.Count.{falls}
+use borrow.Author.Needs.{sfits-of, scaled-fits}
 use lib.ListN.{getD}
-use lib.IntN.{ℤ, natAbs}
+use lib.Dec.{lit<, lit≤}
+use lib.IntN.{ℤ, natAbs, _+ℤ_}
 use mir.Syntax.{w32, w64}
 use mir.Val.{toZ, ofZ, SFits}
 use mir.Facts.{toZ-ofZ}
-use Rattle.integer.proofs.Arithmetic.{zarith, abs, to-wide}
+use Rattle.integer.proofs.Arithmetic.{to-wide}
 use Rattle.backoff.specs.Limits.{endWord, orderLimit, largestBackoff}
 use Rattle.backoff.specs.State.{State as Carried}
 use Rattle.backoff.specs.Store.{Store, stuck, wordStep}
-use Rattle.double_array.specs.DoubleArray.{childAt, orderIn, storeIn}
-use Rattle.double_array.specs.declared.Child.the-variants.{At}
-use Rattle.double_array.proofs.DoubleArray.{opened-sizes, opened-head, opened-order, root-child, child-inside}
+use Rattle.child_slots.specs.Children.{childAt}
+use Rattle.child_slots.specs.declared.Child.the-variants.{At}
+use Rattle.child_slots.proofs.Children.{child-inside}
+use Rattle.double_array.specs.DoubleArray.{orderIn, storeIn}
+use Rattle.double_array.proofs.DoubleArray.{opened-sizes, opened-head, opened-order, root-child}
 use Rattle.carried_state.specs.declared.Packed.{Packed}
 use Rattle.carried_state.specs.Packed.{heldIn, Carries}
 use Rattle.word_walk.specs.Walk.{WalkedOver}
+use Rattle.word_walk.proofs.Owing.{next-fits}
 use Rattle.word_step.specs.declared.Stepped.the-variants.{Scored, Refused as NotScored}
 use Rattle.word_step.specs.Answers.{stepOf}
 use Rattle.word_step.specs.Inner.{replaced, SteppedTo}
 use Rattle.word_step.proofs.Stepping.{missing-refused, step-told, answerable, stepped}
 use Rattle.sums.specs.declared.Closed.the-variants.{Refused}
 use Rattle.sums.specs.Closing.{pointsOver}
-use Rattle.sums.proofs.Closing.{Closing, closing-begins, closing-refused, closing-ends, closing-carries, points-small, closing-on}
+use Rattle.sums.proofs.Closing.{Closing, closing-begins, closing-refused, closing-ends, closing-carries, points-small, closing-on, total-fits, four-at-most}
 use Rattle.sums.proofs.sum_closed.Statement.{statement}
 use Rattle.sums.proofs.sum_closed.Tie as tie
 
@@ -39,19 +45,19 @@ loop-holds : tie.Need-loop-holds Inv-loop μ-loop
 unfolding storeIn
 loop-holds s = closing-begins _ _ _ _ (rw (s .pre .1 .0) at (s .pre .1 .1 .0))
 
+-- a turn has a word
+more : (c : tie.In-loop Inv-loop μ-loop) → c .before .loop .i < 2
+more c = omega (arith, c .loop-test .taken)
+
 mul-word : tie.Need-mul-word Inv-loop μ-loop
-mul-word c = search needs
+mul-word c = scaled-fits (c .before .loop .i) 2 4 (more c) (lit< tt)
 
 array-read-word : tie.Need-array-read-word Inv-loop μ-loop
-array-read-word c = omega (arith, c .loop-test .taken)
+array-read-word c = more c
 
 -- slot 1 is the root's marker
 root-child-requires : tie.Need-root-child-requires Inv-loop μ-loop
 root-child-requires c κs = let s = c .before .before in opened-head (s .args .base .now) (s .args .check .now) (s .pre .0) .root-check
-
--- a turn has a word
-more : (c : tie.In-loop Inv-loop μ-loop) → c .before .loop .i < 2
-more c = omega (arith, c .loop-test .taken)
 
 -- the sentence's last word and its 3, the next of them, what it is scored as, and the state that it is scored from
 abbrev words : tie.In-loop Inv-loop μ-loop → List ℕ
@@ -84,10 +90,10 @@ refuses c e =
     closing-refused (S c) _ (words c) (l .loop .carried) (l .loop .backoffs) (toZ w64 (l .loop .total)) (l .loop .i) (l .loop .inv) (more c) e
 
 enum-known-slot : tie.Need-enum-known-slot Inv-loop μ-loop
-enum-known-slot c = search needs
+enum-known-slot c = c .match .keys1
 
 enum-told : tie.Need-enum-told Inv-loop μ-loop
-enum-told c = search needs
+enum-told c = c .match .keys2
 
 returns : tie.Need-returns Inv-loop μ-loop
 returns c =
@@ -116,8 +122,8 @@ walk-requires : tie.Need-walk-requires Inv-loop μ-loop
 walk-requires c κs =
     let t = c .before .before in
     let s = turn t .before .before in
-    let z = opened-sizes (s .args .base .now) (s .args .check .now) (s .pre .0) in
-    (s .pre .0, (omega (arith, child-inside (s .args .base .now) (s .args .check .now) 0 (word (turn t)) (slot t) (child-is t)), held (turn t)))
+    let same = opened-sizes (s .args .base .now) (s .args .check .now) (s .pre .0) .same in
+    (s .pre .0, (subst (λ (n : ℕ). slot t < n) (sym same) (child-inside (s .args .base .now) (s .args .check .now) 0 (word (turn t)) (slot t) (child-is t)), held (turn t)))
 
 -- the walk's first node
 abbrev begun : tie.After-walk Inv-loop μ-loop → tie.After-slot Inv-loop μ-loop
@@ -128,7 +134,7 @@ last-node-requires c κs =
     let k = c .before in
     let i = turn (begun k) in
     let s = i .before .before in
-    ((s .pre .0, s .pre .1 .0), (omega (arith, held i .few, opened-order (s .args .base .now) (s .args .check .now) (s .pre .0)), k .walk .ensures .0 .0, k .walk .ensures .0 .1))
+    ((s .pre .0, s .pre .1 .0), (four-at-most (held i .few) (opened-order (s .args .base .now) (s .args .check .now) (s .pre .0) .1), k .walk .ensures .0 .0, k .walk .ensures .0 .1))
 
 -- the lent back-offs as the walk left them, and what it told
 abbrev first : tie.After-last-node Inv-loop μ-loop → tie.After-slot Inv-loop μ-loop
@@ -168,10 +174,10 @@ step-is c =
     stepped (a .base .now) (a .check .now) (s .pre .0) (l .loop .carried) (l .loop .backoffs) (held i) (word i) (slot t) (child-is t) (a .order) (w i) (s .pre .1 .0) (scored-as i) (k .last-node .result) (backoffs k) (walked k) (c .answered .result) (c .answered .ensures)
 
 enum-known-stepped : tie.Need-enum-known-stepped Inv-loop μ-loop
-enum-known-stepped c = search needs
+enum-known-stepped c = c .match2 .keys1
 
 enum-told-2 : tie.Need-enum-told-2 Inv-loop μ-loop
-enum-told-2 c = search needs
+enum-told-2 c = c .match2 .keys2
 
 returns-2 : tie.Need-returns-2 Inv-loop μ-loop
 returns-2 c =
@@ -196,14 +202,14 @@ abbrev scored-word : tie.After-struct-told Inv-loop μ-loop → tie.After-steppe
 scored-word c = c .before .before .before
 
 points-fits : (c : tie.After-struct-told Inv-loop μ-loop) → SFits w32 (points (scored-word c))
-points-fits c = search needs
+points-fits c = sfits-of (c .struct-told .given .1 .0 .1)
 
 cast-total : tie.Need-cast-total Inv-loop μ-loop
 cast-total c = to-wide tt (points-fits c)
 
 -- as the cast left them
 points-wide : (c : tie.After-struct-told Inv-loop μ-loop) → toZ w64 (ofZ w64 (toZ w32 (ofZ w32 (points (scored-word c))))) ≡ points (scored-word c)
-points-wide c = cc (toZ-ofZ (cast-total c), toZ-ofZ (points-fits c))
+points-wide c = toZ-ofZ (cast-total c) ∙ toZ-ofZ (points-fits c)
 
 small : (c : tie.After-stepped Inv-loop μ-loop) → natAbs (points c) ≤ orderLimit * largestBackoff
 small c =
@@ -217,13 +223,13 @@ add-total c =
     let m = scored-word c in
     let i = picked (answer m) in
     let l = i .before in
-    omega (zarith, points-wide c, small m, l .loop .inv .small, abs (points m), abs (toZ w64 (l .loop .total)), more i)
+    subst (λ (z : ℤ). SFits w64 (toZ w64 (l .loop .total) +ℤ z)) (sym (points-wide c)) (total-fits (toZ w64 (l .loop .total)) (points m) (l .loop .inv .small) (small m) (more i))
 
 add-i : tie.Need-add-i Inv-loop μ-loop
-add-i c = omega arith
+add-i c = next-fits (lt-of-lt-of-le (more (picked (answer (scored-word c)))) (lit≤ tt))
 
 loop-less : tie.Need-loop-less Inv-loop μ-loop
-loop-less c = omega arith
+loop-less c = falls _ _ (more (picked (answer (scored-word c))))
 
 loop-again : tie.Need-loop-again Inv-loop μ-loop
 loop-again c =
@@ -232,7 +238,9 @@ loop-again c =
     let i = picked k in
     let l = i .before in
     let s = l .before in
-    rw (toZ-ofZ (add-total c), points-wide c)
+    subst
+    (λ (z : ℤ). Closing (S i) (heldIn (s .args .carried) (s .args .t5)) (words i) (next m) (backoffs (walk k)) z (l .loop .i + 1))
+    (sym (toZ-ofZ (add-total c) ∙ ap (λ (z : ℤ). toZ w64 (l .loop .total) +ℤ z) (points-wide c)))
     (closing-on (s .args .base .now) (s .args .check .now) (s .pre .0) _ (words i) (l .loop .carried) (l .loop .backoffs) (toZ w64 (l .loop .total)) (l .loop .i) (l .loop .inv) (points m) _ (next m) (backoffs (walk k)) (word-is m) (more i) (subst (λ (n : ℕ). Carries n (next m) (backoffs (walk k))) (s .pre .1 .0) (step-is k .carries _ _ (m .stepped .given .1))))
 
 returns-3 : tie.Need-returns-3 Inv-loop μ-loop

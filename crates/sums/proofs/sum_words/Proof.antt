@@ -1,17 +1,17 @@
 -- `sums::sum_words` meets its contract. The loop's invariant: the words before the a-th are scored, and what is left is the run of the others from the
 -- state that they leave. Assumes nothing.
-use mathlib.Core.Path.{_≡_, refl, sym, ap, _∙_}
+use mathlib.Core.Path.{_≡_, refl, sym, ap, subst, _∙_}
 use mathlib.Core.List.{List}
 use Prim.Native.Nat.{ℕ, _-_, _≤_}
+use native.Mathlib.Nat.{le-of-lt}
 use native.Mathlib.Omega.{arith}
-use borrow.Author.Needs.{needs, sfits-of}
+use borrow.Author.Needs.{sfits-of, scaled-fits, length-unmapped}
 use lib.ListN.{length, take, drop, length-drop}
 use lib.Seq.{length-take-le}
 use lib.IntN.{ℤ, _+ℤ_}
 use mir.Syntax.{w64}
-use mir.Val.{toZ, ofZ}
+use mir.Val.{toZ, ofZ, SFits}
 use mir.Facts.{toZ-ofZ}
-use Rattle.integer.proofs.Arithmetic.{zarith, abs}
 use Rattle.backoff.specs.Limits.{orderLimit}
 use Rattle.backoff.specs.Run.{Run, Answer}
 use Rattle.backoff.specs.Store.{Store}
@@ -21,7 +21,7 @@ use Rattle.carried_state.specs.Numbers.{numbersOf}
 use Rattle.carried_state.proofs.Carried.{Four, length-numbers}
 use Rattle.word_walk.proofs.Rows.{rows-in-probability, rows-in-backoff, rows-in-words}
 use Rattle.run_answer.specs.Answers.{answerOf}
-use Rattle.sums.proofs.Pieces.{Pieced, PieceTold, pieced-begins, pieced-ends, piece-told}
+use Rattle.sums.proofs.Pieces.{Pieced, PieceTold, pieced-begins, pieced-ends, piece-told, piece-fits, fewer-left}
 use Rattle.sums.proofs.sum_words.Statement.{statement}
 use Rattle.sums.proofs.sum_words.Tie as tie
 
@@ -39,7 +39,9 @@ abbrev μ-loop : tie.MeasureT-loop
     length words - a
 
 arrays : (s : tie.Start Inv-loop μ-loop) → Four (s .args .state)
-arrays s = record { words = search needs; backoffs = search needs }
+arrays s =
+    let g = s .good .1 .1 .1 .0 .1 .1 .1 in
+    record { words = length-unmapped ℤ (s .args .state .words) 4 (g .0 .1 .0 .1); backoffs = length-unmapped ℤ (s .args .state .backoffs) 4 (g .1 .0 .1 .0 .1) }
 
 -- the array's order, which is the code's
 order-is : (s : tie.Start Inv-loop μ-loop) → (storeIn (s .args .base .now) (s .args .check .now) .order ≡ s .args .order) × (storeIn (s .args .base .now) (s .args .check .now) .order ≤ orderLimit)
@@ -59,22 +61,22 @@ piece-end-requires : tie.Need-piece-end-requires Inv-loop μ-loop
 piece-end-requires c κs = (c .loop-test .taken, c .before .before .before .pre .1 .1 .1)
 
 mul-score-words : tie.Need-mul-score-words Inv-loop μ-loop
-mul-score-words c = search needs
+mul-score-words c = scaled-fits (c .before .before .loop .a) (length (c .before .before .before .before .args .words .now)) 4 (c .before .loop-test .taken) (c .before .before .before .before .good .1 .1 .1 .1 .0 .1)
 
 sub-score-words : tie.Need-sub-score-words Inv-loop μ-loop
-sub-score-words c = search needs
+sub-score-words c = le-of-lt (c .piece-end .ensures .0)
 
 part-score-words-start : tie.Need-part-score-words-start Inv-loop μ-loop
-part-score-words-start c = search needs
+part-score-words-start c = le-of-lt (c .piece-end .ensures .0)
 
 part-score-words-end : tie.Need-part-score-words-end Inv-loop μ-loop
-part-score-words-end c = search needs
+part-score-words-end c = c .piece-end .ensures .1 .0
 
 slice-aggregate-score-words : tie.Need-slice-aggregate-score-words Inv-loop μ-loop
-slice-aggregate-score-words c = let h = c .before .before .before .before .loop .inv .points-long in search needs
+slice-aggregate-score-words c = sym (c .before .before .before .before .loop .inv .points-long)
 
 slice-aggregate-score-words-2 : tie.Need-slice-aggregate-score-words-2 Inv-loop μ-loop
-slice-aggregate-score-words-2 c = let h = c .before .before .before .before .before .loop .inv .lengths-long in search needs
+slice-aggregate-score-words-2 c = sym (c .before .before .before .before .before .loop .inv .lengths-long)
 
 score-words-requires : tie.Need-score-words-requires Inv-loop μ-loop
 score-words-requires c κs =
@@ -105,7 +107,7 @@ abbrev answered : tie.After-score-words Inv-loop μ-loop → Answer (List ℤ)
 answered c = answerOf (c .score-words .result) (c .score-words .last .1 .1 .1 .1 .1 .0) (c .score-words .last .1 .1 .1 .1 .1 .1 .0)
 
 above : (c : tie.After-score-words Inv-loop μ-loop) → turn c .loop .a ≤ to c
-above c = omega (arith, c .before .before .before .before .piece-end .ensures)
+above c = le-of-lt (c .before .before .before .before .piece-end .ensures .0)
 
 within : (c : tie.After-score-words Inv-loop μ-loop) → to c ≤ length (entry c .args .words .now)
 within c = c .before .before .before .before .piece-end .ensures .1 .0
@@ -131,16 +133,16 @@ total-back c = toZ-ofZ (sfits-of (c .struct-told .given .1 .1 .0 .1))
 add-sum : tie.Need-add-sum Inv-loop μ-loop
 add-sum c =
     let d = c .before .before .before .before .before .before in
-    rw (total-back c) (omega (zarith, told d .small (c .before .before .if1 .left), turn d .loop .inv .pieced .small, abs (toZ w64 (turn d .loop .sum)), abs (d .score-words .result .total), above d, within d, entry d .pre .1 .1 .1))
+    subst (λ (z : ℤ). SFits w64 (toZ w64 (turn d .loop .sum) +ℤ z)) (sym (total-back c)) (piece-fits (toZ w64 (turn d .loop .sum)) (d .score-words .result .total) (turn d .loop .inv .pieced .small) (told d .small (c .before .before .if1 .left)) (above d) (within d) (entry d .pre .1 .1 .1))
 
 loop-less : tie.Need-loop-less Inv-loop μ-loop
-loop-less c = let k = c .before .before .before .before .before .before .before .before .before .before .before in omega (arith, k .piece-end .ensures)
+loop-less c = let k = c .before .before .before .before .before .before .before .before .before .before .before in fewer-left (k .piece-end .ensures .0) (k .piece-end .ensures .1 .0)
 
 same-points : (c : tie.After-score-words Inv-loop μ-loop) → length (c .score-words .last .1 .1 .1 .1 .1 .0) ≡ length (turn c .loop .points)
-same-points c = search needs
+same-points c = c .score-words .kept .1 .1 .1 .1 .1 .0
 
 same-lengths : (c : tie.After-score-words Inv-loop μ-loop) → length (c .score-words .last .1 .1 .1 .1 .1 .1 .0) ≡ length (turn c .loop .lengths)
-same-lengths c = search needs
+same-lengths c = c .score-words .kept .1 .1 .1 .1 .1 .1 .0
 
 again : {S : Store} {l : List ℤ} {ws : List ℕ} {end : List ℤ} {total sum : ℤ} {a : ℕ} {points : List ℤ} {lengths : List ℕ} → sum ≡ total → length points ≡ 64 → length lengths ≡ 64 → Pieced S l ws end total a → Loop S l ws end sum a points lengths
 again e p q h = record { pieced = rw e h; points-long = p; lengths-long = q }

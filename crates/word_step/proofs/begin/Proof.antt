@@ -7,9 +7,11 @@ use borrow.Author.Needs.{needs}
 use lib.IntN.{ℤ}
 use Rattle.backoff.specs.Limits.{startWord}
 use Rattle.backoff.specs.State.{empty}
-use Rattle.double_array.specs.DoubleArray.{childAt, orderIn}
-use Rattle.double_array.specs.declared.Child.the-variants.{At}
-use Rattle.double_array.proofs.DoubleArray.{opened-sizes, opened-head, root-child, child-inside}
+use Rattle.child_slots.specs.Children.{childAt}
+use Rattle.child_slots.specs.declared.Child.the-variants.{At}
+use Rattle.child_slots.proofs.Children.{child-inside}
+use Rattle.double_array.specs.DoubleArray.{orderIn}
+use Rattle.double_array.proofs.DoubleArray.{opened-sizes, opened-head, root-child}
 use Rattle.carried_state.specs.Packed.{Carries}
 use Rattle.word_step.proofs.Beginning.{nothing, nothing-carries}
 use Rattle.word_step.proofs.Stepping.{missing-refused, refused, answerable, stepped}

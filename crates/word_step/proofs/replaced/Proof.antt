@@ -6,8 +6,8 @@ use native.Mathlib.Omega.{arith}
 use mir.Val.{boolByte}
 use borrow.Author.Needs.{needs}
 use Rattle.backoff.specs.Limits.{unknownWord}
-use Rattle.double_array.specs.declared.Child.{Child}
-use Rattle.double_array.specs.DoubleArray.{isChild}
+use Rattle.child_slots.specs.declared.Child.{Child}
+use Rattle.child_slots.specs.Children.{isChild}
 use Rattle.word_step.proofs.replaced.Statement.{statement}
 use Rattle.word_step.proofs.replaced.Tie as tie
 

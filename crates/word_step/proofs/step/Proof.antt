@@ -5,9 +5,11 @@ use Prim.Native.Nat.{ℕ}
 use native.Mathlib.Omega.{arith}
 use borrow.Author.Needs.{needs}
 use lib.IntN.{ℤ}
-use Rattle.double_array.specs.DoubleArray.{childAt, orderIn, storeIn}
-use Rattle.double_array.specs.declared.Child.the-variants.{At}
-use Rattle.double_array.proofs.DoubleArray.{opened-sizes, opened-head, root-child, child-inside, opened-order}
+use Rattle.child_slots.specs.Children.{childAt}
+use Rattle.child_slots.specs.declared.Child.the-variants.{At}
+use Rattle.child_slots.proofs.Children.{child-inside}
+use Rattle.double_array.specs.DoubleArray.{orderIn, storeIn}
+use Rattle.double_array.proofs.DoubleArray.{opened-sizes, opened-head, root-child, opened-order}
 use Rattle.carried_state.specs.Packed.{heldIn, Carries}
 use Rattle.word_walk.specs.Walk.{WalkedOver}
 use Rattle.word_step.proofs.Stepping.{missing-refused, refused, answerable, stepped}

@@ -1,0 +1,2 @@
+-- The laws of children.
+pub mod Children

@@ -1,0 +1,2 @@
+-- What must be believed of children.
+pub mod Children

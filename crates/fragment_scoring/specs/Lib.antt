@@ -1,0 +1,3 @@
+-- What scoring a fragment returns and means.
+pub mod Outcome
+pub mod Meaning

@@ -1,0 +1,2 @@
+-- The laws of a group of sentences.
+pub mod Groups

@@ -1,0 +1,3 @@
+-- The largest pair, and what the functions that look for it are held to.
+pub mod Pairs
+pub mod Inner

@@ -1,0 +1,2 @@
+-- The laws of the nodes as a list.
+pub mod Listed

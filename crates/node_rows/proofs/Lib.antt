@@ -1,0 +1,4 @@
+-- The laws of the rows of nodes.
+pub mod Rows
+pub mod Placing
+pub mod Written

@@ -1,0 +1,3 @@
+-- The laws of one misheard word.
+pub mod OneWord
+pub mod OneWordByTheRule

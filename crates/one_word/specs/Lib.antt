@@ -1,0 +1,2 @@
+-- One misheard word.
+pub mod OneWord

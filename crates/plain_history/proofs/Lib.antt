@@ -1,0 +1,3 @@
+-- The laws of the history of plain scoring.
+pub mod Newest
+pub mod Preceding

@@ -1,0 +1,4 @@
+-- The laws of slots and their numbers.
+pub mod EachTwo
+pub mod Items
+pub mod Numbering

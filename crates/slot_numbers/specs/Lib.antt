@@ -1,0 +1,2 @@
+-- What must be believed of slots and their numbers.
+pub mod Numbers

@@ -1,0 +1,3 @@
+-- The laws of a sentence of TEXT: its words, its scoring and its line.
+pub mod Scoring
+pub mod Sentences
