@@ -60,6 +60,7 @@ def table():
                 words.add(snake(m[1]))
         for m in IMPORTED.finditer(read(path)):
             words.update(re.split(r"[\s,]+", m[1]))
+    declared -= words
     words = {w for w in words if w and "-" not in w}
     found = {}
     for name in declared:

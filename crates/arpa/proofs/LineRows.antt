@@ -3,7 +3,7 @@ use mathlib.Core.Path.{◌≡◌, refl, sym, ap, ap₂, ◌∙◌, subst}
 use mathlib.Core.Logic.{◌⊎◌, inl, inr, ⊎_elim}
 use mathlib.Core.Bool.{Bool, true, false, cond, ◌||◌}
 use mathlib.Core.List.Memᴰ
-use mathlib.Core.List.{List, [], ◌∷◌, ◌++◌, map, append-nil, Memᴰ, map_append}
+use mathlib.Core.List.{List, [], ◌∷◌, ◌++◌, map, append-nil, Memᴰ, map-append}
 use mathlib.Core.Option.{some}
 use Prim.Native.Nat.{ℕ, zero, suc, ◌*◌, ◌-◌, ◌<◌, ◌≤◌}
 use native.Mathlib.Omega.{arith}
@@ -227,7 +227,7 @@ module _ (room size : ℕ) (r : Reading) (lines : List (List ℕ)) (h : Holds ro
         ∙ map_equal (line_row (number_in (drop 3 r.texts))) (line_row number) lines
         (λ i n. row-same-numbers (number_in (drop 3 r.texts)) number i (λ u k. sym (kept u (known-number r.texts h.texts u (h.in_form_lem i n u k) (h.known i n u k))))))
         (sym e)
-        ∙ sym (map_append (line_row number) lines (line ∷ []))
+        ∙ sym (map-append (line_row number) lines (line ∷ []))
 
     row-room-more : (row : List ℤ) → row_fits room r ≡ true → 8 * length (r.rows ++ (row ∷ [])) ≤ room
     unfolding row_fits

@@ -1,5 +1,7 @@
 // The reader of ARPA texts: it fills a lent table with the rows in list order and a lent store with the words' texts. The definitions that the
 // contracts cite are in specs/.
+#![tactic(auto)]
+
 ghost use Rattle.std.specs.Prelude.{◌≡◌, length, replicate};
 ghost use Rattle.arpa_reading.specs.Outcome.{read_number, read_place, row_count};
 ghost use Rattle.arpa.specs.Outcome.{read_arpa, Leaves};

@@ -1,4 +1,6 @@
 // One line of an ARPA text, read into the lent table and the lent store. The definitions that the contracts cite are in specs/.
+#![tactic(auto)]
+
 ghost use Rattle.std.specs.Prelude.{◌≡◌, true, [], ◌∷◌, map, ◌+◌, ◌*◌, ◌<◌, ◌≤◌, length, set};
 ghost use Rattle.backoff.specs.Limits.{order_limit};
 ghost use Rattle.text_parts.specs.Parts.{parts};

@@ -1,4 +1,6 @@
 // A log as an ARPA text spells it, read as points. The definitions that the contracts cite are in specs/.
+#![tactic(auto)]
+
 ghost use Rattle.std.specs.Prelude.{◌≡◌, true, ◌*◌, ◌^◌, ◌<◌, pos};
 ghost use Rattle.decimal.specs.Digits.{digits_up_to};
 ghost use Rattle.text_parts.specs.Parts.{parts};

@@ -2,7 +2,7 @@
 use mathlib.Core.Path.{◌≡◌, refl, sym, ap, ap₂, subst, ◌∙◌}
 use mathlib.Core.Logic.{⊎_elim}
 use mathlib.Core.Bool.{Bool, true, false, cond}
-use mathlib.Core.List.{List, [], ◌∷◌, ◌++◌, map, append-nil, append_assoc, map_append}
+use mathlib.Core.List.{List, [], ◌∷◌, ◌++◌, map, append-nil, append_assoc, map-append}
 use mathlib.Core.Option.{some}
 use Prim.Native.Nat.{ℕ, zero, suc, ◌+◌, ◌*◌, ◌-◌, ◌<◌, ◌≤◌}
 use native.Mathlib.Omega.{arith}
@@ -306,7 +306,7 @@ module _ (texts : List (List ℕ)) (t : List ℤ) (room size : ℕ) (is : Printa
               (standing (Section (suc m)) counts 0 rows texts) (standing (Section (suc m)) counts (length here) (rows ++ map (row_at t) here) texts) (standing Ended counts 0 (rows ++ map (row_at t) (here ++ rest)) texts)
               (long-lines (suc m) here 0 (length here) rows (omega arith) (all_of_length t (suc m) 0 (rows_of t) (omega arith)) (omega arith) (omega arith))
               (subst (λ (r : List (List ℤ)). Reads room size (standing (Section (suc m)) counts (length here) (rows ++ map (row_at t) here) texts) (section_lines texts t (suc (suc m)) c ++ (end_line ∷ [])) (standing Ended counts 0 r texts))
-              (append_assoc rows (map (row_at t) here) (map (row_at t) rest) ∙ ap (λ (r : List (List ℤ)). rows ++ r) (sym (map_append (row_at t) here rest)))
+              (append_assoc rows (map (row_at t) here) (map (row_at t) rest) ∙ ap (λ (r : List (List ℤ)). rows ++ r) (sym (map-append (row_at t) here rest)))
               (later_sections c (suc m) (length here) (rows ++ map (row_at t) here) (omega arith) (omega arith) (λ j a b. counted j (omega arith) (omega arith)) (counted (suc m) (omega arith) (omega arith)) (omega (arith, length-append rows (map (row_at t) here)))))),
         )
 
@@ -371,7 +371,7 @@ module _ (texts : List (List ℕ)) (t : List ℤ) (room size : ℕ) (is : Printa
       (subst (λ (indexes : List ℕ). Reads room size (standing (Section 1) counts 0 [] no_texts) (map (row_line texts t) indexes) (standing (Section 1) counts (length texts) (map (row_at t) indexes) texts)) (sym first)
       (word-lines counts k v))
       (subst (λ (r : List (List ℤ)). Reads room size (standing (Section 1) counts (length texts) (map (row_at t) ones) texts) (section_lines texts t 2 c ++ (end_line ∷ [])) (standing Ended counts 0 r texts))
-      (sym (map_append (row_at t) ones rest) ∙ ap (map (row_at t)) all ∙ count-rows t 0 (rows_of t))
+      (sym (map-append (row_at t) ones rest) ∙ ap (map (row_at t)) all ∙ count-rows t 0 (rows_of t))
       (later_sections counts c 1 (length texts) (map (row_at t) ones) (omega arith) (omega (arith, counts-length t 1 (suc c))) counted
       (sym (ap length one_word ∙ count-length 0 (length texts)) ∙ counted 1 (omega arith) (omega arith)) (omega arith)))
 

@@ -1,5 +1,7 @@
 // A whole ARPA text: its lines read one by one into a lent table and a lent store, its rows put into list order and checked, and the answer. The
 // definitions that the contracts cite are in specs/.
+#![tactic(auto)]
+
 ghost use Rattle.std.specs.Prelude.{◌≡◌, eqb, List, ◌++◌, ℕ, ◌*◌, ℤ, pos, length, take, drop, replicate};
 ghost use Rattle.row_order.specs.RowOrder.{list_order};
 ghost use Rattle.text_parts.specs.Parts.{parts};

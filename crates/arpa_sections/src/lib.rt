@@ -1,5 +1,7 @@
 // Where the reading of an ARPA text stands: the lines of the data section, and those that begin and end sections. The definitions that the contracts
 // cite are in specs/.
+#![tactic(auto)]
+
 ghost use Rattle.std.specs.Prelude.{◌≡◌, List, ℕ, ◌<◌, ◌≤◌, ℤ};
 ghost use Rattle.backoff.specs.Limits.{order_limit};
 ghost use Rattle.arpa_sections.specs.Sections.{Reading, first_section, data_step, closes, close_section};

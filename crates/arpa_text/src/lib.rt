@@ -1,4 +1,6 @@
 // A line of a section of an ARPA text: two logs, and the texts of words between them. The definitions that the contracts cite are in specs/.
+#![tactic(auto)]
+
 ghost use Rattle.std.specs.Prelude.{◌≡◌, ◌≤◌, length, drop};
 ghost use Rattle.text_parts.specs.Parts.{parts};
 ghost use Rattle.arpa_text.specs.Lines.{is_text, are_texts, read_row};

@@ -1,4 +1,6 @@
 // The words of an ARPA text: the number that a text has or gets, and its record in the lent store. The definitions that the contracts cite are in specs/.
+#![tactic(auto)]
+
 ghost use Rattle.std.specs.Prelude.{◌≡◌, true, false, cond, eqb, map, ◌+◌, ◌*◌, ◌-◌, ◌<◌, ◌≤◌, length, get_or};
 ghost use Rattle.integer.specs.Integer.{or_else};
 ghost use Rattle.backoff.specs.Limits.{order_limit};

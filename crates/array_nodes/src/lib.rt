@@ -1,5 +1,7 @@
 // The nodes of a lent double array. Every slot climbs to the root by CHECK, so that nothing but the slots is gone through. The definitions that the contracts cite
 // are in specs/.
+#![tactic(auto)]
+
 ghost use Rattle.std.specs.Prelude.{◌≡◌, true, ◌<◌, ◌≤◌, length};
 ghost use Rattle.double_array.specs.DoubleArray.{is_array};
 ghost use Rattle.array_nodes.specs.Gathering.{FoundAbove, Decides, Gathered};

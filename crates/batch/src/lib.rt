@@ -1,4 +1,6 @@
 // The hourly batch sheet: what refuses it, and what its sentences come to, counted.
+#![tactic(auto)]
+
 ghost use Rattle.std.specs.Prelude.{◌≡◌, List, [], ◌++◌, ℕ, ◌+◌, ◌≤◌, ◌<◌, length, take, get_or, replicate, pos};
 ghost use Rattle.backoff.specs.Limits.{run_limit};
 ghost use Rattle.backoff.specs.Refusal.{broken_node};

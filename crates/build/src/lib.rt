@@ -1,4 +1,6 @@
 // The builder of the double array. The definitions that the contracts cite are in specs/.
+#![tactic(auto)]
+
 ghost use Rattle.std.specs.Prelude.{◌≡◌, true, ◌<◌, length};
 ghost use Rattle.backoff.specs.Refusal.{number_of, place_of};
 ghost use Rattle.rows.specs.Table.{rows_of};

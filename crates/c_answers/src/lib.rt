@@ -1,4 +1,6 @@
 // Answers as they cross to C, where all are numbers. The definitions that the contracts cite are in specs/.
+#![tactic(auto)]
+
 ghost use Rattle.c_answers.specs.Answers.{StatusIs, FoundIs, RowCountIs};
 
 use arpa_reading::Rows;

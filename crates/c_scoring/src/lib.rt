@@ -1,4 +1,6 @@
 // Start and run as they cross to C: the state lies in a lent slice of nine, and another length gives 16 before every other check.
+#![tactic(auto)]
+
 ghost use Rattle.backoff.specs.Store.{start_outcome, run_outcome};
 ghost use Rattle.double_array.specs.DoubleArray.{opened};
 ghost use Rattle.score.specs.Meaning.{StartMeans, RunMeans};

@@ -1,4 +1,6 @@
 // The carried state as it crosses to C: nine numbers in a lent slice, read and written.
+#![tactic(auto)]
+
 ghost use Rattle.std.specs.Prelude.{◌≡◌, length};
 ghost use Rattle.carried_state.specs.Numbers.{numbers_of};
 

@@ -1,4 +1,6 @@
 // The carried state: as the nine numbers of the papers, with check 16, and as a run carries it.
+#![tactic(auto)]
+
 ghost use Rattle.std.specs.Prelude.{◌≡◌, true, [], ◌∷◌, ◌++◌, map, ◌≤◌, take, pos, nat_abs, ◌≤ℤ◌};
 ghost use Rattle.integer.specs.Integer.{between, sum};
 ghost use Rattle.backoff.specs.Limits.{word_limit};
@@ -10,7 +12,7 @@ ghost use Rattle.carried_state.specs.Packed.{part_ok, packed_as, held_in};
 
 // The paper's carried state as its nine signed numbers. A state of the caller's own making may hold any: check 16 decides.
 #[repr(C)]
-#[derive(Drop)]
+#[derive(Clone, Copy)]
 pub struct State {
     pub count: i32,
     pub words: [i32; 4],
@@ -19,7 +21,7 @@ pub struct State {
 
 // A state while a run's words are scored. The words are the digits of one number, the newest the lowest; what lies past `count` is of no account.
 // The first `count` items of a lent array are its back-offs, and `owed` is their sum.
-#[derive(Drop)]
+#[derive(Clone, Copy)]
 pub struct Packed {
     pub count: usize,
     pub words: u64,

@@ -1,4 +1,6 @@
 // The children of a node of a double array, on either side of its BASE. The definitions that the contracts cite are in specs/.
+#![tactic(auto)]
+
 ghost use Rattle.std.specs.Prelude.{◌≡◌, true, cond, ℕ, ◌≤◌, ◌<◌, ltb, length, get_or, negsuc};
 ghost use Rattle.backoff.specs.Limits.{word_limit, slot_limit};
 ghost use Rattle.child_slots.specs.Children.{free_check, child_slot, word_at, owned_by, on_either_side, child_at, root_child};

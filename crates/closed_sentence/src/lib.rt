@@ -1,4 +1,6 @@
 // One sentence over any lent arrays: a run over its words from start's state, closed with a 3.
+#![tactic(auto)]
+
 ghost use Rattle.std.specs.Prelude.{◌≡◌, true, ◌≤◌, length};
 ghost use Rattle.backoff.specs.Limits.{run_limit};
 ghost use Rattle.backoff.specs.NineNumbers.{state_ok};

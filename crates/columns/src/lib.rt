@@ -1,5 +1,7 @@
 // A number in a column of text: read from a column of any width, and printed right-justified in one. The definitions that the contracts cite are in
 // specs/.
+#![tactic(auto)]
+
 ghost use Rattle.std.specs.Prelude.{◌≡◌, ◌+◌, ◌-◌, ◌≤◌, nat_abs, length, drop, replicate};
 ghost use Rattle.std.proofs.lemmas.List.Edits.{sets};
 ghost use Rattle.decimal.specs.Digits.{most_digits};

@@ -1,4 +1,6 @@
 // Natural numbers in decimal digits: read from a text, and written into one. The definitions that the contracts cite are in specs/.
+#![tactic(auto)]
+
 ghost use Rattle.std.specs.Prelude.{◌≡◌, true, ◌+◌, ◌^◌, ◌<◌, ◌≤◌, length};
 ghost use Rattle.std.proofs.lemmas.List.Edits.{sets};
 ghost use Rattle.decimal.specs.Digits.{digits, most_digits, all_digits, digits_up_to, is_natural, value_from};

@@ -1,5 +1,7 @@
 // The double array of document 01, lent as two slices of which nothing is known: its head, and the markers of its nodes. The definitions that the contracts cite
 // are in specs/.
+#![tactic(auto)]
+
 ghost use Rattle.std.specs.Prelude.{◌≡◌, true, ◌≤◌, ◌<◌, length, replicate};
 ghost use Rattle.backoff.specs.Limits.{order_limit};
 ghost use Rattle.double_array.specs.DoubleArray.{head_check, kept_marker, marker_at, sizes_ok, order_ok, head_ok, is_array, order_in};

@@ -1,4 +1,6 @@
 // The rows of a list that put one more word in front of a row, found by their keys. The definitions that the contracts cite are in specs/.
+#![tactic(auto)]
+
 ghost use Rattle.std.specs.Prelude.{◌≡◌, ◌+◌, ◌*◌, ◌<◌, ◌≤◌, length};
 ghost use Rattle.backoff.specs.Words.{radix};
 ghost use Rattle.rows.specs.Table.{rows_of, words};

@@ -1,4 +1,6 @@
 // Pruned lists filled. The definitions that the contracts cite are in specs/.
+#![tactic(auto)]
+
 ghost use Rattle.std.specs.Prelude.{◌≡◌, true, ◌*◌, ◌≤◌, length};
 ghost use Rattle.backoff.specs.Refusal.{number_of, place_of};
 ghost use Rattle.backoff.specs.Run.{written};

@@ -36,6 +36,6 @@ drop-map f zero l = refl
 drop-map f (suc j) [] = refl
 drop-map f (suc j) (x ∷ l) = drop-map f j l
 
-pub map_append : {A B : Type 0} (f : A → B) (l m : List A) → map f (l ++ m) ≡ map f l ++ map f m
-map_append f [] m = refl
-map_append {B = B} f (x ∷ l) m = ap (λ (r : List B). f x ∷ r) (map_append f l m)
+pub map-append : {A B : Type 0} (f : A → B) (l m : List A) → map f (l ++ m) ≡ map f l ++ map f m
+map-append f [] m = refl
+map-append {B = B} f (x ∷ l) m = ap (λ (r : List B). f x ∷ r) (map-append f l m)

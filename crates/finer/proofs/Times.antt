@@ -22,7 +22,7 @@ use Rattle.backoff.proofs.Rule.{history_length-same, score_after-here, score_aft
 use Rattle.backoff.proofs.Run.{length-run_points, length-run_bytes}
 use Rattle.backoff.proofs.Runs.{standing-written, standing-refused, alike-refusal, alike-accepted}
 use Rattle.finer.specs.Times.{times, times_entry, times_model, times_score, times_state, times_nine, AnsweredTimes, ScoreTimes}
-use Rattle.finer.proofs.Products.{times_zero, times_add, times_none, sum-times, drop-map, map_append}
+use Rattle.finer.proofs.Products.{times_zero, times_add, times_none, sum-times, drop-map, map-append}
 
 -- ---- what is found
 
@@ -150,7 +150,7 @@ module _ (k : ℕ) (M : Model) where
     backoffs_of-times zero g = refl
     backoffs_of-times (suc j) g =
         ap₂ (λ (zs : List ℤ) (z : ℤ). zs ++ (z ∷ [])) (backoffs_of-times j g) (backoff-times (take (suc j) g))
-        ∙ sym (map_append (times k) (backoffs_of M j g) (backoff M (take (suc j) g) ∷ []))
+        ∙ sym (map-append (times k) (backoffs_of M j g) (backoff M (take (suc j) g) ∷ []))
 
     newest-times : (j : ℕ) (g : List ℕ) → newest N j g ≡ times_state k (newest M j g)
     unfolding newest times_state

@@ -1,4 +1,6 @@
 // A node of the double array placed among the free slots, by first fit along their links. The definitions that the contracts cite are in specs/.
+#![tactic(auto)]
+
 ghost use Rattle.std.specs.Prelude.{◌≡◌, true, List, ℕ, ◌+◌, ◌≤◌, ◌<◌, max, ℤ, pos, length};
 ghost use Rattle.backoff.specs.Limits.{word_limit, slot_limit};
 ghost use Rattle.rows.specs.Table.{rows_of, field, word_of};

@@ -1,4 +1,6 @@
 // Words scored as a fragment, without left context, over any lent double array.
+#![tactic(auto)]
+
 ghost use Rattle.std.specs.Prelude.{◌≡◌, true, ◌≤◌, length};
 ghost use Rattle.backoff.specs.Limits.{run_limit};
 ghost use Rattle.backoff.specs.State.{empty};

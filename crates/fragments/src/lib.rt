@@ -1,4 +1,6 @@
 // Fragments of a sentence: what one is, how it crosses to C, and check 21.
+#![tactic(auto)]
+
 ghost use Rattle.std.specs.Prelude.{◌≡◌, ◌++◌, ◌*◌, ◌-◌, ◌≤◌, ◌<◌, min, length, take, get_or, nat_abs, leb};
 ghost use Rattle.backoff.specs.Limits.{order_limit, largest_backoff, run_limit};
 ghost use Rattle.carried_state.specs.Numbers.{numbers_of};
@@ -10,7 +12,7 @@ use carried_state::State;
 // A fragment as it crosses to C. The first `kept` places of `first` hold its first words, as given; the others are written 0 and not read. A fragment of
 // the caller's own making may hold any numbers: check 21 decides.
 #[repr(C)]
-#[derive(Drop)]
+#[derive(Clone, Copy)]
 pub struct Fragment {
     pub total: i64,
     pub count: u32,

@@ -1,4 +1,6 @@
 // The calls that cross to C. A slice is a pointer and then a length. Each export is thin: one call, and its answer as numbers.
+#![tactic(auto)]
+
 ghost use Rattle.std.specs.Prelude.{◌≡◌, length};
 ghost use Rattle.backoff.specs.Store.{start_outcome, run_outcome};
 ghost use Rattle.list.specs.Check.{verdict};

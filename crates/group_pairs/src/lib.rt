@@ -1,4 +1,6 @@
 // A group of sentences, the same words at all places but one: its range of totals, and the earliest of its pairs that spans it.
+#![tactic(auto)]
+
 ghost use Rattle.group_pairs.specs.Groups.{Small, IsGroup, Has, FirstWith, IsRange, GroupPair};
 
 // Two sentences, named by their numbers from 1, and how far their totals lie apart. While there is no pair, the distance is −1 and the numbers are 0.

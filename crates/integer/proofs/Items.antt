@@ -17,6 +17,7 @@ module _ {A : Type 0} where
   get_or_in (x ∷ l) (suc i) d h = Memᴰ.tail (get_or_in l i d (omega arith))
 
   pub in_get_or : (l : List A) (d a : A) → Memᴰ a l → (i : ℕ) × (i < length l) × (get_or l i d ≡ a)
+  in_get_or [] d a h = elim h [ ]
   in_get_or (x ∷ l) d a (Memᴰ.head e) = (0, omega arith, sym e)
   in_get_or (x ∷ l) d a (Memᴰ.tail m) =
       let r = in_get_or l d a m in

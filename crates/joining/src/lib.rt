@@ -1,4 +1,6 @@
 // Fragments joined with their neighbours, over any lent double array.
+#![tactic(auto)]
+
 ghost use Rattle.std.specs.Prelude.{◌≡◌, true, cond, ◌+◌, ◌*◌, ◌-◌, ◌≤◌, ◌<◌, length, nat_abs, leb};
 ghost use Rattle.backoff.specs.Limits.{order_limit, run_limit};
 ghost use Rattle.backoff.specs.State.{empty};

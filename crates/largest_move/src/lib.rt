@@ -1,4 +1,6 @@
 // The largest move: the largest distance between the totals of two small sentences that differ at one place.
+#![tactic(auto)]
+
 ghost use Rattle.std.specs.Prelude.{◌≡◌};
 ghost use Rattle.double_array.specs.DoubleArray.{opened};
 ghost use Rattle.largest_move.specs.Move.{refused_move, move_outcome};

@@ -1,5 +1,7 @@
 // The pair of sentences that differ at one place whose totals lie furthest apart. Sentences with the same words at all places but one are a group; groups with
 // the same words before that place are a block, and its sentences lie together.
+#![tactic(auto)]
+
 ghost use Rattle.std.specs.Prelude.{◌≡◌, ◌+◌, ◌*◌, length};
 ghost use Rattle.group_pairs.specs.Groups.{apart_in, Small};
 ghost use Rattle.largest_pair.specs.Pairs.{first_largest};

@@ -1,4 +1,6 @@
 // The nodes of a list placed one by one. The definitions that the contracts cite are in specs/.
+#![tactic(auto)]
+
 ghost use Rattle.std.specs.Prelude.{◌≡◌, List, ℕ, ◌+◌, ◌≤◌, ◌<◌, ℤ, length};
 ghost use Rattle.backoff.specs.Limits.{order_limit};
 ghost use Rattle.backoff.specs.declared.Verdict.TheVariants.{Accepted};

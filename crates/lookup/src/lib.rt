@@ -1,4 +1,6 @@
 // The paper's lookup over any two lent slices: the walk from the root over the words, and its answer. The definitions that the contracts cite are in specs/.
+#![tactic(auto)]
+
 ghost use Rattle.std.specs.Prelude.{◌≡◌, true, reverse, ◌≤◌, length};
 ghost use Rattle.markers.specs.Markers.{look_marker};
 ghost use Rattle.double_array.specs.DoubleArray.{look_from, is_array, order_in};

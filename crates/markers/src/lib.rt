@@ -1,4 +1,6 @@
 // What a marker's CHECK and BASE say, and the two numbers that say it. The definitions that the contracts cite are in specs/.
+#![tactic(auto)]
+
 ghost use Rattle.std.specs.Prelude.{◌≡◌, true};
 ghost use Rattle.backoff.specs.Model.{in_probability, in_backoff};
 ghost use Rattle.markers.specs.Markers.{marker_check, marker_base, marker_of};

@@ -1,5 +1,7 @@
 // The nodes of a lent double array as a list: their rows, and whether these are accepted and every e and f is right. The definitions that the contracts
 // cite are in specs/.
+#![tactic(auto)]
+
 ghost use Rattle.std.specs.Prelude.{◌≡◌, true, false, ◌&&◌, ◌*◌, ◌<◌, eqb, length};
 ghost use Rattle.backoff.specs.Refusal.{number_of};
 ghost use Rattle.rows.specs.Table.{rows_of, order_of};

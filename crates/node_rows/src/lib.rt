@@ -1,4 +1,6 @@
 // The rows of the nodes of a lent double array, written one after another. The definitions that the contracts cite are in specs/.
+#![tactic(auto)]
+
 ghost use Rattle.std.specs.Prelude.{◌≡◌, true, false, ◌*◌, length};
 ghost use Rattle.markers.specs.declared.Marker.TheVariants.{Broken};
 ghost use Rattle.double_array.specs.DoubleArray.{is_array};

@@ -1,4 +1,6 @@
 // The array of an accepted list: the slices wiped, the nodes placed, and the links taken out. The definitions that the contracts cite are in specs/.
+#![tactic(auto)]
+
 ghost use Rattle.std.specs.Prelude.{◌≡◌, ℕ, ◌≤◌, pos};
 ghost use Rattle.backoff.specs.declared.Verdict.TheVariants.{Accepted};
 ghost use Rattle.rows.specs.Table.{order_of};

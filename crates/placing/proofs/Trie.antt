@@ -124,7 +124,7 @@ module _ {order : ℕ} {nodes : List Node} (R : Ready order nodes) where
   found_word w us m e =
       let f = found_in nodes (w ∷ us) m e in
       let i = in_get_or nodes _ m f.0 in
-      and_left (is_word w) (are_words us) (ap are_words (sym f.1 ∙ ap (λ (k : Node). k.words) (sym i.2)) ∙ R.in_words_lem i.0 i.1)
+      and_left (is_word w) (are_words us) (ap are_words (sym f.1 ∙ ap (λ (k : Node). k.words) (sym i.2)) ∙ R.in_words i.0 i.1)
 
   pub child-positive : (us : List ℕ) (w : ℕ) → Memᴰ w (children nodes us) → 1 ≤ w
   unfolding is_word

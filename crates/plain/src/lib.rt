@@ -1,4 +1,6 @@
 // Plain scoring: the back-off rule over the lent list alone. The definitions that the contracts cite are in specs/.
+#![tactic(auto)]
+
 ghost use Rattle.std.specs.Prelude.{◌≡◌, true, [], ◌∷◌, ◌≤◌, length};
 ghost use Rattle.integer.specs.Integer.{sum};
 ghost use Rattle.backoff.specs.Limits.{run_limit};

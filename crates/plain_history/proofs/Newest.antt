@@ -1,7 +1,7 @@
 -- Laws of the history as the code holds it, in four places: the part that is in use, and one word more behind it. Assumes nothing.
 use mathlib.Core.Path.{◌≡◌, refl, ap, ◌∙◌}
 use mathlib.Core.Bool.{true}
-use mathlib.Core.List.{List, [], ◌∷◌, ◌++◌, map_append, reverse}
+use mathlib.Core.List.{List, [], ◌∷◌, ◌++◌, map-append, reverse}
 use Prim.Native.Nat.{ℕ, zero, suc, ◌-◌, ◌≤◌}
 use native.Mathlib.Omega.{arith}
 use lib.ListN.{length, get_or, take, drop, length-drop, length-append, length-map}
@@ -73,7 +73,7 @@ module _ (ws : List ℤ) (v : ℕ) (four : length ws ≡ 4) (a : are_words (v �
   words_shifted : words_of (drop 1 ws ++ (pos v ∷ [])) ≡ words_of (drop 1 ws) ++ (v ∷ [])
   unfolding words_of
   words_shifted =
-      map_append (λ (z : ℤ). word_of z) (drop 1 ws) (pos v ∷ [])
+      map-append (λ (z : ℤ). word_of z) (drop 1 ws) (pos v ∷ [])
       ∙ ap (λ (u : ℕ). words_of (drop 1 ws) ++ (u ∷ [])) (word_of-pos v (first_limit v [] a))
 
   pub shifted_are_words : are_words (words_of ws) ≡ true → are_words (words_of (drop 1 ws ++ (pos v ∷ []))) ≡ true

@@ -1,11 +1,13 @@
 // The history of plain scoring: the newest words, in four places. The definitions that the contracts cite are in specs/.
+#![tactic(auto)]
+
 ghost use Rattle.std.specs.Prelude.{◌≡◌, ◌≤◌};
 ghost use Rattle.plain_history.specs.History.{first_history, pushed};
 
 const START_WORD: i32 = backoff::START_WORD as i32;
 
 // The history: the newest words, each replaced, oldest first, in the last `count` places. The places before them hold some word and take no part.
-#[derive(Drop)]
+#[derive(Clone, Copy)]
 pub struct Recent {
     pub words: [i32; 4],
     pub count: usize,

@@ -38,9 +38,9 @@ module _ (M : Model) (w : ℕ) where
 
   module _ (A : AcceptedModel M) where
     pub replaced-is-word : are_words (replaced M w ∷ []) ≡ true
-    replaced-is-word = A.in_words_lem (replaced M w ∷ []) (replaced-listed M A w)
+    replaced-is-word = A.in_words (replaced M w ∷ []) (replaced-listed M A w)
 
     -- "one outside 1..65,535 is unlisted"
     pub replaced-outside : (0 < w → w ≤ word_limit → ⊥) → replaced M w ≡ unknown_word
     replaced-outside h =
-        replaced-unknown (false_unless _ (λ e. let a = A.in_words_lem (w ∷ []) e in h (first_some w [] a) (first_limit w [] a)))
+        replaced-unknown (false_unless _ (λ e. let a = A.in_words (w ∷ []) e in h (first_some w [] a) (first_limit w [] a)))

@@ -1,5 +1,7 @@
 // One word after a history, by the lent list alone: the word replaced, its score by the back-off rule, and its length byte. The definitions that the contracts
 // cite are in specs/.
+#![tactic(auto)]
+
 ghost use Rattle.std.specs.Prelude.{◌≡◌, true, [], ◌∷◌, ◌++◌, ◌+◌, ◌<◌, ◌≤◌, pos, length, take, get_or};
 ghost use Rattle.backoff.specs.Limits.{order_limit};
 ghost use Rattle.backoff.specs.Words.{are_words};

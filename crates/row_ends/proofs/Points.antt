@@ -2,7 +2,7 @@
 use mathlib.Core.Path.{◌≡◌, refl, sym, ap, ap₂, ◌∙◌}
 use mathlib.Core.Logic.{⊎_elim}
 use mathlib.Core.Bool.{true}
-use mathlib.Core.List.{List, [], ◌∷◌, ◌++◌, map, map_append, append_assoc, reverse, reverse-cons, reverse-append, reverse-reverse, tail-eq_of_cons-eq}
+use mathlib.Core.List.{List, [], ◌∷◌, ◌++◌, map, map-append, append_assoc, reverse, reverse-cons, reverse-append, reverse-reverse, tail-eq_of_cons-eq}
 use Prim.Native.Nat.{ℕ, zero, suc, ◌+◌, ◌-◌, ◌*◌, ◌≤◌, ◌<◌}
 use native.Mathlib.Omega.{arith}
 use lib.ListN.{length, get_or, take, drop, length-append, length-drop, length-reverse}
@@ -43,7 +43,7 @@ module _ (t : List ℤ) (a k : ℕ) where
   unfolding words_from words_of
   from_snoc l =
       ap words_of (take-suc (drop a t) k (pos 0) (rw length-drop (omega arith)))
-      ∙ map_append (λ (z : ℤ). word_of z) (take k (drop a t)) (get_or (drop a t) k (pos 0) ∷ [])
+      ∙ map-append (λ (z : ℤ). word_of z) (take k (drop a t)) (get_or (drop a t) k (pos 0) ∷ [])
       ∙ ap (λ (z : ℤ). words_from t a k ++ (word_of z ∷ [])) (get_or-drop a t k (pos 0))
 
 -- ---- the rule in the order of the text

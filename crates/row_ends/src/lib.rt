@@ -1,4 +1,6 @@
 // The last words of lent rows as rows of the filled list: their p and b, check 5 on them, and their eight numbers. The definitions that the contracts cite are in specs/.
+#![tactic(auto)]
+
 ghost use Rattle.std.specs.Prelude.{◌≡◌, true, false, [], ◌∷◌, ◌-◌, ◌<◌, ◌≤◌, pos, length, get_or};
 ghost use Rattle.backoff.specs.Limits.{order_limit};
 ghost use Rattle.backoff.specs.Words.{are_words};

@@ -1,4 +1,6 @@
 // One node of a list placed: the root's, or that of a row with fewer than n words. The definitions that the contracts cite are in specs/.
+#![tactic(auto)]
+
 ghost use Rattle.std.specs.Prelude.{◌≡◌, ◌+◌, ◌<◌, length};
 ghost use Rattle.backoff.specs.declared.Verdict.TheVariants.{Accepted};
 ghost use Rattle.rows.specs.Table.{rows_of, probability_at, backoff_at, length_of, order_of};

@@ -1,4 +1,6 @@
 // The row of some words, looked for where rows of its length are likely. The definitions that the contracts cite are those of the crates below.
+#![tactic(auto)]
+
 ghost use Rattle.std.specs.Prelude.{◌≡◌, true, ◌≤◌, min, length};
 ghost use Rattle.backoff.specs.Limits.{order_limit};
 ghost use Rattle.backoff.specs.Words.{are_words};

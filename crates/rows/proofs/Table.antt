@@ -2,7 +2,7 @@
 -- row, and the word places that fit. Assumes nothing.
 use mathlib.Core.Path.{◌≡◌, refl, ap, ap₂, ◌∙◌}
 use mathlib.Core.Bool.{Bool, true, false, cond, ◌&&◌}
-use mathlib.Core.List.{List, [], ◌∷◌, ◌++◌, map_append}
+use mathlib.Core.List.{List, [], ◌∷◌, ◌++◌, map-append}
 use mathlib.Core.Logic.{⊎_elim}
 use Prim.Native.Nat.{ℕ, zero, suc, ◌+◌, ◌*◌, ◌-◌, ◌<◌, ◌≤◌}
 use native.Mathlib.Nat.{not-suc-le-zero}
@@ -93,7 +93,7 @@ module _ (t : List ℤ) (i : ℕ) (h : 8 * i + 8 ≤ length t) where
         let f : 8 * i + 1 + (length_of t i - 1) ≡ 8 * i + length_of t i = omega arith in
         ap (λ (m : ℕ). words_of (take m (drop (8 * i + 1) t))) e
         ∙ ap words_of (take-suc (drop (8 * i + 1) t) (length_of t i - 1) (pos 0) (rw length-drop (omega arith)))
-        ∙ map_append (λ (z : ℤ). word_of z) (take (length_of t i - 1) (drop (8 * i + 1) t)) (get_or (drop (8 * i + 1) t) (length_of t i - 1) (pos 0) ∷ [])
+        ∙ map-append (λ (z : ℤ). word_of z) (take (length_of t i - 1) (drop (8 * i + 1) t)) (get_or (drop (8 * i + 1) t) (length_of t i - 1) (pos 0) ∷ [])
         ∙ ap (λ (z : ℤ). without_last t i ++ (word_of z ∷ [])) (get_or-drop (8 * i + 1) t (length_of t i - 1) (pos 0) ∙ ap (λ (a : ℕ). get_or t a (pos 0)) f)
 
   pub last_word_lem : last_word t i ≡ word_of (field t i (length_of t i)) ∷ []

@@ -1,4 +1,6 @@
 // Rows of eight numbers: their fields, lengths and words, and keys that compare as the words do. The definitions that the contracts cite are in specs/.
+#![tactic(auto)]
+
 ghost use Rattle.std.specs.Prelude.{◌≡◌, true, [], ◌∷◌, ◌+◌, ◌*◌, ◌<◌, ◌≤◌, eqb, ltb, pos, length, get_or};
 ghost use Rattle.integer.specs.Integer.{between};
 ghost use Rattle.backoff.specs.Limits.{order_limit};
@@ -40,7 +42,7 @@ pub fn length_of(table: &[i32], i: usize) -> usize
 }
 
 // Words as one number, the last word the highest digit: the first four in `low`, the fifth in `high`.
-#[derive(Drop)]
+#[derive(Clone, Copy)]
 pub struct Key {
     pub high: u64,
     pub low: u64,

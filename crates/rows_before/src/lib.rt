@@ -1,5 +1,7 @@
 // The checks of a row against the rows before it: it is after the last of them, and its shorter rows are among them. Then all checks of a row, in their order.
 // The definitions that the contracts cite are in specs/.
+#![tactic(auto)]
+
 ghost use Rattle.std.specs.Prelude.{◌≡◌, not, cond, ◌+◌, ◌*◌, ◌<◌, ◌≤◌, length, take};
 ghost use Rattle.backoff.specs.Limits.{order_limit};
 ghost use Rattle.backoff.specs.Refusal.{shorter_row};

@@ -1,4 +1,6 @@
 // What a run answers, and what it leaves in its slices.
+#![tactic(auto)]
+
 ghost use Rattle.std.specs.Prelude.{◌≡◌, List, ℕ, ◌+◌, ◌≤◌, ◌<◌, length, set, replicate, ℤ, pos};
 ghost use Rattle.backoff.specs.Limits.{run_limit};
 ghost use Rattle.backoff.specs.Refusal.{broken_node};

@@ -1,4 +1,6 @@
 // The words of a run over any lent double array, each scored from the state that the words before it leave.
+#![tactic(auto)]
+
 ghost use Rattle.std.specs.Prelude.{◌≡◌, true, ◌≤◌, ◌<◌, length, get_or, negsuc};
 ghost use Rattle.backoff.specs.Limits.{run_limit};
 ghost use Rattle.backoff.specs.NineNumbers.{state_in, state_ok};

@@ -1,4 +1,6 @@
 // Scoring with a carried state over any lent double array: start and run.
+#![tactic(auto)]
+
 ghost use Rattle.std.specs.Prelude.{◌≡◌, true, ◌≤◌, length};
 ghost use Rattle.backoff.specs.Limits.{start_word, run_limit};
 ghost use Rattle.backoff.specs.State.{empty as emptyState};
@@ -17,7 +19,7 @@ use run_answer::Ran;
 use word_step::Stepped;
 
 // What start returns.
-#[derive(Drop)]
+#[derive(Clone, Copy)]
 pub struct Started {
     pub number: u32,
     pub place: u32,

@@ -1,4 +1,6 @@
 // Where the sentences of a sheet end in its slice of words, and what refuses it before any word is scored.
+#![tactic(auto)]
+
 ghost use Rattle.std.specs.Prelude.{◌≡◌};
 ghost use Rattle.double_array.specs.DoubleArray.{opened};
 ghost use Rattle.sentence_ends.specs.Ends.{last_end, bad_end, sheet_size, early_refusal};

@@ -1,4 +1,6 @@
 // The sentences of k words over the usable words of a lent double array, in their order: the usable words, how many sentences there are, and the one with a number.
+#![tactic(auto)]
+
 ghost use Rattle.std.specs.Prelude.{◌≡◌, ◌++◌, ◌-◌, ◌^◌, ◌≤◌, ◌<◌, min, take, get_or, replicate, negsuc};
 ghost use Rattle.backoff.specs.Limits.{word_limit, sentence_limit, usable_limit};
 ghost use Rattle.child_slots.specs.Children.{free_check};

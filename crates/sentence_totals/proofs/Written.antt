@@ -1,7 +1,7 @@
 -- The listing as it is written, stretch by stretch: some sentences, and then those of a further stretch of the slices. Assumes nothing.
 use mathlib.Core.Path.{◌≡◌, refl, sym, ap, ap₂, ◌∙◌}
 use mathlib.Core.Bool.{Bool, true, false, ◌&&◌, and_assoc}
-use mathlib.Core.List.{List, [], ◌∷◌, ◌++◌, map, append_assoc, append-nil, map_append}
+use mathlib.Core.List.{List, [], ◌∷◌, ◌++◌, map, append_assoc, append-nil, map-append}
 use mathlib.Core.Option.{Option}
 use Prim.Native.Nat.{ℕ, suc, ◌+◌, ◌-◌, ◌≤◌, ◌<◌}
 use native.Mathlib.Omega.{arith}
@@ -119,7 +119,7 @@ module _ (o : Option Store) (words₀ : List ℕ) (totals₀ : List ℤ) where
       totals_are =
           ap (λ (n : ℕ). take n totals ++ t) (sym counted)
           ∙ written_append (map (sentence_total o) done) totals₀ totals f.totals_are (map (sentence_total o) more) t (m.totals_are ∙ ap (λ (n : ℕ). written (map (sentence_total o) more) (drop n totals)) (sym counted))
-          ∙ ap (λ (l : List ℤ). written l totals₀) (sym (map_append (sentence_total o) done more));
+          ∙ ap (λ (l : List ℤ). written l totals₀) (sym (map-append (sentence_total o) done more));
     }
 
     -- one more is written

@@ -1,4 +1,6 @@
 // The totals of small sentences over any lent double array: the sentences and their totals in two slices, written group by group, or cleared.
+#![tactic(auto)]
+
 ghost use Rattle.std.specs.Prelude.{◌≡◌, true, [], ◌∷◌, ◌++◌, ◌+◌, ◌-◌, ◌*◌, ◌^◌, ◌≤◌, ◌<◌, length, take, drop, replicate, pos};
 ghost use Rattle.backoff.specs.Limits.{sentence_limit, usable_limit};
 ghost use Rattle.double_array.specs.DoubleArray.{is_array, opened};

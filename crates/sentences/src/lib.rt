@@ -1,4 +1,6 @@
 // All small sentences: every sentence of k words over the usable words of a lent array, with its total from `<s>` to the closing 3.
+#![tactic(auto)]
+
 ghost use Rattle.std.specs.Prelude.{◌≡◌, true, ◌*◌, ◌^◌, ◌≤◌, length, take};
 ghost use Rattle.backoff.specs.Limits.{sentence_limit, usable_limit};
 ghost use Rattle.double_array.specs.DoubleArray.{is_array, opened};

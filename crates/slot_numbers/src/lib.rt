@@ -1,4 +1,6 @@
 // Slots in ascending order, and the number of one among them. The definitions that the contracts cite are in specs/.
+#![tactic(auto)]
+
 ghost use Rattle.std.specs.Prelude.{◌≡◌, true, ℕ, ◌+◌, ◌*◌, ◌≤◌, pos, length, get_or};
 ghost use Rattle.backoff.specs.Limits.{row_limit};
 ghost use Rattle.slot_numbers.specs.Numbers.{Ascending, number_in};

@@ -2,7 +2,7 @@
 -- nothing.
 use mathlib.Core.Path.{◌≡◌, refl, sym, ap, ap₂, ◌∙◌}
 use mathlib.Core.Bool.{true, false, cond}
-use mathlib.Core.List.{List, [], ◌∷◌, ◌++◌, map, append_assoc, map_append}
+use mathlib.Core.List.{List, [], ◌∷◌, ◌++◌, map, append_assoc, map-append}
 use mathlib.Core.Option.{Option}
 use Prim.Native.Nat.{ℕ, suc, ◌+◌, ◌*◌, ◌-◌, ◌%◌, ◌≤◌, ◌<◌}
 use native.Mathlib.Numerals.{add-one}
@@ -39,20 +39,20 @@ sentences-next a es i r h = rw (add-one i, take-suc es i 0 h) (sentences_append 
 module _ (o : Option Store) (rs : List Run) (q : Run) where
   word_points-one : word_points o (rs ++ (q ∷ [])) ≡ word_points o rs ++ (words_run o q).points
   unfolding word_points
-  word_points-one = ap flat (map_append (λ r. (words_run o r).points) rs (q ∷ [])) ∙ flat-one (map (λ r. (words_run o r).points) rs) (words_run o q).points
+  word_points-one = ap flat (map-append (λ r. (words_run o r).points) rs (q ∷ [])) ∙ flat-one (map (λ r. (words_run o r).points) rs) (words_run o q).points
 
   word_bytes-one : word_bytes o (rs ++ (q ∷ [])) ≡ word_bytes o rs ++ (words_run o q).lengths
   unfolding word_bytes
-  word_bytes-one = ap flat (map_append (λ r. (words_run o r).lengths) rs (q ∷ [])) ∙ flat-one (map (λ r. (words_run o r).lengths) rs) (words_run o q).lengths
+  word_bytes-one = ap flat (map-append (λ r. (words_run o r).lengths) rs (q ∷ [])) ∙ flat-one (map (λ r. (words_run o r).lengths) rs) (words_run o q).lengths
 
   closing_bytes-one : closing_bytes o (rs ++ (q ∷ [])) ≡ closing_bytes o rs ++ (closed o q).lengths
   unfolding closing_bytes
-  closing_bytes-one = ap flat (map_append (λ r. (closed o r).lengths) rs (q ∷ [])) ∙ flat-one (map (λ r. (closed o r).lengths) rs) (closed o q).lengths
+  closing_bytes-one = ap flat (map-append (λ r. (closed o r).lengths) rs (q ∷ [])) ∙ flat-one (map (λ r. (closed o r).lengths) rs) (closed o q).lengths
 
   total_of-one : total_of o (rs ++ (q ∷ [])) ≡ total_of o rs +ℤ sentence_total o q
   unfolding total_of
   total_of-one =
-      ap sum (map_append (sentence_total o) rs (q ∷ []))
+      ap sum (map-append (sentence_total o) rs (q ∷ []))
       ∙ sum_append (map (sentence_total o) rs) (sentence_total o q ∷ [])
       ∙ ap (λ (z : ℤ). sum (map (sentence_total o) rs) +ℤ z) (+ℤ_idr (sentence_total o q))
 

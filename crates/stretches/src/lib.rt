@@ -1,4 +1,6 @@
 // Sentences cut from one slice of words by their ends, each scored on its own stretch, and the matched lengths of their 3s counted.
+#![tactic(auto)]
+
 ghost use Rattle.std.specs.Prelude.{◌≡◌, true, [], ◌%◌, ◌≤◌, ◌<◌, length, get_or};
 ghost use Rattle.backoff.specs.Limits.{run_limit};
 ghost use Rattle.double_array.specs.DoubleArray.{is_array, opened};

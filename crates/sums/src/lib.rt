@@ -1,4 +1,6 @@
 // Sums of points over any lent double array, without the slices of a run: the words of a run, and a sentence's last word with its 3.
+#![tactic(auto)]
+
 ghost use Rattle.std.specs.Prelude.{◌≡◌, true, [], ◌∷◌, ◌+◌, ◌≤◌, ◌<◌, length};
 ghost use Rattle.backoff.specs.Limits.{end_word, run_limit};
 ghost use Rattle.backoff.specs.NineNumbers.{state_in, state_ok};

@@ -1,5 +1,7 @@
 // Texts as bytes: the parts between equal bytes, found one by one, and whether two texts are the same. The definitions that the contracts cite are in
 // specs/.
+#![tactic(auto)]
+
 ghost use Rattle.std.specs.Prelude.{◌≡◌, ◌+◌, ◌≤◌, length, drop};
 ghost use Rattle.backoff.specs.Words.{same_words};
 ghost use Rattle.text_parts.specs.Parts.{before};
@@ -9,7 +11,7 @@ pub fn find_byte(text: &[u8], byte: u8) -> usize
     ensures place { result ≡ before byte text.now }
     ensures within { result ≤ length text.now }
 {
-    bytes::scan::find(text, 0, text.len(), byte)
+    part_end(text, 0, byte)
 }
 
 // Where the part that begins at `at` ends: at the next such byte, or behind the text where there is none.
@@ -18,7 +20,12 @@ pub fn part_end(text: &[u8], at: usize, byte: u8) -> usize
     ensures place { result ≡ at + before byte (drop at text.now) }
     ensures within { result ≤ length text.now }
 {
-    bytes::scan::find(text, at, text.len(), byte)
+    for i in at..text.len() {
+        if text[i] == byte {
+            return i;
+        }
+    }
+    text.len()
 }
 
 // Whether two texts are the same.

@@ -1,1 +1,2 @@
 // What the calls say together, as theorems over their outcomes. There is no code here.
+#![tactic(auto)]

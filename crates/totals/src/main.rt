@@ -1,4 +1,6 @@
 // The totals program of document 01: it builds the double array of the rows in LIST, and prints a line for each sentence of TEXT.
+#![tactic(auto)]
+
 ghost use Rattle.std.specs.Prelude.{◌+◌, ◌<◌, ◌≤◌, ◌^◌, length};
 ghost use Rattle.io.specs.Counts.{IsPrefixLen};
 ghost use Rattle.carried_state.specs.Numbers.{numbers_of};

@@ -1,4 +1,6 @@
 // TEXT of the totals program, read piece by piece, and the line of each sentence put behind what was printed.
+#![tactic(auto)]
+
 ghost use Rattle.std.specs.Prelude.{◌≡◌, true, ◌++◌, ◌+◌, ◌<◌, ◌≤◌, ◌^◌, length, take};
 ghost use Rattle.std.proofs.Math.Seq.{paste};
 ghost use Rattle.backoff.specs.Refusal.{text_line};

@@ -1,4 +1,6 @@
 // LIST of the totals program: its lines, read into a table of rows.
+#![tactic(auto)]
+
 ghost use Rattle.std.specs.Prelude.{◌≡◌, cond, ◌+◌, ◌≤◌, length};
 ghost use Rattle.std.proofs.Math.Seq.{paste};
 ghost use Rattle.totals_text.specs.Lines.{is_list_line, list_row};
@@ -51,7 +53,7 @@ pub fn read_list(text: &[u8], table: &mut [i32]) -> ListText
     let mut i = 0;
     while at < text.len() {
         let refused = ListText::NotInForm(i as u64 + 1);
-        let end = bytes::scan::find(text, at, text.len(), LF);
+        let end = text_parts::part_end(text, at, LF);
         if end == text.len() {
             return refused;
         }

@@ -1,4 +1,6 @@
 // The line that the totals program prints for a line of TEXT: its words are read, closed and scored.
+#![tactic(auto)]
+
 ghost use Rattle.std.specs.Prelude.{◌≡◌, [], ◌∷◌, ◌-◌, ◌≤◌, length, take};
 ghost use Rattle.integer.specs.Integer.{sum};
 ghost use Rattle.backoff.specs.Limits.{start_word};

@@ -1,5 +1,7 @@
 // The lines of the totals program: of LIST, whose columns have twelve characters, of TEXT, whose columns have eight, and of its output. The definitions
 // that the contracts cite are in specs/.
+#![tactic(auto)]
+
 ghost use Rattle.std.specs.Prelude.{◌≡◌, cond, map, ◌+◌, ◌*◌, ◌≤◌, length};
 ghost use Rattle.std.proofs.lemmas.List.Edits.{sets};
 ghost use Rattle.backoff.specs.Run.{written};

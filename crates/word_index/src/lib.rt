@@ -1,4 +1,6 @@
 // Words by their texts. The index lies in free numbers of one-word rows: no other memory is lent.
+#![tactic(auto)]
+
 ghost use Rattle.std.specs.Prelude.{◌≡◌, true, ℕ, ◌+◌, ◌*◌, ◌-◌, ◌<◌, ◌≤◌, pos, length, get_or, set};
 ghost use Rattle.integer.specs.Integer.{between};
 ghost use Rattle.backoff.specs.Words.{same_words};

@@ -1,4 +1,6 @@
 // One word from a carried state over any lent double array: the word's answer by its walk, and the state that it leaves.
+#![tactic(auto)]
+
 ghost use Rattle.std.specs.Prelude.{◌≡◌, true, ℕ, length, get_or, negsuc};
 ghost use Rattle.backoff.specs.Limits.{start_word};
 ghost use Rattle.backoff.specs.State.{empty as emptyState};

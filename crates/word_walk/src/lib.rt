@@ -1,4 +1,6 @@
 // The walk of a word through a state's words over any lent double array.
+#![tactic(auto)]
+
 ghost use Rattle.std.specs.Prelude.{◌≡◌, true, false, ℕ, ◌*◌, ◌%◌, ◌≤◌, ◌<◌, length, nat_abs};
 ghost use Rattle.backoff.specs.Limits.{slot_limit, largest_backoff};
 ghost use Rattle.backoff.specs.Words.{radix};

@@ -6,17 +6,17 @@ use borrow.Author.Rules.{rules}
 use Rattle.arpa_headings.proofs.behind_space.Statement.{statement}
 use Rattle.arpa_headings.proofs.behind_space.Tie as tie
 
-returns : tie.Need-returns
-returns c = (sym (space_none c.before.args.text.now c.if1.true), search rules)
+returns : tie.Need-returns-then-text-eq0
+returns c = (sym (space_none c.before.args.text.now c.if-text-eq0.true), search rules)
 
-shared-slice-read-if2 : tie.Need-shared-slice-read-if2
+shared-slice-read-if2 : tie.Need-bounds-text-0
 shared-slice-read-if2 c = search rules
 
-returns_2 : tie.Need-returns-2
-returns_2 c = let s = c.before.before in (sym (space_first s.before.args.text.now s.if1.false c.if2.true), omega arith)
+returns_2 : tie.Need-returns-then-text-eq-SPACE
+returns_2 c = let s = c.before.before in (sym (space_first s.before.args.text.now s.if-text-eq0.false c.if-text-eq-SPACE.true), omega arith)
 
-returns_3 : tie.Need-returns-3
-returns_3 c = let s = c.before.before in (sym (space_absent s.before.args.text.now s.if1.false c.if2.false), omega arith)
+returns_3 : tie.Need-returns-else-text-eq-SPACE
+returns_3 c = let s = c.before.before in (sym (space_absent s.before.args.text.now s.if-text-eq0.false c.if-text-eq-SPACE.false), omega arith)
 
-pub behind-space-spec : {M : Type 1} → statement M
-behind-space-spec = tie.close (tie.spec returns shared-slice-read-if2 returns_2 returns_3)
+pub behind_space_spec : {M : Type 1} → statement M
+behind_space_spec = tie.close (tie.spec returns shared-slice-read-if2 returns_2 returns_3)

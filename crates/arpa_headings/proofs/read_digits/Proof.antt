@@ -14,15 +14,15 @@ use borrow.Author.Rules.{rules}
 use Rattle.arpa_headings.proofs.read_digits.Statement.{statement}
 use Rattle.arpa_headings.proofs.read_digits.Tie as tie
 
-digits-up-to-requires : tie.Need-digits-up-to-requires
+digits-up-to-requires : tie.Need-digits_up_to-requires
 digits-up-to-requires c κs = search rules
 
-returns : tie.Need-returns
+returns : tie.Need-returns-then-not-digits_up_to
 unfolding count_in
-returns c = rw (sym c.before.digits-up-to.ensures ∙ not-true _ c.if1.true) refl
+returns c = rw (sym c.before.digits_up_to.ensures ∙ not-true _ c.if-not-digits_up_to.true) refl
 
-in_form_lem : (c : tie.Else1) → digits_up_to 9 c.before.before.before.args.text.now ≡ true
-in_form_lem c = sym c.before.digits-up-to.ensures ∙ not-false _ c.if1.false
+in_form_lem : (c : tie.Else-not-digits_up_to) → digits_up_to 9 c.before.before.before.args.text.now ≡ true
+in_form_lem c = sym c.before.digits_up_to.ensures ∙ not-false _ c.if-not-digits_up_to.false
 
 value-requires : tie.Need-value-requires
 value-requires c κs = (all_digits_lem 9 _ (in_form_lem c), omega (arith, at_most 9 c.before.before.before.args.text.now (in_form_lem c)))
@@ -31,12 +31,17 @@ value-requires c κs = (all_digits_lem 9 _ (in_form_lem c), omega (arith, at_mos
 small : (c : tie.After-value) → 10 ^ length c.before.before.before.before.args.text.now ≤ 10 ^ 9
 small c = pow-le-pow_right (omega arith) {j = 9} (at_most 9 _ (in_form_lem c.before))
 
-cast-t5 : tie.Need-overflow-cast-t5
+cast-t5 : tie.Need-overflow_cast-result
 cast-t5 c = omega (arith, small c)
 
-returns_2 : tie.Need-returns-2
+returns_2 : tie.Need-returns
 unfolding count_in
 returns_2 c = rw (in_form_lem c.before) (ap Announced c.value.ensures.0)
 
-pub read-digits-spec : {M : Type 1} → statement M
-read-digits-spec = tie.close (tie.spec digits-up-to-requires returns value-requires cast-t5 returns_2)
+pub read_digits_spec : {M : Type 1} → statement M
+read_digits_spec = tie.close (tie.spec
+    digits-up-to-requires
+    returns
+    value-requires
+    cast-t5
+    returns_2)

@@ -7,15 +7,15 @@ use borrow.Author.Rules.{rules}
 use Rattle.arpa_logs.proofs.nearest_point.Statement.{statement}
 use Rattle.arpa_logs.proofs.nearest_point.Tie as tie
 
-add-result : tie.Need-overflow-add-result
+add-result : tie.Need-overflow_add-result
 add-result c = search rules
 
-cast-result : tie.Need-overflow-cast-result
+cast-result : tie.Need-overflow_cast-result
 cast-result c = search rules
 
 returns : tie.Need-returns
 unfolding nearest
 returns c = to_z_pos w32 (omega arith)
 
-pub nearest-point-spec : {M : Type 1} → statement M
-nearest-point-spec = tie.close (tie.spec add-result cast-result returns)
+pub nearest_point_spec : {M : Type 1} → statement M
+nearest_point_spec = tie.close (tie.spec add-result cast-result returns)

@@ -24,108 +24,108 @@ use borrow.Author.Rules.{rules, sfits_of}
 use Rattle.arpa_logs.proofs.read_points.Statement.{statement}
 use Rattle.arpa_logs.proofs.read_points.Tie as tie
 
-returns : tie.Need-returns
-returns c = sym (points_none c.before.before.args.text.now c.if1.true)
+returns : tie.Need-returns-then-text-eq0
+returns c = sym (points_none c.before.before.args.text.now c.if-text-eq0.true)
 
-shared-slice-read-minus : tie.Need-shared-slice-read-minus
+shared-slice-read-minus : tie.Need-bounds-text-0
 shared-slice-read-minus c = search rules
 
-abbrev text : tie.Joined2 → List ℕ
+abbrev text : tie.Joined-minus → List ℕ
 text j = j.before.before.before.before.args.text.now
 
-abbrev minus : tie.Joined2 → Bool
+abbrev minus : tie.Joined-minus → Bool
 minus j = eqb (get_or (text j) 0 0) 45
 
-started : (j : tie.Joined2) → j.if2.start ≡ cond (minus j) 1 0
+started : (j : tie.Joined-minus) → j.if-minus.start ≡ cond (minus j) 1 0
 started j =
     ⊎_elim
-    (λ w. w.1 ∙ sym (ap (λ (t : Bool). cond {A = ℕ} t 1 0) w.0.taken))
+    (λ w. w.1 ∙ sym (ap (λ (t : Bool). cond {A = ℕ} t 1 0) w.0.true))
     (λ w. w.1 ∙ sym (ap (λ (t : Bool). cond {A = ℕ} t 1 0) w.0.left))
-    j.if2.branch
+    j.if-minus.branch
 
-within : (j : tie.Joined2) → j.if2.start ≤ length (text j)
+within : (j : tie.Joined-minus) → j.if-minus.start ≤ length (text j)
 within j =
-    let n = j.before.before.if1.false in
-    ⊎_elim (λ w. let e = w.1 in omega arith) (λ w. let e = w.1 in omega arith) j.if2.branch
+    let n = j.before.before.if-text-eq0.false in
+    ⊎_elim (λ w. let e = w.1 in omega arith) (λ w. let e = w.1 in omega arith) j.if-minus.branch
 
-sub-read-size : tie.Need-overflow-sub-read-size
+sub-read-size : tie.Need-slice_bounds-read_size-count
 sub-read-size c = within c.before
 
-part-read-size-start : tie.Need-slice-bounds-read-size-start
+part-read-size-start : tie.Need-slice_bounds-read_size-start
 part-read-size-start c = let h = within c.before in search rules
 
-part-read-size-end : tie.Need-slice-bounds-read-size-end
+part-read-size-end : tie.Need-slice_bounds-read_size-end
 part-read-size-end c = search rules
 
-read-size-requires : tie.Need-read-size-requires
+read-size-requires : tie.Need-read_size-requires
 read-size-requires c κs = search rules
 
-enum-known-units : tie.Need-enum-known-units
+enum-known-units : tie.Need-enum_known-units
 enum-known-units c = search rules
 
-enum_told : tie.Need-enum-told
+enum_told : tie.Need-enum_told-1
 enum_told c = search rules
 
 -- the log by its sign and by what was read behind it
-signed : (c : tie.After-read-size) → let j = c.before.before.before in read_points (text j) ≡ with_sign (minus j) (size_read c.read-size.result)
+signed : (c : tie.After-read_size) → let j = c.before.before.before in read_points (text j) ≡ with_sign (minus j) (size_read c.read_size.result)
 signed c =
     let j = c.before.before.before in
-    let e : size_read c.read-size.result ≡ unsigned (parts 46 (drop (cond (minus j) 1 0) (text j))) =
-    c.read-size.ensures.0 ∙ ap (λ (l : List ℕ). unsigned (parts 46 l)) (part_to_end (text j) j.if2.start ∙ ap (λ (n : ℕ). drop n (text j)) (started j)) in
-    points-signed (text j) j.before.before.if1.false ∙ ap (with_sign (minus j)) (sym e)
+    let e : size_read c.read_size.result ≡ unsigned (parts 46 (drop (cond (minus j) 1 0) (text j))) =
+    c.read_size.ensures.0 ∙ ap (λ (l : List ℕ). unsigned (parts 46 l)) (part_to_end (text j) j.if-minus.start ∙ ap (λ (n : ℕ). drop n (text j)) (started j)) in
+    points-signed (text j) j.before.before.if-text-eq0.false ∙ ap (with_sign (minus j)) (sym e)
 
-returns_2 : tie.Need-returns-2
+returns_2 : tie.Need-returns-in_default
 returns_2 c =
     let a = c.before.before in
     let j = a.before.before.before in
-    sym (signed a ∙ ap (λ (s : Size). with_sign (minus j) (size_read s)) c.enum_told.given.1 ∙ no_size (minus j))
+    sym (signed a ∙ ap (λ (s : Size). with_sign (minus j) (size_read s)) c.enum_told-1.given.1 ∙ no_size (minus j))
 
-small : (c : tie.After-known-told) → c.before.units.given.0.0 < 1000 * 10 ^ decimals
-small c = subst SmallSize c.before.units.given.1 c.before.before.before.read-size.ensures.1
+small : (c : tie.In-Units) → c.before.units-1.given.0.0 < 1000 * 10 ^ decimals
+small c = subst SmallSize c.before.units-1.given.1 c.before.before.before.read_size.ensures.1
 
-nearest-point-requires : tie.Need-nearest-point-requires
+nearest-point-requires : tie.Need-nearest_point-points-requires
 nearest-point-requires c κs = small c
 
 -- the points, as the code has them
-points : (c : tie.After-nearest-point) → to_z w32 (of_z w32 c.nearest-point.result) ≡ pos (nearest c.before.before.units.given.0.0)
-points c = to_z-of_z (fits c) ∙ c.nearest-point.ensures
+points : (c : tie.After-nearest_point-points) → to_z w32 (of_z w32 c.nearest_point-points.result) ≡ pos (nearest c.before.before.units-1.given.0.0)
+points c = to_z-of_z (fits c) ∙ c.nearest_point-points.ensures
   where
-    fits : (c : tie.After-nearest-point) → SFits w32 c.nearest-point.result
-    fits c = sfits_of c.nearest-point.type-inv
+    fits : (c : tie.After-nearest_point-points) → SFits w32 c.nearest_point-points.result
+    fits c = sfits_of c.nearest_point-points.type_inv
 
-few : (c : tie.After-nearest-point) → nearest c.before.before.units.given.0.0 ≤ 1000 * 10 ^ decimals / units_of_point
+few : (c : tie.After-nearest_point-points) → nearest c.before.before.units-1.given.0.0 ≤ 1000 * 10 ^ decimals / units_of_point
 unfolding nearest
 few c = omega (arith, small c.before)
 
-read : (c : tie.After-nearest-point) → let j = c.before.before.before.before.before.before.before in
-    read_points (text j) ≡ with_sign (minus j) (some c.before.before.units.given.0.0)
+read : (c : tie.After-nearest_point-points) → let j = c.before.before.before.before.before.before.before in
+    read_points (text j) ≡ with_sign (minus j) (some c.before.before.units-1.given.0.0)
 read c =
     let u = c.before.before in
     let a = u.before.before in
-    signed a ∙ ap (λ (s : Size). with_sign (minus a.before.before.before) (size_read s)) u.units.given.1
+    signed a ∙ ap (λ (s : Size). with_sign (minus a.before.before.before) (size_read s)) u.units-1.given.1
 
-sub-t15 : tie.Need-overflow-sub-t15
+sub-t15 : tie.Need-overflow_sub-result
 sub-t15 c = omega (zarith, points c.before, few c.before)
 
-returns_3 : tie.Need-returns-3
+returns_3 : tie.Need-returns-then-minus-2
 returns_3 c =
     let n = c.before in
-    let k = n.before.before.units.given.0.0 in
+    let k = n.before.before.units-1.given.0.0 in
     sym
-    (read n ∙ ap (λ (t : Bool). with_sign t (some k)) c.if3.true
+    (read n ∙ ap (λ (t : Bool). with_sign t (some k)) c.if-minus-2.true
     ∙ ap Of
     (round_negative k
     ∙ sym (to_z-of_z (sub-t15 c) ∙ ap (λ (y : ℤ). pos 0 -ℤ y) (points n) ∙ +ℤ_idl (neg_ℤ (pos (nearest k))))))
 
-returns-4 : tie.Need-returns-4
+returns-4 : tie.Need-returns
 unfolding round_log
 returns-4 c =
     let n = c.before in
-    let k = n.before.before.units.given.0.0 in
-    sym (read n ∙ ap (λ (t : Bool). with_sign t (some k)) c.if3.false ∙ ap Of (sym (points n)))
+    let k = n.before.before.units-1.given.0.0 in
+    sym (read n ∙ ap (λ (t : Bool). with_sign t (some k)) c.if-minus-2.false ∙ ap Of (sym (points n)))
 
-pub read-points-spec : {M : Type 1} → statement M
-read-points-spec =
+pub read_points_spec : {M : Type 1} → statement M
+read_points_spec =
     tie.close
     (tie.spec
     returns

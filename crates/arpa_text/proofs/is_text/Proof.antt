@@ -8,47 +8,47 @@ use borrow.Author.Rules.{rules}
 use Rattle.arpa_text.proofs.is_text.Statement.{statement}
 use Rattle.arpa_text.proofs.is_text.Tie as tie
 
-abbrev invariant-loop : tie.invariant-loop
+abbrev invariant-loop : tie.invariant-loop-i
 invariant-loop text i₀ i = (i ≤ length text) × (is_text text ≡ all_above (drop i text))
 
-abbrev decreases-loop : tie.decreases-loop
+abbrev decreases-loop : tie.decreases-loop-i
 decreases-loop text i₀ i = length text - i
 
-returns : tie.Need-returns invariant-loop decreases-loop
-returns c = sym (empty-text c.before.args.text.now c.if1.true)
+returns : tie.Need-returns-then-text-eq0 invariant-loop decreases-loop
+returns c = sym (empty-text c.before.args.text.now c.if-text-eq0.true)
 
-returns_2 : tie.Need-returns-2 invariant-loop decreases-loop
-returns_2 c = sym (long-text c.before.before.args.text.now c.before.if1.false c.if2.true)
+returns_2 : tie.Need-returns-then-text-gt-TEXT_LIMIT invariant-loop decreases-loop
+returns_2 c = sym (long-text c.before.before.args.text.now c.before.if-text-eq0.false c.if-text-gt-TEXT_LIMIT.true)
 
-loop-holds : tie.Need-loop-init invariant-loop decreases-loop
-loop-holds c = (search rules, text-within c.before.before.args.text.now c.before.if1.false c.if2.false)
+loop-holds : tie.Need-loop-i-init invariant-loop decreases-loop
+loop-holds c = (search rules, text-within c.before.before.args.text.now c.before.if-text-eq0.false c.if-text-gt-TEXT_LIMIT.false)
 
-shared-slice-read-if3 : tie.Need-shared-slice-read-if3 invariant-loop decreases-loop
+shared-slice-read-if3 : tie.Need-bounds-text-i invariant-loop decreases-loop
 shared-slice-read-if3 c = search rules
 
-returns_3 : tie.Need-returns-3 invariant-loop decreases-loop
+returns_3 : tie.Need-returns-then-text-i-le-SPACE invariant-loop decreases-loop
 returns_3 c =
     let l = c.before.before.before in
-    sym (l.loop.invariant.1 ∙ low_byte l.before.before.before.args.text.now l.loop.i (search rules) c.if3.true)
+    sym (l.loop-i.invariant.1 ∙ low_byte l.before.before.before.args.text.now l.loop-i.i (search rules) c.if-text-i-le-SPACE.true)
 
-add-i : tie.Need-overflow-add-i invariant-loop decreases-loop
+add-i : tie.Need-overflow_add-i invariant-loop decreases-loop
 add-i c = search rules
 
-loop-less : tie.Need-loop-smaller invariant-loop decreases-loop
+loop-less : tie.Need-loop-i-smaller invariant-loop decreases-loop
 loop-less c = search rules
 
-loop-again : tie.Need-loop-preserved invariant-loop decreases-loop
+loop-again : tie.Need-loop-i-preserved invariant-loop decreases-loop
 loop-again c =
     let l = c.before.before.before in
-    (search rules, l.loop.invariant.1 ∙ high_byte l.before.before.before.args.text.now l.loop.i (search rules) c.if3.false)
+    (search rules, l.loop-i.invariant.1 ∙ high_byte l.before.before.before.args.text.now l.loop-i.i (search rules) c.if-text-i-le-SPACE.false)
 
-returns-4 : tie.Need-returns-4 invariant-loop decreases-loop
+returns-4 : tie.Need-returns invariant-loop decreases-loop
 returns-4 c =
     let l = c.before in
-    sym (l.loop.invariant.1 ∙ above-end l.before.before.before.args.text.now l.loop.i (search rules))
+    sym (l.loop-i.invariant.1 ∙ above-end l.before.before.before.args.text.now l.loop-i.i (search rules))
 
-pub is-text-spec : {M : Type 1} → statement M
-is-text-spec =
+pub is_text_spec : {M : Type 1} → statement M
+is_text_spec =
     tie.close
     (tie.spec
     invariant-loop

@@ -12,40 +12,40 @@ use borrow.Author.Rules.{rules}
 use Rattle.arpa_text.proofs.read_backoff.Statement.{statement}
 use Rattle.arpa_text.proofs.read_backoff.Tie as tie
 
-returns : tie.Need-returns
+returns : tie.Need-returns-then-to-line
 unfolding backoff_behind
 returns c =
     let s = c.before.before in
-    let e = c.if1.true in
+    let e = c.if-to-line.true in
     let h : length s.args.line.now ≤ s.args.to = omega arith in
     rw (drop_of_length-le s.args.line.now h) refl
 
-add-from : tie.Need-overflow-add-from
+add-from : tie.Need-overflow_add-from
 add-from c = search rules
 
-sub-read-points : tie.Need-overflow-sub-read-points
+sub-read-points : tie.Need-slice_bounds-read_points-count
 sub-read-points c = search rules
 
-part-read-points-start : tie.Need-slice-bounds-read-points-start
+part-read-points-start : tie.Need-slice_bounds-read_points-start
 part-read-points-start c = search rules
 
-part-read-points-end : tie.Need-slice-bounds-read-points-end
+part-read-points-end : tie.Need-slice_bounds-read_points-end
 part-read-points-end c = search rules
 
-read-points-requires : tie.Need-read-points-requires
+read-points-requires : tie.Need-read_points-requires
 read-points-requires c κs = search rules
 
-returns_2 : tie.Need-returns-2
+returns_2 : tie.Need-returns
 unfolding backoff_behind
 returns_2 c =
     let s = c.before.before.before.before in
-    let n = c.before.before.if1.false in
+    let n = c.before.before.if-to-line.false in
     let h : s.args.to < length s.args.line.now = omega (arith, s.requires) in
-    c.read-points.ensures ∙ ap read_points (part_to_end s.args.line.now (s.args.to + 1))
+    c.read_points.ensures ∙ ap read_points (part_to_end s.args.line.now (s.args.to + 1))
     ∙ rw (drop-cons s.args.line.now s.args.to 0 h, add-one s.args.to) refl
 
-pub read-backoff-spec : {M : Type 1} → statement M
-read-backoff-spec =
+pub read_backoff_spec : {M : Type 1} → statement M
+read_backoff_spec =
     tie.close
     (tie.spec
     returns

@@ -21,161 +21,161 @@ use borrow.Author.Rules.{rules, sfits_of}
 use Rattle.arpa_text.proofs.read_row.Statement.{statement}
 use Rattle.arpa_text.proofs.read_row.Tie as tie
 
-find-byte-requires : tie.Need-find-byte-requires
+find-byte-requires : tie.Need-find_byte-tab-requires
 find-byte-requires c κs = search rules
 
-abbrev line : tie.After-find-byte → List ℕ
+abbrev line : tie.After-find_byte-tab → List ℕ
 line f = f.before.before.args.line.now
 
-abbrev tab : tie.After-find-byte → ℕ
-tab f = f.find-byte.result
+abbrev tab : tie.After-find_byte-tab → ℕ
+tab f = f.find_byte-tab.result
 
 -- what stands behind the first tab
-abbrev rest : tie.After-find-byte → List ℕ
+abbrev rest : tie.After-find_byte-tab → List ℕ
 rest f = drop (tab f + 1) (line f)
 
-abbrev length_of_lem : tie.After-find-byte → ℕ
+abbrev length_of_lem : tie.After-find_byte-tab → ℕ
 length_of_lem f = f.before.before.args.m
 
-returns : tie.Need-returns
+returns : tie.Need-returns-then-tab-line
 unfolding read_row
 returns c =
     let f = c.before in
-    (sym (no_row (length_of_lem f) (line f) (sym f.find-byte.ensures.0 ∙ c.if1.true)), tt)
+    (sym (no_row (length_of_lem f) (line f) (sym f.find_byte-tab.ensures.0 ∙ c.if-tab-line.true)), tt)
 
-slice-aggregate-read-points : tie.Need-slice-aggregate-read-points
+slice-aggregate-read-points : tie.Need-slice_bounds-read_points-end
 slice-aggregate-read-points c = sym (length-take-le _ _ (search rules))
 
-read-points-requires : tie.Need-read-points-requires
+read-points-requires : tie.Need-read_points-requires
 read-points-requires c κs = search rules
 
-enum-known-p : tie.Need-enum-known-p
+enum-known-p : tie.Need-enum_known-p
 enum-known-p c = search rules
 
-enum_told : tie.Need-enum-told
+enum_told : tie.Need-enum_told-1
 enum_told c = search rules
 
 -- the line by its fields, where the words end at place k behind the first tab
-fields : (c : tie.Else1) (k : ℕ) → let f = c.before in k ≡ before 9 (rest f) → k ≤ length (rest f)
+fields : (c : tie.Else-tab-line) (k : ℕ) → let f = c.before in k ≡ before 9 (rest f) → k ≤ length (rest f)
     → read_row (length_of_lem f) (line f) ≡ listed_with (length_of_lem f) (read_points (take (tab f) (line f))) (parts 32 (take k (rest f))) (backoff_behind (drop k (rest f)))
 unfolding read_row
 fields c k e h =
     let f = c.before in
-    let n = c.if1.false in
-    let w = f.find-byte.ensures in
+    let n = c.if-tab-line.false in
+    let w = f.find_byte-tab.ensures in
     ap (listed_in (length_of_lem f)) (parts-front 9 (line f) (tab f) w.0 (omega arith)) ∙ row_fields (length_of_lem f) (take (tab f) (line f)) (rest f) k e h
 
-returns_2 : tie.Need-returns-2
+returns_2 : tie.Need-returns-in_default
 returns_2 c =
     let a = c.before.before in
     let b = a.before.before in
     let f = b.before in
     let k = before 9 (rest f) in
-    let p : read_points (take (tab f) (line f)) ≡ NotInForm = sym a.read-points.ensures ∙ c.enum_told.given.1 in
+    let p : read_points (take (tab f) (line f)) ≡ NotInForm = sym a.read_points.ensures ∙ c.enum_told-1.given.1 in
     (sym (fields b k refl (before_le 9 (rest f)) ∙ rw p refl), tt)
 
-add-from : tie.Need-overflow-add-from
+add-from : tie.Need-overflow_add-from
 add-from c = search rules
 
-part-end-requires : tie.Need-part-end-requires
+part-end-requires : tie.Need-part_end-to-requires
 part-end-requires c κs = search rules
 
-read-backoff-requires : tie.Need-read-backoff-requires
+read-backoff-requires : tie.Need-read_backoff-requires
 read-backoff-requires c κs = search rules
 
-enum-known-b : tie.Need-enum-known-b
+enum-known-b : tie.Need-enum_known-b
 enum-known-b c = search rules
 
-enum-told-2 : tie.Need-enum-told-2
+enum-told-2 : tie.Need-enum_told-in_default-read_backoff
 enum-told-2 c = search rules
 
-abbrev start : tie.After-part-end → tie.Else1
+abbrev start : tie.After-part_end-to → tie.Else-tab-line
 start q = q.before.before.before.before.before.before
 
 -- how long the words are together
-abbrev size : tie.After-part-end → ℕ
-size q = q.part-end.result - (tab (start q).before + 1)
+abbrev size : tie.After-part_end-to → ℕ
+size q = q.part_end-to.result - (tab (start q).before + 1)
 
-abbrev words : tie.After-part-end → List ℕ
+abbrev words : tie.After-part_end-to → List ℕ
 words q = take (size q) (rest (start q).before)
 
 -- what the line says once its first log is read
-read : (c : tie.After-read-backoff) → let q = c.before in let f = (start q).before in
-    read_row (length_of_lem f) (line f) ≡ listed_with (length_of_lem f) (Of q.before.before.p.given.0.0) (parts 32 (words q)) c.read-backoff.result
+read : (c : tie.After-read_backoff) → let q = c.before in let f = (start q).before in
+    read_row (length_of_lem f) (line f) ≡ listed_with (length_of_lem f) (Of q.before.before.p-1.given.0.0) (parts 32 (words q)) c.read_backoff.result
 read c =
     let q = c.before in
     let b = start q in
     let f = b.before in
-    let e = q.part-end.ensures.0 in
-    let w = q.part-end.ensures.1 in
+    let e = q.part_end-to.ensures.0 in
+    let w = q.part_end-to.ensures.1 in
     let d = length-drop (tab f + 1) (line f) in
-    let to : tab f + 1 + size q ≡ q.part-end.result = omega arith in
-    let p : read_points (take (tab f) (line f)) ≡ Of q.before.before.p.given.0.0 =
-    sym q.before.before.before.before.read-points.ensures ∙ q.before.before.p.given.1 in
-    let g : backoff_behind (drop (size q) (rest f)) ≡ c.read-backoff.result =
-    ap backoff_behind (drop-drop (size q) (tab f + 1) (line f) ∙ ap (λ (i : ℕ). drop i (line f)) to) ∙ sym c.read-backoff.ensures in
+    let to : tab f + 1 + size q ≡ q.part_end-to.result = omega arith in
+    let p : read_points (take (tab f) (line f)) ≡ Of q.before.before.p-1.given.0.0 =
+    sym q.before.before.before.before.read_points.ensures ∙ q.before.before.p-1.given.1 in
+    let g : backoff_behind (drop (size q) (rest f)) ≡ c.read_backoff.result =
+    ap backoff_behind (drop-drop (size q) (tab f + 1) (line f) ∙ ap (λ (i : ℕ). drop i (line f)) to) ∙ sym c.read_backoff.ensures in
     fields b (size q) (omega arith) (omega arith) ∙ rw (p, g) refl
 
-returns_3 : tie.Need-returns-3
+returns_3 : tie.Need-returns-in_default-read_backoff
 returns_3 c =
     let a = c.before.before in
     let q = a.before in
     let m = length_of_lem (start q).before in
-    let p = Of q.before.before.p.given.0.0 in
-    (sym (read a ∙ ap (listed_with m p (parts 32 (words q))) c.enum-told2.given.1 ∙ no-backoff m p (parts 32 (words q))), tt)
+    let p = Of q.before.before.p-1.given.0.0 in
+    (sym (read a ∙ ap (listed_with m p (parts 32 (words q))) c.enum_told-in_default-read_backoff-1.given.1 ∙ no-backoff m p (parts 32 (words q))), tt)
 
-sub-are-texts : tie.Need-overflow-sub-are-texts
+sub-are-texts : tie.Need-slice_bounds-are_texts-count
 sub-are-texts c = search rules
 
-part-are-texts-start : tie.Need-slice-bounds-are-texts-start
+part-are-texts-start : tie.Need-slice_bounds-are_texts-start
 part-are-texts-start c = search rules
 
-part-are-texts-end : tie.Need-slice-bounds-are-texts-end
+part-are-texts-end : tie.Need-slice_bounds-are_texts-end
 part-are-texts-end c = search rules
 
-are-texts-requires : tie.Need-are-texts-requires
+are-texts-requires : tie.Need-are_texts-requires
 are-texts-requires c κs = search rules
 
-abbrev backoff-read : tie.After-known-told2 → tie.After-read-backoff
+abbrev backoff-read : tie.In-Of-read_backoff → tie.After-read_backoff
 backoff-read c = c.before.before.before
 
 -- what it says once both are read
-both : (c : tie.After-known-told2) → let q = (backoff-read c).before in let f = (start q).before in
+both : (c : tie.In-Of-read_backoff) → let q = (backoff-read c).before in let f = (start q).before in
     read_row (length_of_lem f) (line f)
-    ≡ listed_with (length_of_lem f) (Of q.before.before.p.given.0.0) (parts 32 (words q)) (Of c.before.b.given.0.0)
+    ≡ listed_with (length_of_lem f) (Of q.before.before.p-1.given.0.0) (parts 32 (words q)) (Of c.before.b-1.given.0.0)
 both c =
     let a = backoff-read c in
     let q = a.before in
-    read a ∙ ap (listed_with (length_of_lem (start q).before) (Of q.before.before.p.given.0.0) (parts 32 (words q))) c.before.b.given.1
+    read a ∙ ap (listed_with (length_of_lem (start q).before) (Of q.before.before.p-1.given.0.0) (parts 32 (words q))) c.before.b-1.given.1
 
-tested : (c : tie.After-are-texts) (t : Bool) → c.are-texts.result ≡ t → let q = (backoff-read c.before.before).before in
+tested : (c : tie.After-are_texts) (t : Bool) → c.are_texts.result ≡ t → let q = (backoff-read c.before.before).before in
     are_texts (length_of_lem (start q).before) (parts 32 (words q)) ≡ t
-tested c t e = sym c.are-texts.ensures ∙ e
+tested c t e = sym c.are_texts.ensures ∙ e
 
-returns-4 : tie.Need-returns-4
+returns-4 : tie.Need-returns-then-not-are_texts
 returns-4 c =
     let a = c.before in
-    (sym (both a.before.before ∙ rw (tested a false (not-true _ c.if2.true)) refl), tt)
+    (sym (both a.before.before ∙ rw (tested a false (not-true _ c.if-not-are_texts.true)) refl), tt)
 
-p-fits : (c : tie.After-known-told) → SFits w32 c.before.p.given.0.0
-p-fits c = sfits_of c.known-told.given.0.1
+p-fits : (c : tie.In-Of) → SFits w32 c.before.p-1.given.0.0
+p-fits c = sfits_of c.known_told-1.given.0.1
 
-b-fits : (c : tie.After-known-told2) → SFits w32 c.before.b.given.0.0
-b-fits c = sfits_of c.known-told2.given.0.1
+b-fits : (c : tie.In-Of-read_backoff) → SFits w32 c.before.b-1.given.0.0
+b-fits c = sfits_of c.known_told-in-Of-read_backoff-1.given.0.1
 
-returns-5 : tie.Need-returns-5
+returns-5 : tie.Need-returns
 returns-5 c =
     let a = c.before in
     let k = a.before.before in
     let q = (backoff-read k).before in
-    let e = q.part-end.ensures.0 in (
+    let e = q.part_end-to.ensures.0 in (
       rw (to_z-of_z (p-fits q.before), to_z-of_z (b-fits k))
-          (sym (both k ∙ rw (tested a true (not-false _ c.if2.false)) refl)),
-      (omega arith, q.part-end.ensures.1),
+          (sym (both k ∙ rw (tested a true (not-false _ c.if-not-are_texts.false)) refl)),
+      (omega arith, q.part_end-to.ensures.1),
     )
 
-pub read-row-spec : {M : Type 1} → statement M
-read-row-spec =
+pub read_row_spec : {M : Type 1} → statement M
+read_row_spec =
     tie.close
     (tie.spec
     find-byte-requires

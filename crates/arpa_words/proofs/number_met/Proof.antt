@@ -10,47 +10,47 @@ use borrow.Author.Rules.{rules}
 use Rattle.arpa_words.proofs.number_met.Statement.{statement}
 use Rattle.arpa_words.proofs.number_met.Tie as tie
 
-reserved-number-requires : tie.Need-reserved-number-requires
+reserved-number-requires : tie.Need-reserved_number-k-requires
 reserved-number-requires c κs = search rules
 
-reserved-met-requires : tie.Need-reserved-met-requires
+reserved-met-requires : tie.Need-reserved_met-requires
 reserved-met-requires c κs = search rules
 
-returns : tie.Need-returns
+returns : tie.Need-returns-then-k-gt0
 returns c =
     let r = c.before.before in
     let s = r.before.before.before in
-    c.reserved-met.ensures
+    c.reserved_met.ensures
     ∙ sym
     (met_by_record s.args.table.now s.args.store.now s.args.buckets s.args.words s.requires.0 s.args.text.now s.requires.1
-    r.reserved-number.result (sym r.reserved-number.ensures.0) c.before.if1.true)
+    r.reserved_number-k.result (sym r.reserved_number-k.ensures.0) c.before.if-k-gt0.true)
 
-find-text-requires : tie.Need-find-text-requires
+find-text-requires : tie.Need-find_text-requires
 find-text-requires c κs = search rules
 
-enum-known-k : tie.Need-enum-known-k
+enum-known-k : tie.Need-enum_known-k
 enum-known-k c = search rules
 
-enum_told : tie.Need-enum-told
+enum_told : tie.Need-enum_told-1
 enum_told c = search rules
 
-searched : (c : tie.After-find-text) → number_met (texts_from c.before.before.before.before.before.args.store.now 1 (c.before.before.before.before.before.args.words - 1)) c.before.before.before.before.before.args.text.now ≡ given_by c.find-text.result 0
+searched : (c : tie.After-find_text) → number_met (texts_from c.before.before.before.before.before.args.store.now 1 (c.before.before.before.before.before.args.words - 1)) c.before.before.before.before.before.args.text.now ≡ given_by c.find_text.result 0
 searched c =
     let r = c.before.before in
     let s = r.before.before.before in
-    let e = r.reserved-number.ensures.0 in
-    let z : reserved_number s.args.text.now ≡ 0 = let l = c.before.if1.false in omega arith in
+    let e = r.reserved_number-k.ensures.0 in
+    let z : reserved_number s.args.text.now ≡ 0 = let l = c.before.if-k-gt0.false in omega arith in
     met_by_search s.args.table.now s.args.store.now s.args.buckets s.args.words s.requires.0 s.args.text.now s.requires.1 z
-    ∙ ap (λ (f : Found). given_by f 0) (sym c.find-text.ensures)
+    ∙ ap (λ (f : Found). given_by f 0) (sym c.find_text.ensures)
 
-returns_2 : tie.Need-returns-2
-returns_2 c = sym (searched c.before.before.before ∙ ap (λ (f : Found). given_by f 0) c.before.k.given.1)
+returns_2 : tie.Need-returns-in-At
+returns_2 c = sym (searched c.before.before.before ∙ ap (λ (f : Found). given_by f 0) c.before.k-1.given.1)
 
-returns_3 : tie.Need-returns-3
-returns_3 c = sym (searched c.before.before ∙ ap (λ (f : Found). given_by f 0) c.enum_told.given.1)
+returns_3 : tie.Need-returns-in-Nothing
+returns_3 c = sym (searched c.before.before ∙ ap (λ (f : Found). given_by f 0) c.enum_told-1.given.1)
 
-pub number-met-spec : {M : Type 1} → statement M
-number-met-spec =
+pub number_met_spec : {M : Type 1} → statement M
+number_met_spec =
     tie.close
     (tie.spec
     reserved-number-requires

@@ -8,52 +8,52 @@ use Rattle.arpa_words.proofs.Searches.{scan-start, scan-found, scan-next, scan-e
 use Rattle.arpa_words.proofs.scan_words.Statement.{statement}
 use Rattle.arpa_words.proofs.scan_words.Tie as tie
 
-abbrev invariant-loop : tie.invariant-loop
+abbrev invariant-loop : tie.invariant-loop-k
 invariant-loop text store words k₀ k = (4 ≤ k) × (record_with store words text ≡ search_from text k (texts_from store k (words - k)))
 
-abbrev decreases-loop : tie.decreases-loop
+abbrev decreases-loop : tie.decreases-loop-k
 decreases-loop text store words k₀ k = words - k
 
-loop-holds : tie.Need-loop-init invariant-loop decreases-loop
+loop-holds : tie.Need-loop-k-init invariant-loop decreases-loop
 loop-holds c = (omega arith, scan-start _ _ _)
 
-same-text-requires : tie.Need-same-text-requires invariant-loop decreases-loop
+same-text-requires : tie.Need-same_text-requires invariant-loop decreases-loop
 same-text-requires c κs =
     let l = c.before in
     let s = l.before.before.before in
-    let a = l.loop.invariant.0 in
+    let a = l.loop-k.invariant.0 in
     let room = s.requires.0 in
-    (omega arith, s.requires.1 l.loop.k a c.loop-test.true)
+    (omega arith, s.requires.1 l.loop-k.k a c.loop-k-test.true)
 
-returns : tie.Need-returns invariant-loop decreases-loop
+returns : tie.Need-returns-then-same_text invariant-loop decreases-loop
 returns c =
     let l = c.before.before.before in
     let s = l.before.before.before in
-    sym (l.loop.invariant.1 ∙ scan-found s.args.store.now s.args.text.now s.args.words l.loop.k c.before.before.loop-test.true (sym c.before.same_text.ensures ∙ c.if1.true))
+    sym (l.loop-k.invariant.1 ∙ scan-found s.args.store.now s.args.text.now s.args.words l.loop-k.k c.before.before.loop-k-test.true (sym c.before.same_text.ensures ∙ c.if-same_text.true))
 
-add-k : tie.Need-overflow-add-k invariant-loop decreases-loop
+add-k : tie.Need-overflow_add-k invariant-loop decreases-loop
 add-k c = search rules
 
-loop-less : tie.Need-loop-smaller invariant-loop decreases-loop
+loop-less : tie.Need-loop-k-smaller invariant-loop decreases-loop
 loop-less c = search rules
 
-loop-again : tie.Need-loop-preserved invariant-loop decreases-loop
+loop-again : tie.Need-loop-k-preserved invariant-loop decreases-loop
 loop-again c =
     let l = c.before.before.before in
     let s = l.before.before.before in
-    let a = l.loop.invariant.0 in (
+    let a = l.loop-k.invariant.0 in (
       omega arith,
-      l.loop.invariant.1 ∙ scan-next s.args.store.now s.args.text.now s.args.words l.loop.k c.before.before.loop-test.true (sym c.before.same_text.ensures ∙ c.if1.false),
+      l.loop-k.invariant.1 ∙ scan-next s.args.store.now s.args.text.now s.args.words l.loop-k.k c.before.before.loop-k-test.true (sym c.before.same_text.ensures ∙ c.if-same_text.false),
     )
 
-returns_2 : tie.Need-returns-2 invariant-loop decreases-loop
+returns_2 : tie.Need-returns invariant-loop decreases-loop
 returns_2 c =
     let l = c.before in
     let s = l.before.before.before in
-    sym (l.loop.invariant.1 ∙ scan-end s.args.store.now s.args.text.now s.args.words l.loop.k c.loop-test.false)
+    sym (l.loop-k.invariant.1 ∙ scan-end s.args.store.now s.args.text.now s.args.words l.loop-k.k c.loop-k-test.false)
 
-pub scan-words-spec : {M : Type 1} → statement M
-scan-words-spec =
+pub scan_words_spec : {M : Type 1} → statement M
+scan_words_spec =
     tie.close
     (tie.spec
     invariant-loop

@@ -41,97 +41,97 @@ reach s = omega (arith, last_within s.args.base.now s.args.check.now (ends s) (a
 long : (s : tie.Start) → length (word_bytes (array s) (sentences 0 (ends s) (asked s))) ≡ last_end 0 (ends s)
 long s = bytes-long (array s) (asked s) (ends s) (fit s).ends-good (fit s).sizes.lengths-reach
 
-score-sentences-requires : tie.Need-score-sentences-requires
+score-sentences-requires : tie.Need-score_sentences-scored-requires
 score-sentences-requires c κs =
     let p = fit c.before.before.before.before.before.before in
     (p.array, (p.ends-good, (p.sizes.few_words, ((p.sizes.few-ends, (p.sizes.points-reach, p.sizes.lengths-reach)), tallied-none))))
 
 -- the function's start, and what `score_sentences` left
-abbrev start : tie.After-score-sentences → tie.Start
+abbrev start : tie.After-score_sentences-scored → tie.Start
 start d = d.before.before.before.before.before.before.before
 
-abbrev points : tie.After-score-sentences → List ℤ
-points d = d.score-sentences.new.1.1.1.1.0
+abbrev points : tie.After-score_sentences-scored → List ℤ
+points d = d.score_sentences-scored.new.1.1.1.1.0
 
-abbrev lengths : tie.After-score-sentences → List ℕ
-lengths d = d.score-sentences.new.1.1.1.1.1.0
+abbrev lengths : tie.After-score_sentences-scored → List ℕ
+lengths d = d.score_sentences-scored.new.1.1.1.1.1.0
 
-abbrev counts : tie.After-score-sentences → List ℕ
-counts d = d.score-sentences.new.1.1.1.1.1.1.0
+abbrev counts : tie.After-score_sentences-scored → List ℕ
+counts d = d.score_sentences-scored.new.1.1.1.1.1.1.0
 
 -- all sentences are scored
-abbrev scored_from : tie.After-scored → tie.After-score-sentences
+abbrev scored_from : tie.In-All-2 → tie.After-score_sentences-scored
 scored_from w = w.before.before.before.before.before
 
-all-scored : (w : tie.After-scored) → AllScored (array (start (scored_from w))) (ends (start (scored_from w))) (asked (start (scored_from w))) w.scored.given.0.0 (points (scored_from w)) (lengths (scored_from w)) (counts (scored_from w))
+all-scored : (w : tie.In-All-2) → AllScored (array (start (scored_from w))) (ends (start (scored_from w))) (asked (start (scored_from w))) w.scored-1.given.0.0 (points (scored_from w)) (lengths (scored_from w)) (counts (scored_from w))
 all-scored w =
     let d = scored_from w in
-    subst (λ (x : Scored). ScoredAs (array (start d)) (ends (start d)) (asked (start d)) x (points d) (lengths d) (counts d)) w.scored.given.1 d.score-sentences.ensures
+    subst (λ (x : Scored). ScoredAs (array (start d)) (ends (start d)) (asked (start d)) x (points d) (lengths d) (counts d)) w.scored-1.given.1 d.score_sentences-scored.ensures
 
-enum-known-scored : tie.Need-enum-known-scored
+enum-known-scored : tie.Need-enum_known-scored
 enum-known-scored c = c.match.keys1
 
-full-sheet-requires : tie.Need-full-sheet-requires
+full-sheet-requires : tie.Need-full_sheet-requires
 full-sheet-requires c κs =
     let w = c.before.before in
     let d = scored_from w in
     let s = start d in
     let rs = sentences 0 (ends s) (asked s) in (
-      ((fit s).sizes.few-ends, (reach s, lengths-reach (array s) (ends s) (asked s) w.scored.given.0.0 (points d) (lengths d) (counts d) (all-scored w) (long s))),
+      ((fit s).sizes.few-ends, (reach s, lengths-reach (array s) (ends s) (asked s) w.scored-1.given.0.0 (points d) (lengths d) (counts d) (all-scored w) (long s))),
       λ k. omega (arith, tallied_small (closing_bytes (array s) rs) [] (counts d) (all-scored w).tallied k, closing_long (array s) rs, sentences-long 0 (ends s) (asked s), (fit s).sizes.few-ends),
     )
 
-enum-known-scored-2 : tie.Need-enum-known-scored-2
+enum-known-scored-2 : tie.Need-enum_known-scored-in-Refused-1
 enum-known-scored-2 c = c.match.keys2
 
 -- some sentence is refused
-abbrev refused_from : tie.After-scored2 → tie.After-score-sentences
+abbrev refused_from : tie.In-Refused-2 → tie.After-score_sentences-scored
 refused_from w = w.before.before.before.before.before
 
-one-refused : (w : tie.After-scored2) → OneRefused (array (start (refused_from w))) (ends (start (refused_from w))) (asked (start (refused_from w))) w.scored2.given.0.0 (points (refused_from w)) (lengths (refused_from w))
+one-refused : (w : tie.In-Refused-2) → OneRefused (array (start (refused_from w))) (ends (start (refused_from w))) (asked (start (refused_from w))) w.scored-in-Refused-1.given.0.0 (points (refused_from w)) (lengths (refused_from w))
 one-refused w =
     let d = refused_from w in
-    subst (λ (x : Scored). ScoredAs (array (start d)) (ends (start d)) (asked (start d)) x (points d) (lengths d) (counts d)) w.scored2.given.1 d.score-sentences.ensures
+    subst (λ (x : Scored). ScoredAs (array (start d)) (ends (start d)) (asked (start d)) x (points d) (lengths d) (counts d)) w.scored-in-Refused-1.given.1 d.score_sentences-scored.ensures
 
-broken-sheet-requires : tie.Need-broken-sheet-requires
+broken-sheet-requires : tie.Need-broken_sheet-requires
 broken-sheet-requires c κs =
     let w = c.before.before.before in
     let p = (fit (start (refused_from w))).sizes in
     let u = one-refused w in
     ((u.few, p.few-ends), (omega (arith, u.points-long, p.points-reach), omega (arith, u.lengths-long, p.lengths-reach)))
 
-same_length : tie.Need-same-length
-same_length c = (scored_from c.before.before.before).score-sentences.auto.1.1.1.1.0
+same_length : tie.Need-shape_of-points-in-All
+same_length c = (scored_from c.before.before.before).score_sentences-scored.auto.1.1.1.1.0
 
-same-length_2 : tie.Need-same-length-2
-same-length_2 c = (scored_from c.before.before.before).score-sentences.auto.1.1.1.1.1.0
+same-length_2 : tie.Need-shape_of-lengths-in-All
+same-length_2 c = (scored_from c.before.before.before).score_sentences-scored.auto.1.1.1.1.1.0
 
-returns : tie.Need-returns
+returns : tie.Need-returns-in-All
 returns c =
     let m = c.before.before in
     let w = m.before in
     let d = scored_from w in
     let s = start d in
     let u = all-scored w in
-    all_outcome (array s) (ends s) (asked s) w.scored.given.0.0 (points d) (lengths d) (counts d) u (long s) _ (to_z-of_z (sfits_of m.known-told.given.0.1)) c.full-sheet.result
-    (c.full-sheet.ensures (closing_bytes (array s) (sentences 0 (ends s) (asked s))) u.tallied)
+    all_outcome (array s) (ends s) (asked s) w.scored-1.given.0.0 (points d) (lengths d) (counts d) u (long s) _ (to_z-of_z (sfits_of m.known_told-1.given.0.1)) c.full_sheet.result
+    (c.full_sheet.ensures (closing_bytes (array s) (sentences 0 (ends s) (asked s))) u.tallied)
 
-same-length-3 : tie.Need-same-length-3
-same-length-3 c = c.before.before.before.broken-sheet.auto.1.0 ∙ (refused_from c.before.before.before.before.before.before.before).score-sentences.auto.1.1.1.1.0
+same-length-3 : tie.Need-shape_of-points-in-Refused
+same-length-3 c = c.before.before.before.broken_sheet.auto.1.0 ∙ (refused_from c.before.before.before.before.before.before.before).score_sentences-scored.auto.1.1.1.1.0
 
-same-length-4 : tie.Need-same-length-4
-same-length-4 c = c.before.before.before.broken-sheet.auto.1.1.0 ∙ (refused_from c.before.before.before.before.before.before.before).score-sentences.auto.1.1.1.1.1.0
+same-length-4 : tie.Need-shape_of-lengths-in-Refused
+same-length-4 c = c.before.before.before.broken_sheet.auto.1.1.0 ∙ (refused_from c.before.before.before.before.before.before.before).score_sentences-scored.auto.1.1.1.1.1.0
 
-returns_2 : tie.Need-returns-2
+returns_2 : tie.Need-returns-in-Refused
 returns_2 c =
     let k = c.before.before.before in
     let w = k.before.before.before.before in
     let d = refused_from w in
     let s = start d in
-    refused_outcome_lem (array s) (ends s) (asked s) w.scored2.given.0.0 (points d) (lengths d) (one-refused w) k.broken-sheet.result k.broken-sheet.ensures.0 _ k.broken-sheet.ensures.1.0 _ k.broken-sheet.ensures.1.1
+    refused_outcome_lem (array s) (ends s) (asked s) w.scored-in-Refused-1.given.0.0 (points d) (lengths d) (one-refused w) k.broken_sheet.result k.broken_sheet.ensures.0 _ k.broken_sheet.ensures.1.0 _ k.broken_sheet.ensures.1.1
 
-pub score-sheet-spec : {M : Type 1} → statement M
-score-sheet-spec =
+pub score_sheet_spec : {M : Type 1} → statement M
+score_sheet_spec =
     tie.close
     (tie.spec
     score-sentences-requires

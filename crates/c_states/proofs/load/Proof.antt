@@ -6,31 +6,31 @@ use borrow.Author.Rules.{rules}
 use Rattle.c_states.proofs.load.Statement.{statement}
 use Rattle.c_states.proofs.load.Tie as tie
 
-shared-slice-copy-out-t3 : tie.Need-shared-slice-copy-out-t3
+shared-slice-copy-out-t3 : tie.Need-bounds-numbers-0
 shared-slice-copy-out-t3 c = search rules
 
-shared-slice-copy-out-t5 : tie.Need-shared-slice-copy-out-t5
+shared-slice-copy-out-t5 : tie.Need-bounds-numbers-1
 shared-slice-copy-out-t5 c = search rules
 
-shared-slice-copy-out-t7 : tie.Need-shared-slice-copy-out-t7
+shared-slice-copy-out-t7 : tie.Need-bounds-numbers-2
 shared-slice-copy-out-t7 c = search rules
 
-shared-slice-copy-out-t9 : tie.Need-shared-slice-copy-out-t9
+shared-slice-copy-out-t9 : tie.Need-bounds-numbers-3
 shared-slice-copy-out-t9 c = search rules
 
-shared-slice-copy-out-t11 : tie.Need-shared-slice-copy-out-t11
+shared-slice-copy-out-t11 : tie.Need-bounds-numbers-4
 shared-slice-copy-out-t11 c = search rules
 
-shared-slice-copy-out-t14 : tie.Need-shared-slice-copy-out-t14
+shared-slice-copy-out-t14 : tie.Need-bounds-numbers-5
 shared-slice-copy-out-t14 c = search rules
 
-shared-slice-copy-out-t16 : tie.Need-shared-slice-copy-out-t16
+shared-slice-copy-out-t16 : tie.Need-bounds-numbers-6
 shared-slice-copy-out-t16 c = search rules
 
-shared-slice-copy-out-t18 : tie.Need-shared-slice-copy-out-t18
+shared-slice-copy-out-t18 : tie.Need-bounds-numbers-7
 shared-slice-copy-out-t18 c = search rules
 
-shared-slice-copy-out-t20 : tie.Need-shared-slice-copy-out-t20
+shared-slice-copy-out-t20 : tie.Need-bounds-numbers-8
 shared-slice-copy-out-t20 c = search rules
 
 returns : tie.Need-returns
@@ -38,15 +38,15 @@ unfolding numbers_of
 returns c =
     let l = c.before.before.before.before.before.before.before.before.before.args.numbers.now in
     equal_nine
-    (read_back c.before.before.before.before.before.before.before.before.t3.given)
-    (read_back c.before.before.before.before.before.before.before.t5.given)
-    (read_back c.before.before.before.before.before.before.t7.given)
-    (read_back c.before.before.before.before.before.t9.given)
-    (read_back c.before.before.before.before.t11.given)
-    (read_back c.before.before.before.t14.given)
-    (read_back c.before.before.t16.given)
-    (read_back c.before.t18.given)
-    (read_back c.t20.given)
+    (read_back c.before.before.before.before.before.before.before.before.result-1.given)
+    (read_back c.before.before.before.before.before.before.before.result-2-1.given)
+    (read_back c.before.before.before.before.before.before.result-3-1.given)
+    (read_back c.before.before.before.before.before.result-4-1.given)
+    (read_back c.before.before.before.before.result-5-1.given)
+    (read_back c.before.before.before.result-6-1.given)
+    (read_back c.before.before.result-7-1.given)
+    (read_back c.before.result-8-1.given)
+    (read_back c.result-9-1.given)
     ∙ items-drop 0 9 l c.before.before.before.before.before.before.before.before.before.requires
 
 pub load_spec : {M : Type 1} → statement M

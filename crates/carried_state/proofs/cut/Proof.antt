@@ -16,71 +16,71 @@ use Rattle.carried_state.proofs.Parts.{cut_to, cut-kept, cut-set, cut-padded, pa
 use Rattle.carried_state.proofs.cut.Statement.{statement}
 use Rattle.carried_state.proofs.cut.Tie as tie
 
-abbrev invariant-loop : tie.invariant-loop
+abbrev invariant-loop : tie.invariant-loop-i
 invariant-loop kept part₀ i₀ part i = (i ≤ 4) × (part ≡ cut_to i kept part₀)
 
-abbrev decreases-loop : tie.decreases-loop
+abbrev decreases-loop : tie.decreases-loop-i
 decreases-loop kept part₀ i₀ part i = 4 - i
 
-array-copy-out-t8 : tie.Need-array-copy-out-t8 invariant-loop decreases-loop
+array-copy-out-t8 : tie.Need-bounds-items-0 invariant-loop decreases-loop
 array-copy-out-t8 c = search rules
 
-array-copy-out-t11 : tie.Need-array-copy-out-t11 invariant-loop decreases-loop
+array-copy-out-t11 : tie.Need-bounds-items-1 invariant-loop decreases-loop
 array-copy-out-t11 c = search rules
 
-array-copy-out-t14 : tie.Need-array-copy-out-t14 invariant-loop decreases-loop
+array-copy-out-t14 : tie.Need-bounds-items-2 invariant-loop decreases-loop
 array-copy-out-t14 c = search rules
 
-array-copy-out-t17 : tie.Need-array-copy-out-t17 invariant-loop decreases-loop
+array-copy-out-t17 : tie.Need-bounds-items-3 invariant-loop decreases-loop
 array-copy-out-t17 c = search rules
 
-loop-holds : tie.Need-loop-init invariant-loop decreases-loop
+loop-holds : tie.Need-loop-i-init invariant-loop decreases-loop
 loop-holds c = search rules
 
-mul-part : tie.Need-overflow-mul-part invariant-loop decreases-loop
+mul-part : tie.Need-offset_bounds-part-i invariant-loop decreases-loop
 mul-part c = search rules
 
-array-set-of-part : tie.Need-array-set-of-part invariant-loop decreases-loop
+array-set-of-part : tie.Need-array_set_of-part invariant-loop decreases-loop
 array-set-of-part c = search rules
 
-add-i : tie.Need-overflow-add-i invariant-loop decreases-loop
+add-i : tie.Need-overflow_add-i invariant-loop decreases-loop
 add-i c = search rules
 
-loop-less : tie.Need-loop-smaller invariant-loop decreases-loop
+loop-less : tie.Need-loop-i-smaller invariant-loop decreases-loop
 loop-less c = search rules
 
-loop-again : tie.Need-loop-preserved invariant-loop decreases-loop
+loop-again : tie.Need-loop-i-preserved invariant-loop decreases-loop
 loop-again c =
-    let l = c.before.before.loop in (
+    let l = c.before.before.loop-i in (
       search rules,
       rw add-one
           (⊎_elim
-          (λ w. w.1 ∙ rw l.invariant.1 (cut-set l.i _ _ w.0.taken (omega arith)))
+          (λ w. w.1 ∙ rw l.invariant.1 (cut-set l.i _ _ w.0.true (omega arith)))
           (λ w. w.1 ∙ l.invariant.1 ∙ cut-kept l.i _ _ w.0.left)
-          c.if1.branch),
+          c.if-kept-i.branch),
     )
 
 -- the part as it begins: the first four of the items
-abbrev begun : tie.After-t17 invariant-loop decreases-loop → List ℤ
+abbrev begun : tie.After-part-4-1 invariant-loop decreases-loop → List ℤ
 begun c =
     let l = c.before.before.before.before.args.t1 in
     to_z w32 (of_z w32 (get_or l 0 (pos 0))) ∷ to_z w32 (of_z w32 (get_or l 1 (pos 0))) ∷ to_z w32 (of_z w32 (get_or l 2 (pos 0))) ∷ to_z w32 (of_z w32 (get_or l 3 (pos 0))) ∷ []
 
-begun-is : (c : tie.After-t17 invariant-loop decreases-loop) → begun c ≡ take 4 c.before.before.before.before.args.t1
+begun-is : (c : tie.After-part-4-1 invariant-loop decreases-loop) → begun c ≡ take 4 c.before.before.before.before.args.t1
 begun-is c =
     let s = c.before.before.before.before in
     let n : length s.args.t1 ≡ 5 = search rules in
-    let e : SFits w32 (get_or s.args.t1 0 (pos 0)) = sfits_of c.before.before.before.t8.given in
-    let f : SFits w32 (get_or s.args.t1 1 (pos 0)) = sfits_of c.before.before.t11.given in
-    let g : SFits w32 (get_or s.args.t1 2 (pos 0)) = sfits_of c.before.t14.given in
-    let h : SFits w32 (get_or s.args.t1 3 (pos 0)) = sfits_of c.t17.given in
+    let e : SFits w32 (get_or s.args.t1 0 (pos 0)) = sfits_of c.before.before.before.part-1.given in
+    let f : SFits w32 (get_or s.args.t1 1 (pos 0)) = sfits_of c.before.before.part-2-1.given in
+    let g : SFits w32 (get_or s.args.t1 2 (pos 0)) = sfits_of c.before.part-3-1.given in
+    let h : SFits w32 (get_or s.args.t1 3 (pos 0)) = sfits_of c.part-4-1.given in
     rw (to_z-of_z e, to_z-of_z f, to_z-of_z g, to_z-of_z h) (first-four s.args.t1 (omega arith))
 
 returns : tie.Need-returns invariant-loop decreases-loop
 returns c =
     let t = c.before.before in
     let a = t.before.before.before.before.args in
-    let l = c.before.loop in
+    let l = c.before.loop-i in
     let e : l.i ≡ 4 = omega arith in
     l.invariant.1
     ∙ ap (λ (i : ℕ). cut_to i a.kept (begun t)) e

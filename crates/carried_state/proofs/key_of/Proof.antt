@@ -39,43 +39,43 @@ word_low s i =
     let u = between-high (pos 0) (pos word_limit) z (in_words s i) in
     omega (zarith, abs z)
 
-array-copy-out-a : tie.Need-array-copy-out-a
+array-copy-out-a : tie.Need-bounds-words-0
 array-copy-out-a c = search rules
 
-a_fits : (c : tie.After-a) → SFits w32 (word c.before 0)
-a_fits c = sfits_of c.a.given
+a_fits : (c : tie.After-a-1) → SFits w32 (word c.before 0)
+a_fits c = sfits_of c.a-1.given
 
-cast-a : tie.Need-overflow-cast-a
+cast-a : tie.Need-overflow_cast-a
 cast-a c = between_cast (pos word_limit) (a_fits c) (in_words c.before 0)
 
-array-copy-out-b : tie.Need-array-copy-out-b
+array-copy-out-b : tie.Need-bounds-words-1
 array-copy-out-b c = search rules
 
-b-fits : (c : tie.After-b) → SFits w32 (word c.before.before 1)
-b-fits c = sfits_of c.b.given
+b-fits : (c : tie.After-b-1) → SFits w32 (word c.before.before 1)
+b-fits c = sfits_of c.b-1.given
 
-cast-b : tie.Need-overflow-cast-b
+cast-b : tie.Need-overflow_cast-b
 cast-b c = between_cast (pos word_limit) (b-fits c) (in_words c.before.before 1)
 
-array-copy-out-c : tie.Need-array-copy-out-c
+array-copy-out-c : tie.Need-bounds-words-2
 array-copy-out-c c = search rules
 
-c-fits : (c : tie.After-c) → SFits w32 (word c.before.before.before 2)
-c-fits c = sfits_of c.c.given
+c-fits : (c : tie.After-c-1) → SFits w32 (word c.before.before.before 2)
+c-fits c = sfits_of c.c-1.given
 
-cast-c : tie.Need-overflow-cast-c
+cast-c : tie.Need-overflow_cast-c
 cast-c c = between_cast (pos word_limit) (c-fits c) (in_words c.before.before.before 2)
 
-array-copy-out-d : tie.Need-array-copy-out-d
+array-copy-out-d : tie.Need-bounds-words-3
 array-copy-out-d c = search rules
 
-d_fits : (c : tie.After-d) → SFits w32 (word c.before.before.before.before 3)
-d_fits c = sfits_of c.d.given
+d_fits : (c : tie.After-d-1) → SFits w32 (word c.before.before.before.before 3)
+d_fits c = sfits_of c.d-1.given
 
-cast-d : tie.Need-overflow-cast-d
+cast-d : tie.Need-overflow_cast-d
 cast-d c = between_cast (pos word_limit) (d_fits c) (in_words c.before.before.before.before 3)
 
-key-of-four-requires : tie.Need-key-of-four-requires
+key-of-four-requires : tie.Need-key_of_four-requires
 key-of-four-requires c κs =
     let s = c.before.before.before.before in
     (rw (read s 0 (a_fits c.before.before.before)) (word_low s 0), rw (read s 1 (b-fits c.before.before)) (word_low s 1), rw (read s 2 (c-fits c.before)) (word_low s 2), rw (read s 3 (d_fits c)) (word_low s 3))
@@ -87,10 +87,10 @@ returns c =
     let l = s.args.t1 in
     let n : length l ≡ 4 = search rules in
     let e : word s 0 ∷ word s 1 ∷ word s 2 ∷ word s 3 ∷ [] ≡ l = first-four l (omega arith) ∙ take_all 4 l (omega arith) in
-    cc (c.key-of-four.ensures, read s 0 (a_fits d.before.before.before), read s 1 (b-fits d.before.before), read s 2 (c-fits d.before), read s 3 (d_fits d), ap (λ (m : List ℤ). key (map nat_abs m)) e)
+    cc (c.key_of_four.ensures, read s 0 (a_fits d.before.before.before), read s 1 (b-fits d.before.before), read s 2 (c-fits d.before), read s 3 (d_fits d), ap (λ (m : List ℤ). key (map nat_abs m)) e)
 
-pub key-of-spec : {M : Type 1} → statement M
-key-of-spec =
+pub key_of_spec : {M : Type 1} → statement M
+key_of_spec =
     tie.close
     (tie.spec
     array-copy-out-a

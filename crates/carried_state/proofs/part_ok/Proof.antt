@@ -19,19 +19,19 @@ use Rattle.carried_state.proofs.Parts.{part_on, part_done}
 use Rattle.carried_state.proofs.part_ok.Statement.{statement}
 use Rattle.carried_state.proofs.part_ok.Tie as tie
 
-abbrev invariant-loop : tie.invariant-loop
+abbrev invariant-loop : tie.invariant-loop-i
 invariant-loop count low high items i₀ i = (i ≤ 4) × (part_ok (between (to_z w32 low) (to_z w32 high)) count items ≡ part_ok (between (to_z w32 low) (to_z w32 high)) (count - i) (drop i items))
 
-abbrev decreases-loop : tie.decreases-loop
+abbrev decreases-loop : tie.decreases-loop-i
 decreases-loop count low high items i₀ i = 4 - i
 
-loop-holds : tie.Need-loop-init invariant-loop decreases-loop
+loop-holds : tie.Need-loop-i-init invariant-loop decreases-loop
 loop-holds c = (omega arith, rw sub-zero)
 
-mul-item : tie.Need-overflow-mul-item invariant-loop decreases-loop
+mul-item : tie.Need-offset_bounds-items-i invariant-loop decreases-loop
 mul-item c = search rules
 
-array-copy-out-item : tie.Need-array-copy-out-item invariant-loop decreases-loop
+array-copy-out-item : tie.Need-bounds-items-i invariant-loop decreases-loop
 array-copy-out-item c = search rules
 
 four : (s : tie.Start invariant-loop decreases-loop) → length s.args.t1 ≡ 4
@@ -52,43 +52,43 @@ eq_z-sym a b = go (eq_z b a) refl
     go false e = omega zarith
 
 -- the check goes on by the test of the item that was read
-turn : (c : tie.Joined1 invariant-loop decreases-loop) → part_ok (range c.before.before.before.before) c.before.before.before.before.args.count c.before.before.before.before.args.t1 ≡ (c.if1.type-inv && part_ok (range c.before.before.before.before) (c.before.before.before.before.args.count - (c.before.before.before.loop.i + 1)) (drop (c.before.before.before.loop.i + 1) c.before.before.before.before.args.t1))
+turn : (c : tie.Joined-i-count invariant-loop decreases-loop) → part_ok (range c.before.before.before.before) c.before.before.before.before.args.count c.before.before.before.before.args.t1 ≡ (c.if-i-count.type_inv && part_ok (range c.before.before.before.before) (c.before.before.before.before.args.count - (c.before.before.before.loop-i.i + 1)) (drop (c.before.before.before.loop-i.i + 1) c.before.before.before.before.args.t1))
 unfolding between
 turn c =
     let s = c.before.before.before.before in
-    let l = c.before.before.before.loop in
+    let l = c.before.before.before.loop-i in
     let x = get_or s.args.t1 l.i (pos 0) in
-    let f : SFits w32 x = sfits_of c.before.item.given in
+    let f : SFits w32 x = sfits_of c.before.item-1.given in
     let h = four s in
     l.invariant.1
-    ∙ part_on (range s) s.args.count l.i s.args.t1 c.if1.type-inv
-    (λ k. ⊎_elim (λ w. sym (rw (to_z-of_z f) at w.1)) (λ w. absurd (omega (arith, w.0.left))) c.if1.branch)
-    (λ k. ⊎_elim (λ w. absurd (omega (arith, w.0.taken))) (λ w. eq_z-sym (pos 0) x ∙ sym (w.1 ∙ bits_test {b = pos 0} f (sfits_lit tt))) c.if1.branch)
+    ∙ part_on (range s) s.args.count l.i s.args.t1 c.if-i-count.type_inv
+    (λ k. ⊎_elim (λ w. sym (rw (to_z-of_z f) at w.1)) (λ w. absurd (omega (arith, w.0.left))) c.if-i-count.branch)
+    (λ k. ⊎_elim (λ w. absurd (omega (arith, w.0.true))) (λ w. eq_z-sym (pos 0) x ∙ sym (w.1 ∙ bits_test {b = pos 0} f (sfits_lit tt))) c.if-i-count.branch)
     (omega arith)
 
-returns : tie.Need-returns invariant-loop decreases-loop
+returns : tie.Need-returns-then-not-ok invariant-loop decreases-loop
 returns c =
     let s = c.before.before.before.before.before in
-    sym (rw (not-true c.before.if1.type-inv c.if2.true, range_is s) at (turn c.before))
+    sym (rw (not-true c.before.if-i-count.type_inv c.if-not-ok.true, range_is s) at (turn c.before))
 
-add-i : tie.Need-overflow-add-i invariant-loop decreases-loop
+add-i : tie.Need-overflow_add-i invariant-loop decreases-loop
 add-i c = search rules
 
-loop-less : tie.Need-loop-smaller invariant-loop decreases-loop
+loop-less : tie.Need-loop-i-smaller invariant-loop decreases-loop
 loop-less c = search rules
 
-loop-again : tie.Need-loop-preserved invariant-loop decreases-loop
-loop-again c = (search rules, rw (not-false c.before.if1.type-inv c.if2.false) at (turn c.before))
+loop-again : tie.Need-loop-i-preserved invariant-loop decreases-loop
+loop-again c = (search rules, rw (not-false c.before.if-i-count.type_inv c.if-not-ok.false) at (turn c.before))
 
-returns_2 : tie.Need-returns-2 invariant-loop decreases-loop
+returns_2 : tie.Need-returns invariant-loop decreases-loop
 returns_2 c =
     let s = c.before.before in
-    let l = c.before.loop in
+    let l = c.before.loop-i in
     let h = four s in
     sym (rw (range_is s) at (l.invariant.1 ∙ part_done (range s) s.args.count l.i s.args.t1 (omega arith)))
 
-pub part-ok-spec : {M : Type 1} → statement M
-part-ok-spec =
+pub part_ok_spec : {M : Type 1} → statement M
+part_ok_spec =
     tie.close
     (tie.spec
     invariant-loop

@@ -18,10 +18,10 @@ use Rattle.carried_state.proofs.state_ok.Tie as tie
 four : (s : tie.Start) → Four s.args.state
 four s = record { words = search rules; backoffs = search rules }
 
-count_fits : (c : tie.After-struct-told) → SFits w32 c.before.before.args.state.count
+count_fits : (c : tie.After-struct_told-1) → SFits w32 c.before.before.args.state.count
 count_fits c = search rules
 
-returns : tie.Need-returns
+returns : tie.Need-returns-then-state-lt0
 returns c =
     let s = c.before.before.before in
     let f = count_fits c.before in
@@ -29,26 +29,31 @@ returns c =
     let e : lt_z z (pos 0) ≡ true = omega zarith in
     rw (state_ok-parts s.args.state (four s) s.args.order, between-below (pos 0) (pos (s.args.order - 1)) z e)
 
-count_low : (c : tie.Else1) → pos 0 ≤ℤ c.before.before.before.args.state.count
+count_low : (c : tie.Else-state-lt0) → pos 0 ≤ℤ c.before.before.before.args.state.count
 count_low c = let f = count_fits c.before in omega zarith
 
-cast-count : tie.Need-overflow-cast-count
+cast-count : tie.Need-overflow_cast-count
 cast-count c = to_nat tt (count_fits c.before.before.before) (count_low c.before.before)
 
-part-ok-requires : tie.Need-part-ok-requires
+part-ok-requires : tie.Need-part_ok-words_ok-requires
 part-ok-requires c κs = search rules
 
-part-ok-requires-2 : tie.Need-part-ok-requires-2
+part-ok-requires-2 : tie.Need-part_ok-backoffs_ok-requires
 part-ok-requires-2 c κs = search rules
 
-returns_2 : tie.Need-returns-2
+returns_2 : tie.Need-returns
 unfolding in_backoff
 returns_2 c =
     let e = c.before.before.before.before.before.before in
     let s = e.before.before.before in
     let l = count_low e in
-    rw (c.before.part-ok.ensures, c.part-ok2.ensures, to_z-of_z (count_fits e.before), state_ok-parts s.args.state (four s) s.args.order, between-count s.args.order s.args.state.count l s.requires)
+    rw (c.before.part_ok-words_ok.ensures, c.part_ok-backoffs_ok.ensures, to_z-of_z (count_fits e.before), state_ok-parts s.args.state (four s) s.args.order, between-count s.args.order s.args.state.count l s.requires)
     (simp and_assoc)
 
-pub state-ok-spec : {M : Type 1} → statement M
-state-ok-spec = tie.close (tie.spec returns cast-count part-ok-requires part-ok-requires-2 returns_2)
+pub state_ok_spec : {M : Type 1} → statement M
+state_ok_spec = tie.close (tie.spec
+    returns
+    cast-count
+    part-ok-requires
+    part-ok-requires-2
+    returns_2)

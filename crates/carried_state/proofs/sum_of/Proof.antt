@@ -34,58 +34,58 @@ more {bs} {owed} {i} four b h a =
       small = omega (arith, add owed (get_or bs i (pos 0)), abs owed, abs (get_or bs i (pos 0)), abs (owed +ℤ get_or bs i (pos 0)), a.small);
     }
 
-abbrev invariant-loop : tie.invariant-loop
+abbrev invariant-loop : tie.invariant-loop-i
 invariant-loop backoffs owed₀ i₀ owed i = Adding backoffs (to_z w32 owed) i
 
-abbrev decreases-loop : tie.decreases-loop
+abbrev decreases-loop : tie.decreases-loop-i
 decreases-loop backoffs owed₀ i₀ owed i = 4 - i
 
-loop-holds : tie.Need-loop-init invariant-loop decreases-loop
+loop-holds : tie.Need-loop-i-init invariant-loop decreases-loop
 loop-holds c = record { at = omega arith; rest = +ℤ_idl (sum c.args.t1); small = omega arith }
 
-mul-owed : tie.Need-overflow-mul-owed invariant-loop decreases-loop
+mul-owed : tie.Need-offset_bounds-backoffs-i invariant-loop decreases-loop
 mul-owed c = search rules
 
-array-copy-out-owed : tie.Need-array-copy-out-owed invariant-loop decreases-loop
+array-copy-out-owed : tie.Need-bounds-backoffs-i invariant-loop decreases-loop
 array-copy-out-owed c = search rules
 
 four : (c : tie.Start invariant-loop decreases-loop) → length c.args.t1 ≡ 4
 four c = search rules
 
 -- the back-off that was read
-abbrev x : tie.After-owed invariant-loop decreases-loop → ℤ
-x c = get_or c.before.before.before.args.t1 c.before.before.loop.i (pos 0)
+abbrev x : tie.After-owed-1 invariant-loop decreases-loop → ℤ
+x c = get_or c.before.before.before.args.t1 c.before.before.loop-i.i (pos 0)
 
-x_fits : (c : tie.After-owed invariant-loop decreases-loop) → SFits w32 (x c)
-x_fits c = sfits_of c.owed.given
+x_fits : (c : tie.After-owed-1 invariant-loop decreases-loop) → SFits w32 (x c)
+x_fits c = sfits_of c.owed-1.given
 
-added : (c : tie.After-owed invariant-loop decreases-loop) → Adding c.before.before.before.args.t1 (to_z w32 c.before.before.loop.owed +ℤ x c) (c.before.before.loop.i + 1)
+added : (c : tie.After-owed-1 invariant-loop decreases-loop) → Adding c.before.before.before.args.t1 (to_z w32 c.before.before.loop-i.owed +ℤ x c) (c.before.before.loop-i.i + 1)
 added c =
     let s = c.before.before.before in
-    let l = c.before.before.loop in
-    more (four s) (each-in_backoff s.args.t1 s.requires l.i) c.before.loop-test.true l.invariant
+    let l = c.before.before.loop-i in
+    more (four s) (each-in_backoff s.args.t1 s.requires l.i) c.before.loop-i-test.true l.invariant
 
-add-owed : tie.Need-overflow-add-owed invariant-loop decreases-loop
-add-owed c = let f = x_fits c in omega (zarith, (added c).small, (added c).at, abs (to_z w32 c.before.before.loop.owed +ℤ x c), add (to_z w32 c.before.before.loop.owed) (x c))
+add-owed : tie.Need-overflow_add-owed invariant-loop decreases-loop
+add-owed c = let f = x_fits c in omega (zarith, (added c).small, (added c).at, abs (to_z w32 c.before.before.loop-i.owed +ℤ x c), add (to_z w32 c.before.before.loop-i.owed) (x c))
 
-add-i : tie.Need-overflow-add-i invariant-loop decreases-loop
+add-i : tie.Need-overflow_add-i invariant-loop decreases-loop
 add-i c = search rules
 
-loop-less : tie.Need-loop-smaller invariant-loop decreases-loop
+loop-less : tie.Need-loop-i-smaller invariant-loop decreases-loop
 loop-less c = search rules
 
-loop-again : tie.Need-loop-preserved invariant-loop decreases-loop
+loop-again : tie.Need-loop-i-preserved invariant-loop decreases-loop
 loop-again c = rw (to_z-of_z (add-owed c), to_z-of_z (x_fits c)) (added c)
 
 returns : tie.Need-returns invariant-loop decreases-loop
 returns c =
     let s = c.before.before in
-    let l = c.before.loop in
+    let l = c.before.loop-i in
     let f = four s in
-    sym (+ℤ_idr (to_z w32 l.owed)) ∙ ap (λ (bs : List ℤ). to_z w32 l.owed +ℤ sum bs) (sym (drop_of_length-le s.args.t1 {i = l.i} (omega arith))) ∙ l.invariant.rest
+    sym (+ℤ_idr (to_z w32 l.owed-1)) ∙ ap (λ (bs : List ℤ). to_z w32 l.owed-1 +ℤ sum bs) (sym (drop_of_length-le s.args.t1 {i = l.i} (omega arith))) ∙ l.invariant.rest
 
-pub sum-of-spec : {M : Type 1} → statement M
-sum-of-spec =
+pub sum_of_spec : {M : Type 1} → statement M
+sum_of_spec =
     tie.close
     (tie.spec
     invariant-loop

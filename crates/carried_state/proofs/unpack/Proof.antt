@@ -19,25 +19,25 @@ use Rattle.carried_state.proofs.Digits.{length_digits}
 use Rattle.carried_state.proofs.unpack.Statement.{statement}
 use Rattle.carried_state.proofs.unpack.Tie as tie
 
-cast-t11 : tie.Need-overflow-cast-t11
+cast-t11 : tie.Need-overflow_cast-row
 cast-t11 c = search rules
 
-cast-t13 : tie.Need-overflow-cast-t13
+cast-t13 : tie.Need-overflow_cast-row-2
 cast-t13 c = search rules
 
-cast-t15 : tie.Need-overflow-cast-t15
+cast-t15 : tie.Need-overflow_cast-row-3
 cast-t15 c = search rules
 
-cast-t17 : tie.Need-overflow-cast-t17
+cast-t17 : tie.Need-overflow_cast-row-4
 cast-t17 c = search rules
 
-cut-requires : tie.Need-cut-requires
+cut-requires : tie.Need-cut-words-requires
 cut-requires c κs = search rules
 
-cut-requires-2 : tie.Need-cut-requires-2
+cut-requires-2 : tie.Need-cut-backoffs-requires
 cut-requires-2 c κs = search rules
 
-cast-t11-2 : tie.Need-overflow-cast-t11-2
+cast-t11-2 : tie.Need-overflow_cast-result
 cast-t11-2 c = search rules
 
 digit_is : (n : ℕ) → to_z w32 (n % radix) ≡ pos (n % radix)
@@ -60,9 +60,17 @@ returns c =
     let s = t.before in
     let count = s.args.carried.count in
     let n = s.args.carried.words in
-    rw (to_z_pos w32 {n = count} (omega arith), t.cut.ensures, c.before.cut2.ensures, row_is n, row_words_lem count n s.requires, length-take-le count (digits 4 n) (omega (arith, s.requires, length_digits 4 n)))
+    rw (to_z_pos w32 {n = count} (omega arith), t.cut-words.ensures, c.before.cut-backoffs.ensures, row_is n, row_words_lem count n s.requires, length-take-le count (digits 4 n) (omega (arith, s.requires, length_digits 4 n)))
 
-pub unpack-spec : {M : Type 1} → statement M
-unpack-spec =
+pub unpack_spec : {M : Type 1} → statement M
+unpack_spec =
     tie.close
-    (tie.spec cast-t11 cast-t13 cast-t15 cast-t17 cut-requires cut-requires-2 cast-t11-2 returns)
+    (tie.spec
+    cast-t11
+    cast-t13
+    cast-t15
+    cast-t17
+    cut-requires
+    cut-requires-2
+    cast-t11-2
+    returns)

@@ -11,16 +11,16 @@ use Rattle.child_slots.specs.declared.Child.{Child}
 use Rattle.child_slots.proofs.beside_marker.Statement.{statement}
 use Rattle.child_slots.proofs.beside_marker.Tie as tie
 
-add-owned-by : tie.Need-overflow-add-owned-by
+add-owned-by : tie.Need-overflow_add-d
 add-owned-by c = search rules
 
-owned-by-requires : tie.Need-owned-by-requires
+owned-by-requires : tie.Need-owned_by-requires
 owned-by-requires c κs = search rules
 
-enum-known-t : tie.Need-enum-known-t
+enum-known-t : tie.Need-enum_known-t
 enum-known-t c = search rules
 
-enum_told : tie.Need-enum-told
+enum_told : tie.Need-enum_told-1
 enum_told c = search rules
 
 -- what lies behind
@@ -28,41 +28,41 @@ abbrev behind : tie.Start → Child
 behind s = cond (ltb s.args.w s.args.d) (owned_by s.args.check.now s.args.s (child_slot true s.args.d s.args.w)) Nothing
 
 -- the slot ahead decides where it is a child's
-ahead : (c : tie.After-owned-by) (r : Child) → c.owned_by.result ≡ r → on_either_side c.before.args.check.now c.before.args.s c.before.args.d c.before.args.w ≡ or_else r (behind c.before)
+ahead : (c : tie.After-owned_by) (r : Child) → c.owned_by.result ≡ r → on_either_side c.before.args.check.now c.before.args.s c.before.args.d c.before.args.w ≡ or_else r (behind c.before)
 ahead c r e = ap (λ (k : Child). or_else k (behind c.before)) (sym c.owned_by.ensures ∙ e)
 
-returns : tie.Need-returns
-returns c = sym (ahead c.before.before.before (At c.before.t.given.0.0) c.before.t.given.1)
+returns : tie.Need-returns-in-At
+returns c = sym (ahead c.before.before.before (At c.before.t-1.given.0.0) c.before.t-1.given.1)
 
-slot-behind-requires : tie.Need-slot-behind-requires
+slot-behind-requires : tie.Need-slot_behind-slot-requires
 slot-behind-requires c κs = search rules
 
 slot-at-most : (there : Bool) (d w : ℕ) → cond there (child_slot true d w) d ≤ d
 slot-at-most true d w = omega arith
 slot-at-most false d w = omega arith
 
-owned-inside-requires : tie.Need-owned-inside-requires
+owned-inside-requires : tie.Need-owned_inside-requires
 owned-inside-requires c κs =
     let s = c.before.before.before.before in
     let low = slot-at-most (ltb s.args.w s.args.d) s.args.d s.args.w in
-    (s.requires.0.0, omega (arith, c.slot-behind.ensures, low, s.requires.0.1))
+    (s.requires.0.0, omega (arith, c.slot_behind-slot.ensures, low, s.requires.0.1))
 
 -- where none lies behind, the marker's slot was read
 marker_in_place : (there : Bool) (s : tie.Start) → owned_by s.args.check.now s.args.s (cond there (child_slot true s.args.d s.args.w) s.args.d) ≡ cond there (owned_by s.args.check.now s.args.s (child_slot true s.args.d s.args.w)) Nothing
 marker_in_place true s = refl
 marker_in_place false s = s.requires.1
 
-returns_2 : tie.Need-returns-2
+returns_2 : tie.Need-returns
 returns_2 c =
     let b = c.before in
     let s = b.before.before.before.before in
     c.owned_inside.ensures
-    ∙ ap (owned_by s.args.check.now s.args.s) b.slot-behind.ensures
+    ∙ ap (owned_by s.args.check.now s.args.s) b.slot_behind-slot.ensures
     ∙ marker_in_place (ltb s.args.w s.args.d) s
-    ∙ sym (ahead b.before.before.before Nothing b.before.enum_told.given.1)
+    ∙ sym (ahead b.before.before.before Nothing b.before.enum_told-1.given.1)
 
-pub beside-marker-spec : {M : Type 1} → statement M
-beside-marker-spec =
+pub beside_marker_spec : {M : Type 1} → statement M
+beside_marker_spec =
     tie.close
     (tie.spec
     add-owned-by

@@ -35,63 +35,70 @@ answers s e = (sym e, λ t h. child-inside s.args.base.now s.args.check.now s.ar
 abbrev d : tie.Start → ℤ
 d s = get_or s.args.base.now s.args.s (pos 0)
 
-mul-d : tie.Need-overflow-mul-d
+mul-d : tie.Need-offset_bounds-base-s
 mul-d c = search rules
 
-shared-slice-copy-out-d : tie.Need-shared-slice-copy-out-d
+shared-slice-copy-out-d : tie.Need-bounds-base-s
 shared-slice-copy-out-d c = search rules
 
-cast-if1 : tie.Need-overflow-cast-if1
+cast-if1 : tie.Need-overflow_cast-t-10
 cast-if1 c = search rules
 
-d_fits : (c : tie.After-d) → SFits w32 (d c.before)
-d_fits c = sfits_of c.d.given
+d_fits : (c : tie.After-d-1) → SFits w32 (d c.before)
+d_fits c = sfits_of c.d-1.given
 
 -- the code's first test, and what it says
 abbrev low_test : tie.Start → Bool
 low_test s = leb 1 s.args.w && leb s.args.w word_limit && le_z (pos 1) (to_z w32 (of_z w32 (d s)))
 
-low-is : (c : tie.After-d) → (is_word c.before.args.w && le_z (pos 1) (d c.before)) ≡ low_test c.before
+low-is : (c : tie.After-d-1) → (is_word c.before.args.w && le_z (pos 1) (d c.before)) ≡ low_test c.before
 unfolding is_word
 low-is c = rw (to_z-of_z (d_fits c))
 
-returns : tie.Need-returns
+returns : tie.Need-returns-then-not-w-d
 unfolding child_at
 returns c =
     let s = c.before.before in
-    let e : (is_word s.args.w && le_z (pos 1) (d s)) ≡ false = low-is c.before ∙ not-true (low_test s) c.if1.true in
+    let e : (is_word s.args.w && le_z (pos 1) (d s)) ≡ false = low-is c.before ∙ not-true (low_test s) c.if-not-w-d.true in
     answers s (rw e)
 
-low-yes : (c : tie.Else1) → (is_word c.before.before.args.w && le_z (pos 1) (d c.before.before)) ≡ true
-low-yes c = low-is c.before ∙ not-false (low_test c.before.before) c.if1.false
+low-yes : (c : tie.Else-not-w-d) → (is_word c.before.before.args.w && le_z (pos 1) (d c.before.before)) ≡ true
+low-yes c = low-is c.before ∙ not-false (low_test c.before.before) c.if-not-w-d.false
 
-base-yes : (c : tie.Else1) → le_z (pos 1) (d c.before.before) ≡ true
+base-yes : (c : tie.Else-not-w-d) → le_z (pos 1) (d c.before.before) ≡ true
 base-yes c = and_right (is_word c.before.before.args.w) (le_z (pos 1) (d c.before.before)) (low-yes c)
 
-cast-on-either-side : tie.Need-overflow-cast-on-either-side
+cast-on-either-side : tie.Need-overflow_cast-d
 cast-on-either-side c = let e = base-yes c in to_nat tt (d_fits c.before) (omega zarith)
 
-word-few : (c : tie.Else1) → c.before.before.args.w ≤ word_limit
+word-few : (c : tie.Else-not-w-d) → c.before.before.args.w ≤ word_limit
 unfolding is_word
 word-few c =
     let w = c.before.before.args.w in
     leb-true w word_limit (and_right (leb 1 w) (leb w word_limit) (and_left (is_word w) (le_z (pos 1) (d c.before.before)) (low-yes c)))
 
-on-either-side-requires : tie.Need-on-either-side-requires
+on-either-side-requires : tie.Need-on_either_side-requires
 on-either-side-requires c κs =
     let s = c.before.before in
     let f = d_fits c.before in
     (omega (arith, s.requires), simp (to_z-of_z f) (omega (zarith, fit f, abs (d s), base-yes c)), word-few c)
 
 -- the slots on either side decide
-sides : (c : tie.Else1) → wanted c.before.before ≡ on_either_side c.before.before.args.check.now c.before.before.args.s (nat_abs (d c.before.before)) c.before.before.args.w
+sides : (c : tie.Else-not-w-d) → wanted c.before.before ≡ on_either_side c.before.before.args.check.now c.before.before.args.s (nat_abs (d c.before.before)) c.before.before.args.w
 unfolding child_at
 sides c = rw (low-yes c)
 
-returns_2 : tie.Need-returns-2
+returns_2 : tie.Need-returns
 returns_2 c =
     answers c.before.before.before
-    (sides c.before ∙ sym (rw (to_z-of_z (d_fits c.before.before)) at c.on-either-side.ensures))
+    (sides c.before ∙ sym (rw (to_z-of_z (d_fits c.before.before)) at c.on_either_side.ensures))
 
-pub find-child-spec : {M : Type 1} → statement M
-find-child-spec = tie.close (tie.spec mul-d shared-slice-copy-out-d cast-if1 returns cast-on-either-side on-either-side-requires returns_2)
+pub find_child_spec : {M : Type 1} → statement M
+find_child_spec = tie.close (tie.spec
+    mul-d
+    shared-slice-copy-out-d
+    cast-if1
+    returns
+    cast-on-either-side
+    on-either-side-requires
+    returns_2)

@@ -16,29 +16,29 @@ use Rattle.child_slots.specs.Children.{free_check, owned_by}
 use Rattle.child_slots.proofs.owned_inside.Statement.{statement}
 use Rattle.child_slots.proofs.owned_inside.Tie as tie
 
-mul-if1 : tie.Need-overflow-mul-if1
+mul-if1 : tie.Need-offset_bounds-check-t
 mul-if1 c = search rules
 
-shared-slice-copy-out-if1 : tie.Need-shared-slice-copy-out-if1
+shared-slice-copy-out-if1 : tie.Need-bounds-check-t
 shared-slice-copy-out-if1 c = search rules
 
-cast-if1 : tie.Need-overflow-cast-if1
+cast-if1 : tie.Need-overflow_cast-s
 cast-if1 c = search rules
 
 -- the test decides
-owner_test : (c : tie.After-if12) (v : Bool) → eqb (of_z w32 (get_or c.before.args.check.now c.before.args.t (pos 0))) c.before.args.s ≡ v → owned_by c.before.args.check.now c.before.args.s c.before.args.t ≡ cond v (At c.before.args.t) Nothing
+owner_test : (c : tie.After-t6-1) (v : Bool) → eqb (of_z w32 (get_or c.before.args.check.now c.before.args.t (pos 0))) c.before.args.s ≡ v → owned_by c.before.args.check.now c.before.args.s c.before.args.t ≡ cond v (At c.before.args.t) Nothing
 owner_test c v e =
     let s = c.before in
     let k = get_or s.args.check.now s.args.t (pos 0) in
-    let f : SFits w32 k = sfits_of c.if12.given in
+    let f : SFits w32 k = sfits_of c.t6-1.given in
     let q : eq_z k (pos s.args.s) ≡ v = sym (bits_test {b = pos s.args.s} f (omega zarith)) ∙ e in
     rw (lt-ltb _ _ s.requires.1, get_or-inside s.args.check.now s.args.t free_check (pos 0) s.requires.1, q)
 
-returns : tie.Need-returns
-returns c = sym (owner_test c.before true (eq-eqb _ _ c.if1.true))
+returns : tie.Need-returns-then-check-t
+returns c = sym (owner_test c.before true (eq-eqb _ _ c.if-check-t.true))
 
-returns_2 : tie.Need-returns-2
-returns_2 c = sym (owner_test c.before false (ne_eqb _ _ c.if1.false))
+returns_2 : tie.Need-returns
+returns_2 c = sym (owner_test c.before false (ne_eqb _ _ c.if-check-t.false))
 
-pub owned-inside-spec : {M : Type 1} → statement M
-owned-inside-spec = tie.close (tie.spec mul-if1 shared-slice-copy-out-if1 cast-if1 returns returns_2)
+pub owned_inside_spec : {M : Type 1} → statement M
+owned_inside_spec = tie.close (tie.spec mul-if1 shared-slice-copy-out-if1 cast-if1 returns returns_2)

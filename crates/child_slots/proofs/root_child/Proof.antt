@@ -15,22 +15,22 @@ too_large : (w : ℕ) → word_limit < w → is_word w ≡ false
 unfolding is_word
 too_large w h = rw (lt-leb w word_limit h) (elim (leb 1 w) as (λ b. (b && false) ≡ false) [ true ↦ refl | false ↦ refl ])
 
-cast-if1 : tie.Need-overflow-cast-if1
+cast-if1 : tie.Need-overflow_cast-t-3
 cast-if1 c = search rules
 
-returns : tie.Need-returns
-returns c = rw (too_large c.before.args.w c.if1.true)
+returns : tie.Need-returns-then-w
+returns c = rw (too_large c.before.args.w c.if-w.true)
 
-add-owned-by : tie.Need-overflow-add-owned-by
+add-owned-by : tie.Need-overflow_add-w
 add-owned-by c = search rules
 
-owned-by-requires : tie.Need-owned-by-requires
+owned-by-requires : tie.Need-owned_by-requires
 owned-by-requires c κs = search rules
 
-returns_2 : tie.Need-returns-2
+returns_2 : tie.Need-returns
 returns_2 c =
     let s = c.before.before in
-    c.owned_by.ensures ∙ sym (root_owned s.args.check.now s.args.w s.requires c.before.if1.false)
+    c.owned_by.ensures ∙ sym (root_owned s.args.check.now s.args.w s.requires c.before.if-w.false)
 
-pub root-child-spec : {M : Type 1} → statement M
-root-child-spec = tie.close (tie.spec cast-if1 returns add-owned-by owned-by-requires returns_2)
+pub root_child_spec : {M : Type 1} → statement M
+root_child_spec = tie.close (tie.spec cast-if1 returns add-owned-by owned-by-requires returns_2)

@@ -28,20 +28,20 @@ taken_is d w small word = go (dec_lt w d)
 told : (c : tie.Start) → (taken c.args.d c.args.w ≤ c.args.d) × (c.args.d - taken c.args.d c.args.w ≡ cond (ltb c.args.w c.args.d) (c.args.d - c.args.w) c.args.d)
 told c = taken_is c.args.d c.args.w c.requires.0 c.requires.1
 
-add-carry : tie.Need-overflow-add-carry
+add-carry : tie.Need-overflow_add-carry
 add-carry c = search rules
 
-sub-carry : tie.Need-overflow-sub-carry
+sub-carry : tie.Need-overflow_sub-carry
 sub-carry c = search rules
 
-mul-result : tie.Need-overflow-mul-result
+mul-result : tie.Need-overflow_mul-result
 mul-result c = omega (arith, (told c).0, c.requires.0)
 
-sub-result : tie.Need-overflow-sub-result
+sub-result : tie.Need-overflow_sub-result
 sub-result c = (told c).0
 
 returns : tie.Need-returns
 returns c = (told c).1
 
-pub slot-behind-spec : {M : Type 1} → statement M
-slot-behind-spec = tie.close (tie.spec add-carry sub-carry mul-result sub-result returns)
+pub slot_behind_spec : {M : Type 1} → statement M
+slot_behind_spec = tie.close (tie.spec add-carry sub-carry mul-result sub-result returns)

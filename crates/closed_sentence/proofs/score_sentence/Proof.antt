@@ -18,10 +18,10 @@ use Rattle.closed_sentence.proofs.score_sentence.Statement.{statement}
 use Rattle.closed_sentence.proofs.score_sentence.Tie as tie
 
 -- the function's start, and the run over the words
-abbrev start : tie.After-run-passed → tie.Start
+abbrev start : tie.After-run_passed-ran → tie.Start
 start k = k.before.before.before.before.before.before.before.before
 
-abbrev ran : tie.After-close → tie.After-run-passed
+abbrev ran : tie.After-close → tie.After-run_passed-ran
 ran d = d.before.before.before.before.before.before.before
 
 abbrev array : tie.Start → Option Store
@@ -31,85 +31,85 @@ array s = opened s.args.base.now s.args.check.now
 abbrev asked : tie.Start → Run
 asked s = record { words = s.args.words.now; points = s.args.points.now; lengths = s.args.lengths.now }
 
-abbrev answer : tie.After-run-passed → Answer (List ℤ)
-answer k = answer_of k.run-passed.result k.run-passed.new.1.1.1.1.0 k.run-passed.new.1.1.1.1.1.0
+abbrev answer : tie.After-run_passed-ran → Answer (List ℤ)
+answer k = answer_of k.run_passed-ran.result k.run_passed-ran.new.1.1.1.1.0 k.run_passed-ran.new.1.1.1.1.1.0
 
 -- both totals are small
-words-total : (k : tie.After-run-passed) → nat_abs k.run-passed.result.total ≤ run_total
-words-total k = let s = start k in run-answer_small s.args.base.now s.args.check.now (numbers_of s.args.started.state) (asked s) (answer k) k.run-passed.ensures
+words-total : (k : tie.After-run_passed-ran) → nat_abs k.run_passed-ran.result.total-1 ≤ run_total
+words-total k = let s = start k in run-answer_small s.args.base.now s.args.check.now (numbers_of s.args.started.state-1) (asked s) (answer k) k.run_passed-ran.ensures
 
-closing_total : (t : tie.After-total) → nat_abs t.total.given.0.0 ≤ run_total
+closing_total : (t : tie.In-Whole-2) → nat_abs t.total-1.given.0.0 ≤ run_total
 closing_total t =
     let k = ran t.before.before in
     let s = start k in
-    closing_small s.args.base.now s.args.check.now (numbers_of k.run-passed.result.end) closing_run t.total.given.0.0 t.total.given.0.1.0 (sym t.total.given.1 ∙ t.before.before.close.ensures)
+    closing_small s.args.base.now s.args.check.now (numbers_of k.run_passed-ran.result.end-1) closing_run t.total-1.given.0.0 t.total-1.given.0.1.0 (sym t.total-1.given.1 ∙ t.before.before.close.ensures)
 
-returns : tie.Need-returns
-returns c = let s = c.before.before.before.before in no_start (array s) (started_of s.args.started) s.requires.1.0 c.if1.true (asked s) _ _
+returns : tie.Need-returns-then-started-ne0
+returns c = let s = c.before.before.before.before in no_start (array s) (started_of s.args.started) s.requires.1.0 c.if-started-ne0.true (asked s) _ _
 
-run-passed-requires : tie.Need-run-passed-requires
+run-passed-requires : tie.Need-run_passed-ran-requires
 run-passed-requires c κs =
     let s = c.before.before.before.before.before.before.before in
-    (s.requires.0, (begun_ok s.args.base.now s.args.check.now s.requires.0 (started_of s.args.started) s.requires.1.0 c.before.before.before.if1.false, (s.requires.1.1.0, (s.requires.1.1.1.0, s.requires.1.1.1.1))))
+    (s.requires.0, (begun_ok s.args.base.now s.args.check.now s.requires.0 (started_of s.args.started) s.requires.1.0 c.before.before.before.if-started-ne0.false, (s.requires.1.1.0, (s.requires.1.1.1.0, s.requires.1.1.1.1))))
 
-same_length : tie.Need-same-length
-same_length c = c.before.before.before.before.before.run-passed.auto.1.1.1.1.0
+same_length : tie.Need-shape_of-points-then-ran-ne0
+same_length c = c.before.before.before.before.before.run_passed-ran.auto.1.1.1.1.0
 
-same-length_2 : tie.Need-same-length-2
-same-length_2 c = c.before.before.before.before.before.run-passed.auto.1.1.1.1.1.0
+same-length_2 : tie.Need-shape_of-lengths-then-ran-ne0
+same-length_2 c = c.before.before.before.before.before.run_passed-ran.auto.1.1.1.1.1.0
 
-returns_2 : tie.Need-returns-2
+returns_2 : tie.Need-returns-then-ran-ne0
 returns_2 c =
     let k = c.before.before.before.before.before in
     let s = start k in
-    no_words_lem (array s) (started_of s.args.started) s.pre.1.0 (asked s) (answer k) k.run-passed.ensures c.if2.true _ _
+    no_words_lem (array s) (started_of s.args.started) s.requires.1.0 (asked s) (answer k) k.run_passed-ran.ensures c.if-ran-ne0.true _ _
 
 close-requires : tie.Need-close-requires
 close-requires c κs =
     let k = c.before.before.before.before.before.before in
     let s = start k in
-    (s.pre.0, ran_ok s.args.base.now s.args.check.now s.pre.0 (started_of s.args.started) s.pre.1.0 k.before.before.before.before.if1.false (asked s) (answer k) k.run-passed.ensures c.before.if2.false)
+    (s.requires.0, ran_ok s.args.base.now s.args.check.now s.requires.0 (started_of s.args.started) s.requires.1.0 k.before.before.before.before.if-started-ne0.false (asked s) (answer k) k.run_passed-ran.ensures c.before.if-ran-ne0.false)
 
-enum-known-total : tie.Need-enum-known-total
+enum-known-total : tie.Need-enum_known-total
 enum-known-total c = c.match.keys1
 
-enum_told : tie.Need-enum-told
+enum_told : tie.Need-enum_told-1
 enum_told c = c.match.keys2
 
-same-length-3 : tie.Need-same-length-3
-same-length-3 c = (ran c.before.before).run-passed.auto.1.1.1.1.0
+same-length-3 : tie.Need-shape_of-points-in_default
+same-length-3 c = (ran c.before.before).run_passed-ran.auto.1.1.1.1.0
 
-same-length-4 : tie.Need-same-length-4
-same-length-4 c = (ran c.before.before).run-passed.auto.1.1.1.1.1.0
+same-length-4 : tie.Need-shape_of-lengths-in_default
+same-length-4 c = (ran c.before.before).run_passed-ran.auto.1.1.1.1.1.0
 
-returns_3 : tie.Need-returns-3
+returns_3 : tie.Need-returns-in_default
 returns_3 c =
     let d = c.before.before in
     let k = ran d in
     let s = start k in
-    no_closing (array s) (started_of s.args.started) s.pre.1.0 (asked s) (answer k) k.run-passed.ensures (sym c.enum_told.given.1 ∙ d.close.ensures) _ _
+    no_closing (array s) (started_of s.args.started) s.requires.1.0 (asked s) (answer k) k.run_passed-ran.ensures (sym c.enum_told-1.given.1 ∙ d.close.ensures) _ _
 
-add-t18 : tie.Need-overflow-add-t18
+add-t18 : tie.Need-overflow_add-result
 add-t18 c =
     let d = c.before.before.before.before.before in
-    two_fit (ran d).run-passed.result.total c.before.before.before.total.given.0.0 (words-total (ran d)) (closing_total c.before.before.before)
+    two_fit (ran d).run_passed-ran.result.total-1 c.before.before.before.total-1.given.0.0 (words-total (ran d)) (closing_total c.before.before.before)
 
-same-length-5 : tie.Need-same-length-5
-same-length-5 c = (ran c.before.before.before.before.before).run-passed.auto.1.1.1.1.0
+same-length-5 : tie.Need-shape_of-points
+same-length-5 c = (ran c.before.before.before.before.before).run_passed-ran.auto.1.1.1.1.0
 
-same-length-6 : tie.Need-same-length-6
-same-length-6 c = (ran c.before.before.before.before.before).run-passed.auto.1.1.1.1.1.0
+same-length-6 : tie.Need-shape_of-lengths
+same-length-6 c = (ran c.before.before.before.before.before).run_passed-ran.auto.1.1.1.1.1.0
 
-returns-4 : tie.Need-returns-4
+returns-4 : tie.Need-returns
 returns-4 c =
     let t = c.before.before.before in
     let d = t.before.before in
     let k = ran d in
     let s = start k in
-    all_three (array s) (started_of s.args.started) s.pre.1.0 (asked s) (answer k) k.run-passed.ensures k.before.before.before.before.if1.left d.before.before.if2.false _ _ (sym t.total.given.1 ∙ d.close.ensures) _ (two-added k.run-passed.result.total t.total.given.0.0 (words-total k) (closing_total t))
+    all_three (array s) (started_of s.args.started) s.requires.1.0 (asked s) (answer k) k.run_passed-ran.ensures k.before.before.before.before.if-started-ne0.false d.before.before.if-ran-ne0.false _ _ (sym t.total-1.given.1 ∙ d.close.ensures) _ (two-added k.run_passed-ran.result.total-1 t.total-1.given.0.0 (words-total k) (closing_total t))
 
-pub score-sentence-spec : {M : Type 1} → statement M
-score-sentence-spec =
+pub score_sentence_spec : {M : Type 1} → statement M
+score_sentence_spec =
     tie.close
     (tie.spec
     returns

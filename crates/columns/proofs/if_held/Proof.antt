@@ -11,29 +11,29 @@ use borrow.Author.Rules.{rules}
 use Rattle.columns.proofs.if_held.Statement.{statement}
 use Rattle.columns.proofs.if_held.Tie as tie
 
-cast-if1 : tie.Need-overflow-cast-if1
+cast-if1 : tie.Need-overflow_cast-t-2
 cast-if1 c = search rules
 
-returns : tie.Need-returns
+returns : tie.Need-returns-then-z
 unfolding if_held between
 returns c =
     let e : le_z least_number c.before.args.z ≡ false = omega zarith in
     rw e refl
 
-cast-if2 : tie.Need-overflow-cast-if2
+cast-if2 : tie.Need-overflow_cast-t-2-2
 cast-if2 c = search rules
 
-returns_2 : tie.Need-returns-2
+returns_2 : tie.Need-returns-then-z-2
 unfolding if_held between
 returns_2 c =
     let z = c.before.before.args.z in
     let e : le_z z greatest_number ≡ false = omega zarith in
     rw (and_no (le_z least_number z) (le_z z greatest_number) e) refl
 
-cast-t4 : tie.Need-overflow-cast-t4
+cast-t4 : tie.Need-overflow_cast-result
 cast-t4 c = omega zarith
 
-returns_3 : tie.Need-returns-3
+returns_3 : tie.Need-returns
 unfolding if_held between
 returns_3 c =
     let z = c.before.before.args.z in
@@ -41,5 +41,5 @@ returns_3 c =
     let h : le_z z greatest_number ≡ true = omega zarith in
     rw (l, h) (ap Number (to_z-of_z (cast-t4 c) ∙ to_z-of_z c.before.before.ranges.z))
 
-pub if-held-spec : {M : Type 1} → statement M
-if-held-spec = tie.close (tie.spec cast-if1 returns cast-if2 returns_2 cast-t4 returns_3)
+pub if_held_spec : {M : Type 1} → statement M
+if_held_spec = tie.close (tie.spec cast-if1 returns cast-if2 returns_2 cast-t4 returns_3)

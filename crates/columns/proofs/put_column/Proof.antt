@@ -7,22 +7,22 @@ use borrow.Author.Rules.{rules}
 use Rattle.columns.proofs.put_column.Statement.{statement}
 use Rattle.columns.proofs.put_column.Tie as tie
 
-signed-length-requires : tie.Need-signed-length-requires
+signed-length-requires : tie.Need-signed_length-taken-requires
 signed-length-requires c κs = search rules
 
-put-spaces-requires : tie.Need-put-spaces-requires
+put-spaces-requires : tie.Need-put_spaces-start-requires
 put-spaces-requires c κs =
     let a = c.before.before.before.args in
-    omega (arith, length-justified a.width (signed a.negative a.size), c.before.signed-length.ensures, c.before.before.before.requires)
+    omega (arith, length-justified a.width (signed a.negative a.size), c.before.signed_length-taken.ensures, c.before.before.before.requires)
 
-put-signed-requires : tie.Need-put-signed-requires
+put-signed-requires : tie.Need-put_signed-requires
 put-signed-requires c κs =
     let p = c.before.before.before in
     let s = p.before.before in
     let a = s.before.before.args in
-    omega (arith, length-justified a.width (signed a.negative a.size), s.signed-length.ensures, p.put-spaces.ensures.0, p.put-spaces.auto.1.1.0, s.before.before.requires)
+    omega (arith, length-justified a.width (signed a.negative a.size), s.signed_length-taken.ensures, p.put_spaces-start.ensures.0, p.put_spaces-start.auto.1.1.0, s.before.before.requires)
 
-same_length : tie.Need-same-length
+same_length : tie.Need-shape_of-out
 same_length c = search rules
 
 returns : tie.Need-returns
@@ -31,12 +31,17 @@ returns c =
     let p = g.before.before.before.before in
     let s = p.before.before in
     let a = s.before.before.args in
-    let n = s.signed-length.ensures in (
-      omega (arith, length-justified a.width (signed a.negative a.size), n, p.put-spaces.ensures.0, g.put-signed.ensures.0),
-      g.put-signed.ensures.1 ∙ rw (p.put-spaces.ensures.1, p.put-spaces.ensures.0, n) (sym (sets-justified a.out.now a.at a.width (signed a.negative a.size))),
+    let n = s.signed_length-taken.ensures in (
+      omega (arith, length-justified a.width (signed a.negative a.size), n, p.put_spaces-start.ensures.0, g.put_signed.ensures.0),
+      g.put_signed.ensures.1 ∙ rw (p.put_spaces-start.ensures.1, p.put_spaces-start.ensures.0, n) (sym (sets-justified a.out-1.now a.at a.width (signed a.negative a.size))),
     )
 
-pub put-column-spec : {M : Type 1} → statement M
-put-column-spec =
+pub put_column_spec : {M : Type 1} → statement M
+put_column_spec =
     tie.close
-    (tie.spec signed-length-requires put-spaces-requires put-signed-requires same_length returns)
+    (tie.spec
+    signed-length-requires
+    put-spaces-requires
+    put-signed-requires
+    same_length
+    returns)

@@ -15,47 +15,47 @@ record Padding (taken width : ℕ) (out₀ : List ℕ) (at : ℕ) (out : List �
   room : place + (width - used) ≡ at + (width - taken)
   long : length out ≡ length out₀
 
-abbrev invariant-loop : tie.invariant-loop
+abbrev invariant-loop : tie.invariant-loop-used
 invariant-loop taken width out₀ at place₀ used₀ out place used = Padding taken width out₀ at out place used
 
-abbrev decreases-loop : tie.decreases-loop
+abbrev decreases-loop : tie.decreases-loop-used
 decreases-loop taken width out₀ at place₀ used₀ out place used = width - used
 
-loop-holds : tie.Need-loop-init invariant-loop decreases-loop
+loop-holds : tie.Need-loop-used-init invariant-loop decreases-loop
 loop-holds c = record { left = refl; room = refl; long = refl }
 
-slice-write-out : tie.Need-slice-write-out invariant-loop decreases-loop
+slice-write-out : tie.Need-bounds-out-place invariant-loop decreases-loop
 slice-write-out c = omega arith
 
-add-place : tie.Need-overflow-add-place invariant-loop decreases-loop
+add-place : tie.Need-overflow_add-place invariant-loop decreases-loop
 add-place c = omega arith
 
-add-used : tie.Need-overflow-add-used invariant-loop decreases-loop
+add-used : tie.Need-overflow_add-used invariant-loop decreases-loop
 add-used c = omega arith
 
-loop-less : tie.Need-loop-smaller invariant-loop decreases-loop
+loop-less : tie.Need-loop-used-smaller invariant-loop decreases-loop
 loop-less c = omega arith
 
-loop-again : tie.Need-loop-preserved invariant-loop decreases-loop
+loop-again : tie.Need-loop-used-preserved invariant-loop decreases-loop
 loop-again c =
     let l = c.before in
     let a = l.before.args in
     record {
-      left = l.loop.invariant.left ∙ sets-replicate l.loop.out l.loop.place l.loop.used a.width 32 c.loop-test.true;
+      left = l.loop-used.invariant.left ∙ sets-replicate l.loop-used.out l.loop-used.place l.loop-used.used a.width 32 c.loop-used-test.true;
       room = omega arith;
-      long = simp length-set l.loop.invariant.long;
+      long = simp length-set l.loop-used.invariant.long;
     }
 
-same_length : tie.Need-same-length invariant-loop decreases-loop
-same_length c = c.before.loop.invariant.long
+same_length : tie.Need-shape_of-out invariant-loop decreases-loop
+same_length c = c.before.loop-used.invariant.long
 
 returns : tie.Need-returns invariant-loop decreases-loop
 returns c =
     let l = c.before in
-    (omega arith, sym (l.loop.invariant.left ∙ sets-none l.loop.out l.loop.place l.loop.used l.before.args.width 32 c.loop-test.false))
+    (omega arith, sym (l.loop-used.invariant.left ∙ sets-none l.loop-used.out l.loop-used.place l.loop-used.used l.before.args.width 32 c.loop-used-test.false))
 
-pub put-spaces-spec : {M : Type 1} → statement M
-put-spaces-spec =
+pub put_spaces_spec : {M : Type 1} → statement M
+put_spaces_spec =
     tie.close
     (tie.spec
     invariant-loop

@@ -17,38 +17,38 @@ use Rattle.columns.proofs.read_column.Tie as tie
 read : (width : ℕ) (text : List ℕ) (r : Column) → r ≡ read_column width text → (r ≡ read_column width text) × ColumnMeans width text r
 read width text r e = (e, subst (ColumnMeans width text) (sym e) (column_means width text))
 
-returns : tie.Need-returns
+returns : tie.Need-returns-then-text-width
 unfolding read_column
-returns c = let a = c.before.before.args in read a.width a.text.now NotInForm (rw (ne_eqb (length a.text.now) a.width c.if1.true) refl)
+returns c = let a = c.before.before.args in read a.width a.text.now NotInForm (rw (ne_eqb (length a.text.now) a.width c.if-text-width.true) refl)
 
-skip-spaces-requires : tie.Need-skip-spaces-requires
+skip-spaces-requires : tie.Need-skip_spaces-start-requires
 skip-spaces-requires c κs = search rules
 
-sub-read-numeral : tie.Need-overflow-sub-read-numeral
+sub-read-numeral : tie.Need-slice_bounds-read_numeral-count
 sub-read-numeral c = search rules
 
-part-read-numeral-start : tie.Need-slice-bounds-read-numeral-start
+part-read-numeral-start : tie.Need-slice_bounds-read_numeral-start
 part-read-numeral-start c = search rules
 
-part-read-numeral-end : tie.Need-slice-bounds-read-numeral-end
+part-read-numeral-end : tie.Need-slice_bounds-read_numeral-end
 part-read-numeral-end c = search rules
 
-read-numeral-requires : tie.Need-read-numeral-requires
+read-numeral-requires : tie.Need-read_numeral-requires
 read-numeral-requires c κs = search rules
 
-returns_2 : tie.Need-returns-2
+returns_2 : tie.Need-returns
 unfolding read_column
 returns_2 c =
     let s = c.before.before in
     let b = s.before in
     let width = b.before.before.args.width in
     let text = b.before.before.args.text.now in
-    read width text c.read-numeral.result
-    (c.read-numeral.ensures ∙ ap read_numeral (part_to_end text s.skip-spaces.result ∙ s.skip-spaces.ensures.1)
-    ∙ rw (eq-eqb (length text) width b.if1.false) refl)
+    read width text c.read_numeral.result
+    (c.read_numeral.ensures ∙ ap read_numeral (part_to_end text s.skip_spaces-start.result ∙ s.skip_spaces-start.ensures.1)
+    ∙ rw (eq-eqb (length text) width b.if-text-width.false) refl)
 
-pub read-column-spec : {M : Type 1} → statement M
-read-column-spec =
+pub read_column_spec : {M : Type 1} → statement M
+read_column_spec =
     tie.close
     (tie.spec
     returns

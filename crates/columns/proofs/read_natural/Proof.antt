@@ -16,33 +16,39 @@ use borrow.Author.Rules.{rules}
 use Rattle.columns.proofs.read_natural.Statement.{statement}
 use Rattle.columns.proofs.read_natural.Tie as tie
 
-is-natural-requires : tie.Need-is-natural-requires
+is-natural-requires : tie.Need-is_natural-requires
 is-natural-requires c κs = search rules
 
-returns : tie.Need-returns
+returns : tie.Need-returns-then-not-is_natural
 unfolding read_natural
-returns c = rw (sym c.before.is-natural.ensures ∙ not-true _ c.if1.true) refl
+returns c = rw (sym c.before.is_natural.ensures ∙ not-true _ c.if-not-is_natural.true) refl
 
 value-requires : tie.Need-value-requires
-value-requires c κs = (natural-all _ (sym c.before.is-natural.ensures ∙ not-false _ c.if1.false), omega (arith, c.before.before.before.requires))
+value-requires c κs = (natural-all _ (sym c.before.is_natural.ensures ∙ not-false _ c.if-not-is_natural.false), omega (arith, c.before.before.before.requires))
 
 -- so many digits make a number that 63 bits hold
 small : (c : tie.After-value) → 10 ^ length c.before.before.before.before.args.text.now ≤ 10 ^ most_digits
 small c = pow-le-pow_right (omega arith) {j = most_digits} c.before.before.before.before.requires
 
-cast-if-held : tie.Need-overflow-cast-if-held
+cast-if-held : tie.Need-overflow_cast-value
 cast-if-held c = omega (zarith, small c)
 
-if-held-requires : tie.Need-if-held-requires
+if-held-requires : tie.Need-if_held-requires
 if-held-requires c κs = search rules
 
-returns_2 : tie.Need-returns-2
+returns_2 : tie.Need-returns
 unfolding read_natural
 returns_2 c =
     let v = c.before in
-    rw (sym v.before.before.is-natural.ensures ∙ not-false _ v.before.if1.false)
+    rw (sym v.before.before.is_natural.ensures ∙ not-false _ v.before.if-not-is_natural.false)
     (c.if_held_lem.ensures ∙ ap if_held (to_z_pos w64 (omega (arith, small v)) ∙ ap pos v.value.ensures.0))
 
-pub read-natural-spec : {M : Type 1} → statement M
-read-natural-spec =
-    tie.close (tie.spec is-natural-requires returns value-requires cast-if-held if-held-requires returns_2)
+pub read_natural_spec : {M : Type 1} → statement M
+read_natural_spec =
+    tie.close (tie.spec
+    is-natural-requires
+    returns
+    value-requires
+    cast-if-held
+    if-held-requires
+    returns_2)

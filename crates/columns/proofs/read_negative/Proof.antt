@@ -18,54 +18,62 @@ use borrow.Author.Rules.{rules}
 use Rattle.columns.proofs.read_negative.Statement.{statement}
 use Rattle.columns.proofs.read_negative.Tie as tie
 
-is-natural-requires : tie.Need-is-natural-requires
+is-natural-requires : tie.Need-is_natural-requires
 is-natural-requires c κs = search rules
 
-returns : tie.Need-returns
+returns : tie.Need-returns-then-not-is_natural
 unfolding read_negative
-returns c = rw (sym c.before.is-natural.ensures ∙ not-true _ c.if1.true) refl
+returns c = rw (sym c.before.is_natural.ensures ∙ not-true _ c.if-not-is_natural.true) refl
 
-value-requires : tie.Need-value-requires
-value-requires c κs = (natural-all _ (sym c.before.is-natural.ensures ∙ not-false _ c.if1.false), omega (arith, c.before.before.before.requires))
+value-requires : tie.Need-value-size-requires
+value-requires c κs = (natural-all _ (sym c.before.is_natural.ensures ∙ not-false _ c.if-not-is_natural.false), omega (arith, c.before.before.before.requires))
 
 -- the text is a number
-natural : (c : tie.After-value) → is_natural c.before.before.before.before.args.text.now ≡ true
-natural c = sym c.before.before.is-natural.ensures ∙ not-false _ c.before.if1.false
+natural : (c : tie.After-value-size) → is_natural c.before.before.before.before.args.text.now ≡ true
+natural c = sym c.before.before.is_natural.ensures ∙ not-false _ c.before.if-not-is_natural.false
 
-returns_2 : tie.Need-returns-2
+returns_2 : tie.Need-returns-then-size-eq0
 unfolding read_negative
 returns_2 c =
     let v = c.before in
-    rw (natural v, eq-eqb (value_from 0 v.before.before.before.before.args.text.now) 0 (sym v.value.ensures.0 ∙ c.if2.true)) refl
+    rw (natural v, eq-eqb (value_from 0 v.before.before.before.before.args.text.now) 0 (sym v.value-size.ensures.0 ∙ c.if-size-eq0.true)) refl
 
 -- so many digits make a number that 63 bits hold
-small : (c : tie.After-value) → 10 ^ length c.before.before.before.before.args.text.now ≤ 10 ^ most_digits
+small : (c : tie.After-value-size) → 10 ^ length c.before.before.before.before.args.text.now ≤ 10 ^ most_digits
 small c = pow-le-pow_right (omega arith) {j = most_digits} c.before.before.before.before.requires
 
-cast-if-held : tie.Need-overflow-cast-if-held
+cast-if-held : tie.Need-overflow_cast-size
 cast-if-held c = omega (zarith, small c.before)
 
-sub-if-held : tie.Need-overflow-sub-if-held
+sub-if-held : tie.Need-overflow_sub-size
 sub-if-held c =
     let s = small c.before in
-    let t : to_z w64 c.before.value.result ≡ pos c.before.value.result = to_z_pos w64 (omega arith) in
+    let t : to_z w64 c.before.value-size.result ≡ pos c.before.value-size.result = to_z_pos w64 (omega arith) in
     omega (zarith, t)
 
-if-held-requires : tie.Need-if-held-requires
+if-held-requires : tie.Need-if_held-requires
 if-held-requires c κs = search rules
 
-returns_3 : tie.Need-returns-3
+returns_3 : tie.Need-returns
 unfolding read_negative
 returns_3 c =
     let b = c.before in
     let v = b.before in
-    let r = v.value.ensures in
+    let r = v.value-size.ensures in
     let text = v.before.before.before.before.args.text.now in
-    let t : to_z w64 v.value.result ≡ pos (value_from 0 text) = to_z_pos w64 (omega (arith, small v)) ∙ ap pos r.0 in
-    rw (natural v, ne_eqb (value_from 0 text) 0 (λ e. b.if2.false (r.0 ∙ e)))
+    let t : to_z w64 v.value-size.result ≡ pos (value_from 0 text) = to_z_pos w64 (omega (arith, small v)) ∙ ap pos r.0 in
+    rw (natural v, ne_eqb (value_from 0 text) 0 (λ e. b.if-size-eq0.false (r.0 ∙ e)))
     (c.if_held_lem.ensures ∙ ap if_held (to_z-of_z (sub-if-held b) ∙ ap (λ (y : ℤ). pos 0 -ℤ y) t ∙ +ℤ_idl (neg_ℤ (pos (value_from 0 text)))))
 
-pub read-negative-spec : {M : Type 1} → statement M
-read-negative-spec =
+pub read_negative_spec : {M : Type 1} → statement M
+read_negative_spec =
     tie.close
-    (tie.spec is-natural-requires returns value-requires returns_2 cast-if-held sub-if-held if-held-requires returns_3)
+    (tie.spec
+    is-natural-requires
+    returns
+    value-requires
+    returns_2
+    cast-if-held
+    sub-if-held
+    if-held-requires
+    returns_3)

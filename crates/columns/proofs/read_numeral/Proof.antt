@@ -7,40 +7,40 @@ use borrow.Author.Rules.{part_to_end}
 use Rattle.columns.proofs.read_numeral.Statement.{statement}
 use Rattle.columns.proofs.read_numeral.Tie as tie
 
-returns : tie.Need-returns
-returns c = sym (numeral-none c.before.before.args.text.now c.if1.true)
+returns : tie.Need-returns-then-text-eq0
+returns c = sym (numeral-none c.before.before.args.text.now c.if-text-eq0.true)
 
-shared-slice-read-if2 : tie.Need-shared-slice-read-if2
+shared-slice-read-if2 : tie.Need-bounds-text-0
 shared-slice-read-if2 c = search rules
 
-sub-read-negative : tie.Need-overflow-sub-read-negative
+sub-read-negative : tie.Need-slice_bounds-read_negative-count
 sub-read-negative c = search rules
 
-part-read-negative-start : tie.Need-slice-bounds-read-negative-start
+part-read-negative-start : tie.Need-slice_bounds-read_negative-start
 part-read-negative-start c = search rules
 
-part-read-negative-end : tie.Need-slice-bounds-read-negative-end
+part-read-negative-end : tie.Need-slice_bounds-read_negative-end
 part-read-negative-end c = search rules
 
-read-negative-requires : tie.Need-read-negative-requires
+read-negative-requires : tie.Need-read_negative-requires
 read-negative-requires c κs = search rules
 
-returns_2 : tie.Need-returns-2
+returns_2 : tie.Need-returns-then-text-eq45
 returns_2 c =
     let b = c.before.before.before.before in
     let text = b.before.before.args.text.now in
-    c.read-negative.ensures ∙ ap read_negative (part_to_end text 1) ∙ sym (numeral-minus text b.if1.false c.before.before.if2.true)
+    c.read_negative.ensures ∙ ap read_negative (part_to_end text 1) ∙ sym (numeral-minus text b.if-text-eq0.false c.before.before.if-text-eq45.true)
 
-read-natural-requires : tie.Need-read-natural-requires
+read-natural-requires : tie.Need-read_natural-requires
 read-natural-requires c κs = search rules
 
-returns_3 : tie.Need-returns-3
+returns_3 : tie.Need-returns
 returns_3 c =
     let b = c.before.before.before in
-    c.read-natural.ensures ∙ sym (numeral-other b.before.before.args.text.now b.if1.false c.before.if2.false)
+    c.read_natural.ensures ∙ sym (numeral-other b.before.before.args.text.now b.if-text-eq0.false c.before.if-text-eq45.false)
 
-pub read-numeral-spec : {M : Type 1} → statement M
-read-numeral-spec =
+pub read_numeral_spec : {M : Type 1} → statement M
+read_numeral_spec =
     tie.close
     (tie.spec
     returns

@@ -20,61 +20,61 @@ record Reading (text : List ℕ) (sum i : ℕ) : Type 0 where
   all : all_digits (drop i text) ≡ true
   small : sum < 10 ^ i
 
-abbrev invariant-loop : tie.invariant-loop
+abbrev invariant-loop : tie.invariant-loop-i
 invariant-loop text sum₀ i₀ sum i = Reading text sum i
 
-abbrev decreases-loop : tie.decreases-loop
+abbrev decreases-loop : tie.decreases-loop-i
 decreases-loop text sum₀ i₀ sum i = length text - i
 
 -- the character at hand is a digit
-here : (c : tie.After-shared-slice-known invariant-loop decreases-loop) → (48 ≤ get_or c.before.before.before.args.text.now c.before.before.loop.i 0) × (get_or c.before.before.before.args.text.now c.before.before.loop.i 0 ≤ 57) × (all_digits (drop (c.before.before.loop.i + 1) c.before.before.before.args.text.now) ≡ true)
-here c = let l = c.before.before in digit_here l.before.args.text.now l.loop.i (search rules) l.loop.invariant.all
+here : (c : tie.After-shared_slice_known-1 invariant-loop decreases-loop) → (48 ≤ get_or c.before.before.before.args.text.now c.before.before.loop-i.i 0) × (get_or c.before.before.before.args.text.now c.before.before.loop-i.i 0 ≤ 57) × (all_digits (drop (c.before.before.loop-i.i + 1) c.before.before.before.args.text.now) ≡ true)
+here c = let l = c.before.before in digit_here l.before.args.text.now l.loop-i.i (search rules) l.loop-i.invariant.all
 
 -- there is room for one more digit
-tenth : (c : tie.After-shared-slice-known invariant-loop decreases-loop) → 10 ^ c.before.before.loop.i ≤ 10 ^ (most_digits - 1)
+tenth : (c : tie.After-shared_slice_known-1 invariant-loop decreases-loop) → 10 ^ c.before.before.loop-i.i ≤ 10 ^ (most_digits - 1)
 tenth c = pow-le-pow_right (omega arith) {j = most_digits - 1} (omega arith)
 
-loop-holds : tie.Need-loop-init invariant-loop decreases-loop
+loop-holds : tie.Need-loop-i-init invariant-loop decreases-loop
 loop-holds c = record { within = search rules; left = refl; all = c.requires.0; small = omega arith }
 
-shared-slice-read-c : tie.Need-shared-slice-read-c invariant-loop decreases-loop
+shared-slice-read-c : tie.Need-bounds-text-i invariant-loop decreases-loop
 shared-slice-read-c c = search rules
 
-mul-sum : tie.Need-overflow-mul-sum invariant-loop decreases-loop
+mul-sum : tie.Need-overflow_mul-sum invariant-loop decreases-loop
 mul-sum c = omega (arith, tenth c)
 
-sub-sum : tie.Need-overflow-sub-sum invariant-loop decreases-loop
+sub-sum : tie.Need-overflow_sub-sum invariant-loop decreases-loop
 sub-sum c = (here c).0
 
-cast-sum : tie.Need-overflow-cast-sum invariant-loop decreases-loop
+cast-sum : tie.Need-overflow_cast-sum invariant-loop decreases-loop
 cast-sum c = omega (arith, here c)
 
-add-sum : tie.Need-overflow-add-sum invariant-loop decreases-loop
+add-sum : tie.Need-overflow_add-sum invariant-loop decreases-loop
 add-sum c = omega (arith, tenth c, here c)
 
-add-i : tie.Need-overflow-add-i invariant-loop decreases-loop
+add-i : tie.Need-overflow_add-i invariant-loop decreases-loop
 add-i c = search rules
 
-loop-less : tie.Need-loop-smaller invariant-loop decreases-loop
+loop-less : tie.Need-loop-i-smaller invariant-loop decreases-loop
 loop-less c = search rules
 
-loop-again : tie.Need-loop-preserved invariant-loop decreases-loop
+loop-again : tie.Need-loop-i-preserved invariant-loop decreases-loop
 loop-again c =
     let l = c.before.before in
     let text = l.before.args.text.now in
     record {
       within = search rules;
-      left = l.loop.invariant.left ∙ value_step text l.loop.i l.loop.sum (search rules);
+      left = l.loop-i.invariant.left ∙ value_step text l.loop-i.i l.loop-i.sum (search rules);
       all = (here c).2;
-      small = rw (add-one l.loop.i) (omega (arith, here c));
+      small = rw (add-one l.loop-i.i) (omega (arith, here c));
     }
 
 returns : tie.Need-returns invariant-loop decreases-loop
 returns c =
     let l = c.before in
     let text = l.before.args.text.now in
-    let all : length text ≡ l.loop.i = omega arith in
-    (sym (l.loop.invariant.left ∙ value_end text l.loop.i l.loop.sum (search rules)), rw all l.loop.invariant.small)
+    let all : length text ≡ l.loop-i.i = omega arith in
+    (sym (l.loop-i.invariant.left ∙ value_end text l.loop-i.i l.loop-i.sum (search rules)), rw all l.loop-i.invariant.small)
 
 pub value_spec : {M : Type 1} → statement M
 value_spec =

@@ -11,7 +11,7 @@ use Rattle.double_array.specs.DoubleArray.{head_offset}
 use Rattle.double_array.proofs.head_check.Statement.{statement}
 use Rattle.double_array.proofs.head_check.Tie as tie
 
-cast-result : tie.Need-overflow-cast-result
+cast-result : tie.Need-overflow_cast-result
 cast-result c = search rules
 
 order-read : (c : tie.Start) → to_z w32 c.args.order ≡ pos c.args.order
@@ -20,11 +20,11 @@ order-read c = to_z_pos w32 (omega arith)
 fits : (c : tie.Start) → SFits w32 (pos c.args.order +ℤ pos head_offset)
 fits c = omega zarith
 
-add-result : tie.Need-overflow-add-result
+add-result : tie.Need-overflow_add-result
 add-result c = rw (order-read c) (fits c)
 
 returns : tie.Need-returns
 returns c = rw (order-read c, to_z-of_z (fits c)) (omega (zarith, add (pos c.args.order) (pos head_offset)))
 
-pub head-check-spec : {M : Type 1} → statement M
-head-check-spec = tie.close (tie.spec cast-result add-result returns)
+pub head_check_spec : {M : Type 1} → statement M
+head_check_spec = tie.close (tie.spec cast-result add-result returns)

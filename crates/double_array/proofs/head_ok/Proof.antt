@@ -18,19 +18,19 @@ use Rattle.integer.proofs.Items.{get_or-inside}
 use Rattle.double_array.proofs.head_ok.Statement.{statement}
 use Rattle.double_array.proofs.head_ok.Tie as tie
 
-shared-slice-copy-out-head : tie.Need-shared-slice-copy-out-head
+shared-slice-copy-out-head : tie.Need-bounds-check-0
 shared-slice-copy-out-head c = search rules
 
-shared-slice-copy-out-rows : tie.Need-shared-slice-copy-out-rows
+shared-slice-copy-out-rows : tie.Need-bounds-base-1
 shared-slice-copy-out-rows c = search rules
 
-shared-slice-copy-out-result : tie.Need-shared-slice-copy-out-result
+shared-slice-copy-out-result : tie.Need-bounds-base-0
 shared-slice-copy-out-result c = search rules
 
-shared-slice-copy-out-result-2 : tie.Need-shared-slice-copy-out-result-2
+shared-slice-copy-out-result-2 : tie.Need-bounds-check-1
 shared-slice-copy-out-result-2 c = search rules
 
-cast-result : tie.Need-overflow-cast-result
+cast-result : tie.Need-overflow_cast-result
 cast-result c = search rules
 
 -- the six tests, as the code joins them and as `head_ok` does
@@ -43,16 +43,16 @@ returns c =
     let s = c.before.before.before.before in
     let b = s.args.base.now in
     let k = s.args.check.now in
-    let f : SFits w32 (get_or b 0 (pos 0)) = sfits_of c.before.result.given in
-    let g : SFits w32 (get_or k 1 (pos 0)) = sfits_of c.result2.given in
-    let o : SFits w32 (get_or k 0 (pos 0)) = sfits_of c.before.before.before.head.given in
-    let r : SFits w32 (get_or b 1 (pos 0)) = sfits_of c.before.before.rows.given in
+    let f : SFits w32 (get_or b 0 (pos 0)) = sfits_of c.before.result-1.given in
+    let g : SFits w32 (get_or k 1 (pos 0)) = sfits_of c.result-2-1.given in
+    let o : SFits w32 (get_or k 0 (pos 0)) = sfits_of c.before.before.before.head-1.given in
+    let r : SFits w32 (get_or b 1 (pos 0)) = sfits_of c.before.before.rows-1.given in
     rw (get_or-inside k 0 free_check (pos 0) (omega arith), get_or-inside k 1 free_check (pos 0) (omega arith))
     (simp (bits_test {b = pos 1} f (sfits_lit tt), bits_test {b = negsuc 0} g (sfits_lit tt), to_z-of_z o, to_z-of_z r)
     (regroup (eq_z (get_or b 0 (pos 0)) (pos 1)) (le_z (head_check 1) (get_or k 0 (pos 0))) (le_z (get_or k 0 (pos 0)) (head_check order_limit)) (eq_z (get_or k 1 (pos 0)) (negsuc 0)) (le_z (pos 3) (get_or b 1 (pos 0))) (le_z (get_or b 1 (pos 0)) (pos row_limit))))
 
-pub head-ok-spec : {M : Type 1} → statement M
-head-ok-spec =
+pub head_ok_spec : {M : Type 1} → statement M
+head_ok_spec =
     tie.close
     (tie.spec
     shared-slice-copy-out-head

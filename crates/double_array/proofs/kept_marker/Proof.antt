@@ -17,73 +17,73 @@ use borrow.Author.Rules.{rules, sfits_of}
 use Rattle.double_array.proofs.kept_marker.Statement.{statement}
 use Rattle.double_array.proofs.kept_marker.Tie as tie
 
-mul-d : tie.Need-overflow-mul-d
+mul-d : tie.Need-offset_bounds-base-s
 mul-d c = search rules
 
-shared-slice-copy-out-d : tie.Need-shared-slice-copy-out-d
+shared-slice-copy-out-d : tie.Need-bounds-base-s
 shared-slice-copy-out-d c = search rules
 
 -- BASE of the node's slot
 abbrev d : tie.Start → ℤ
 d s = get_or s.args.base.now s.args.s (pos 0)
 
-d_fits : (c : tie.After-d) → SFits w32 (d c.before)
-d_fits c = sfits_of c.d.given
+d_fits : (c : tie.After-d-1) → SFits w32 (d c.before)
+d_fits c = sfits_of c.d-1.given
 
-returns : tie.Need-returns
+returns : tie.Need-returns-then-d-lt1
 unfolding kept_marker
 returns c =
     let f = d_fits c.before in
     let e : le_z (pos 1) (d c.before.before) ≡ false = omega zarith in
     rw e
 
-cast_t : tie.Need-overflow-cast-t
+cast_t : tie.Need-overflow_cast-t
 cast_t c = let f = d_fits c.before in to_nat tt f (omega zarith)
 
 -- an item at that index, read back from its bits
 item-is : (l : List ℤ) {z : ℤ} → SFits w32 z → mag (get_or l (nat_abs (to_z w32 (of_z w32 z))) (pos 0)) < 2147483648 → to_z w32 (of_z w32 (get_or l (nat_abs (to_z w32 (of_z w32 z))) (pos 0))) ≡ get_or l (nat_abs z) (pos 0)
 item-is l f m = to_z-of_z (sfits_of m) ∙ ap (λ (y : ℤ). get_or l (nat_abs y) (pos 0)) (to_z-of_z f)
 
-returns_2 : tie.Need-returns-2
+returns_2 : tie.Need-returns-then-check-t
 unfolding kept_marker
 returns_2 c =
     let f = d_fits c.before.before in
     let s = c.before.before.before in
     let l : le_z (pos 1) (d s) ≡ true = omega zarith in
-    let h : length s.args.check.now ≤ nat_abs (d s) = simp (to_z-of_z f) at c.if2.true in
+    let h : length s.args.check.now ≤ nat_abs (d s) = simp (to_z-of_z f) at c.if-check-t.true in
     let e : lt_z (d s) (pos (length s.args.check.now)) ≡ false = omega (zarith, abs (d s)) in
     rw (l, e)
 
-mul-marker-of : tie.Need-overflow-mul-marker-of
+mul-marker-of : tie.Need-offset_bounds-check-t
 mul-marker-of c = search rules
 
-shared-slice-copy-out-marker-of : tie.Need-shared-slice-copy-out-marker-of
+shared-slice-copy-out-marker-of : tie.Need-bounds-check-t
 shared-slice-copy-out-marker-of c = search rules
 
-mul-marker-of-2 : tie.Need-overflow-mul-marker-of-2
+mul-marker-of-2 : tie.Need-offset_bounds-base-t
 mul-marker-of-2 c = search rules
 
-shared-slice-copy-out-marker-of-2 : tie.Need-shared-slice-copy-out-marker-of-2
+shared-slice-copy-out-marker-of-2 : tie.Need-bounds-base-t
 shared-slice-copy-out-marker-of-2 c = search rules
 
-marker-of-requires : tie.Need-marker-of-requires
+marker-of-requires : tie.Need-marker_of-requires
 marker-of-requires c κs = search rules
 
-returns_3 : tie.Need-returns-3
+returns_3 : tie.Need-returns
 unfolding kept_marker
 returns_3 c =
     let e = c.before.before.before in
     let s = e.before.before.before in
     let f = d_fits e.before.before in
     let l : le_z (pos 1) (d s) ≡ true = omega zarith in
-    let h : nat_abs (d s) < length s.args.check.now = simp (to_z-of_z f) at e.if2.false in
+    let h : nat_abs (d s) < length s.args.check.now = simp (to_z-of_z f) at e.if-check-t.false in
     let u : lt_z (d s) (pos (length s.args.check.now)) ≡ true = omega (zarith, abs (d s)) in
-    let k = item-is s.args.check.now f c.before.before.marker-of-arg.given in
-    let v = item-is s.args.base.now f c.before.marker-of-arg2.given in
-    rw (l, u, get_or-inside s.args.check.now (nat_abs (d s)) free_check (pos 0) h, c.marker-of.ensures, k, v)
+    let k = item-is s.args.check.now f c.before.before.marker_of-arg-1.given in
+    let v = item-is s.args.base.now f c.before.marker_of-arg-2-1.given in
+    rw (l, u, get_or-inside s.args.check.now (nat_abs (d s)) free_check (pos 0) h, c.marker_of.ensures, k, v)
 
-pub kept-marker-spec : {M : Type 1} → statement M
-kept-marker-spec =
+pub kept_marker_spec : {M : Type 1} → statement M
+kept_marker_spec =
     tie.close
     (tie.spec
     mul-d

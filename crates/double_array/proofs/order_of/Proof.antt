@@ -14,20 +14,20 @@ use Rattle.double_array.proofs.DoubleArray.{order_told}
 use Rattle.double_array.proofs.order_of.Statement.{statement}
 use Rattle.double_array.proofs.order_of.Tie as tie
 
-shared-slice-copy-out-result : tie.Need-shared-slice-copy-out-result
+shared-slice-copy-out-result : tie.Need-bounds-check-0
 shared-slice-copy-out-result c = (order_told c.args.check.now c.requires).inside
 
 -- CHECK[0] as the code reads it
-head-fits : (c : tie.After-result) → SFits w32 (get_or c.before.args.check.now 0 (pos 0))
-head-fits c = sfits_of c.result.given
+head-fits : (c : tie.After-result-1) → SFits w32 (get_or c.before.args.check.now 0 (pos 0))
+head-fits c = sfits_of c.result-1.given
 
-low : (c : tie.After-result) → head_check 1 ≤ℤ get_or c.before.args.check.now 0 (pos 0)
+low : (c : tie.After-result-1) → head_check 1 ≤ℤ get_or c.before.args.check.now 0 (pos 0)
 low c = let o = order_told c.before.args.check.now c.before.requires in rw (get_or-inside c.before.args.check.now 0 (pos 0) free_check o.inside) o.low
 
-sub-result : tie.Need-overflow-sub-result
+sub-result : tie.Need-overflow_sub-result
 sub-result c = let l = low c in omega (zarith, fit (head-fits c))
 
-cast-result : tie.Need-overflow-cast-result
+cast-result : tie.Need-overflow_cast-result
 cast-result c =
     let h = get_or c.before.args.check.now 0 (pos 0) in
     let l = low c in
@@ -42,5 +42,5 @@ returns c =
     rw (to_z-of_z (head-fits c), to_z-of_z (rw (to_z-of_z (head-fits c)) at (sub-result c)), get_or-inside k 0 free_check (pos 0) (order_told k c.before.requires).inside)
     (omega (zarith, sub h (pos head_offset), abs (h -ℤ pos head_offset), abs h))
 
-pub order-of-spec : {M : Type 1} → statement M
-order-of-spec = tie.close (tie.spec shared-slice-copy-out-result sub-result cast-result returns)
+pub order_of_spec : {M : Type 1} → statement M
+order_of_spec = tie.close (tie.spec shared-slice-copy-out-result sub-result cast-result returns)

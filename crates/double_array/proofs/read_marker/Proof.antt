@@ -9,34 +9,34 @@ use Rattle.double_array.proofs.DoubleArray.{marker_own, marker_kept}
 use Rattle.double_array.proofs.read_marker.Statement.{statement}
 use Rattle.double_array.proofs.read_marker.Tie as tie
 
-mul-marker-of : tie.Need-overflow-mul-marker-of
+mul-marker-of : tie.Need-offset_bounds-base-s
 mul-marker-of c = search rules
 
-shared-slice-copy-out-marker-of : tie.Need-shared-slice-copy-out-marker-of
+shared-slice-copy-out-marker-of : tie.Need-bounds-base-s
 shared-slice-copy-out-marker-of c = search rules
 
-marker-of-requires : tie.Need-marker-of-requires
+marker-of-requires : tie.Need-marker_of-requires
 marker-of-requires c κs = search rules
 
-returns : tie.Need-returns
+returns : tie.Need-returns-then-depth-order
 unfolding own_marker
 returns c =
     let s = c.before.before.before in
-    c.marker-of.ensures
-    ∙ ap (λ (z : ℤ). marker_of z (pos 0)) (to_z-of_z (sfits_of c.before.marker-of-arg.given))
-    ∙ sym (marker_own s.args.base.now s.args.check.now s.args.depth s.args.s (c.before.before.if1.true ∙ s.requires.1.1))
+    c.marker_of.ensures
+    ∙ ap (λ (z : ℤ). marker_of z (pos 0)) (to_z-of_z (sfits_of c.before.marker_of-arg-1.given))
+    ∙ sym (marker_own s.args.base.now s.args.check.now s.args.depth s.args.s (c.before.before.if-depth-order.true ∙ s.requires.1.1))
 
-kept-marker-requires : tie.Need-kept-marker-requires
+kept-marker-requires : tie.Need-kept_marker-requires
 kept-marker-requires c κs = search rules
 
-returns_2 : tie.Need-returns-2
+returns_2 : tie.Need-returns
 returns_2 c =
     let s = c.before.before in
-    c.kept-marker.ensures
-    ∙ sym (marker_kept s.args.base.now s.args.check.now s.args.depth s.args.s (λ e. c.before.if1.false (e ∙ sym s.requires.1.1)))
+    c.kept_marker.ensures
+    ∙ sym (marker_kept s.args.base.now s.args.check.now s.args.depth s.args.s (λ e. c.before.if-depth-order.false (e ∙ sym s.requires.1.1)))
 
-pub read-marker-spec : {M : Type 1} → statement M
-read-marker-spec =
+pub read_marker_spec : {M : Type 1} → statement M
+read_marker_spec =
     tie.close
     (tie.spec
     mul-marker-of

@@ -8,5 +8,5 @@ returns : tie.Need-returns
 unfolding sizes_ok
 returns c = simp and_assoc
 
-pub sizes-ok-spec : {M : Type 1} → statement M
-sizes-ok-spec = tie.close (tie.spec returns)
+pub sizes_ok_spec : {M : Type 1} → statement M
+sizes_ok_spec = tie.close (tie.spec returns)

@@ -8,38 +8,38 @@ use Rattle.integer.proofs.Each.{Written, written_none, written_next, written_all
 use Rattle.double_array.proofs.zero.Statement.{statement}
 use Rattle.double_array.proofs.zero.Tie as tie
 
-abbrev invariant-loop : tie.invariant-loop
+abbrev invariant-loop : tie.invariant-loop-i
 invariant-loop work₀ i₀ work i = Written (λ (x : ℕ). 0) work₀ work i
 
-abbrev decreases-loop : tie.decreases-loop
+abbrev decreases-loop : tie.decreases-loop-i
 decreases-loop work₀ i₀ work i = length work₀ - i
 
-loop-holds : tie.Need-loop-init invariant-loop decreases-loop
+loop-holds : tie.Need-loop-i-init invariant-loop decreases-loop
 loop-holds c = written_none _ _
 
-mul-work : tie.Need-overflow-mul-work invariant-loop decreases-loop
+mul-work : tie.Need-offset_bounds-work-i invariant-loop decreases-loop
 mul-work c = search rules
 
-slice-write-work : tie.Need-slice-write-work invariant-loop decreases-loop
+slice-write-work : tie.Need-bounds-work-i invariant-loop decreases-loop
 slice-write-work c = search rules
 
-add-i : tie.Need-overflow-add-i invariant-loop decreases-loop
+add-i : tie.Need-overflow_add-i invariant-loop decreases-loop
 add-i c = search rules
 
-loop-less : tie.Need-loop-smaller invariant-loop decreases-loop
-loop-less c = omega (arith, c.loop-test.true, c.before.loop.invariant.same_length)
+loop-less : tie.Need-loop-i-smaller invariant-loop decreases-loop
+loop-less c = omega (arith, c.loop-i-test.true, c.before.loop-i.invariant.same_length)
 
-loop-again : tie.Need-loop-preserved invariant-loop decreases-loop
-loop-again c = written_next _ _ _ _ _ 0 c.before.loop.invariant c.loop-test.true refl
+loop-again : tie.Need-loop-i-preserved invariant-loop decreases-loop
+loop-again c = written_next _ _ _ _ _ 0 c.before.loop-i.invariant c.loop-i-test.true refl
 
-same_length : tie.Need-same-length invariant-loop decreases-loop
-same_length c = c.before.loop.invariant.same_length
+same_length : tie.Need-shape_of-work invariant-loop decreases-loop
+same_length c = c.before.loop-i.invariant.same_length
 
 returns : tie.Need-returns invariant-loop decreases-loop
-returns c = written_all _ _ _ _ c.before.loop.invariant c.loop-test.false ∙ map_same 0 c.before.before.args.work.now
+returns c = written_all _ _ _ _ c.before.loop-i.invariant c.loop-i-test.false ∙ map_same 0 c.before.before.args.work.now
 
-pub zero-spec : {M : Type 1} → statement M
-zero-spec =
+pub zero_spec : {M : Type 1} → statement M
+zero_spec =
     tie.close
     (tie.spec
     invariant-loop

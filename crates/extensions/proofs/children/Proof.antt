@@ -8,24 +8,24 @@ use borrow.Author.Rules.{rules}
 use Rattle.extensions.proofs.children.Statement.{statement}
 use Rattle.extensions.proofs.children.Tie as tie
 
-front-key-requires : tie.Need-front-key-requires
+front-key-requires : tie.Need-front_key-requires
 unfolding rows_of
 front-key-requires c κs = (c.requires.0, c.requires.1.row c.args.i (omega arith))
 
-lower-bound-requires : tie.Need-lower-bound-requires
+lower-bound-requires : tie.Need-lower_bound-from-requires
 lower-bound-requires c κs = search rules
 
-children-end-requires : tie.Need-children-end-requires
+children-end-requires : tie.Need-children_end-to-requires
 children-end-requires c κs =
     let f = c.before in
     let s = f.before in
-    (s.requires.0, s.requires.1, subst (λ (k : ℕ). Bracket s.args.table.now k c.lower-bound.result c.lower-bound.result) f.front-key.ensures.0 c.lower-bound.ensures)
+    (s.requires.0, s.requires.1, subst (λ (k : ℕ). Bracket s.args.table.now k c.lower_bound-from.result c.lower_bound-from.result) f.front_key.ensures.0 c.lower_bound-from.ensures)
 
 returns : tie.Need-returns
 returns c = search rules
 
-pub children-spec : {M : Type 1} → statement M
-children-spec =
+pub children_spec : {M : Type 1} → statement M
+children_spec =
     tie.close
     (tie.spec
     front-key-requires

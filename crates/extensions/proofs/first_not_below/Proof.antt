@@ -35,51 +35,51 @@ module _ (t : List ℤ) (g : Good t (rows_of t)) (k i : ℕ) (h : Window t k i (
     above = λ j m n. let e = keys_ascend t g i j m n in omega arith;
   }
 
-search-window-requires : tie.Need-search-window-requires
+search-window-requires : tie.Need-search_window-from-requires
 search-window-requires c κs = search rules
 
-lower-bound-requires : tie.Need-lower-bound-requires
+lower-bound-requires : tie.Need-lower_bound-requires
 lower-bound-requires c κs = search rules
 
-returns : tie.Need-returns
+returns : tie.Need-returns-then-to-from
 returns c = search rules
 
-last-not-above-requires : tie.Need-last-not-above-requires
+last-not-above-requires : tie.Need-last_not_above-last-requires
 last-not-above-requires c κs = search rules
 
-row-key-requires : tie.Need-row-key-requires
+row-key-requires : tie.Need-row_key-requires
 unfolding rows_of
 row-key-requires c κs =
     let s = c.before.before.before in
-    let w = c.last-not-above.ensures.within in
-    (omega arith, s.requires.row c.last-not-above.result (omega arith))
+    let w = c.last_not_above-last.ensures.within in
+    (omega arith, s.requires.row c.last_not_above-last.result (omega arith))
 
-key-less-requires : tie.Need-key-less-requires
+key-less-requires : tie.Need-key_less-requires
 key-less-requires c κs = search rules
 
-abbrev start : tie.After-key-less → tie.Start
+abbrev start : tie.After-key_less → tie.Start
 start c = c.before.before.before.before.before
 
 -- the row at hand is compared with k
-less : (c : tie.After-key-less) → ltb (row_key (start c).args.table.now c.before.before.last-not-above.result) (key_of (start c).args.k.high (start c).args.k.low) ≡ c.key_less.result
-less c = sym (c.key_less.ensures ∙ ap (λ (x : ℕ). ltb x (key_of (start c).args.k.high (start c).args.k.low)) c.before.row-key.ensures)
+less : (c : tie.After-key_less) → ltb (row_key (start c).args.table.now c.before.before.last_not_above-last.result) (key_of (start c).args.k.high (start c).args.k.low) ≡ c.key_less.result
+less c = sym (c.key_less.ensures ∙ ap (λ (x : ℕ). ltb x (key_of (start c).args.k.high (start c).args.k.low)) c.before.row_key.ensures)
 
-add-result : tie.Need-overflow-add-result
+add-result : tie.Need-overflow_add-result
 unfolding rows_of
-add-result c = let w = c.before.before.before.last-not-above.ensures.within in omega arith
+add-result c = let w = c.before.before.before.last_not_above-last.ensures.within in omega arith
 
-returns_2 : tie.Need-returns-2
+returns_2 : tie.Need-returns-then-key_less
 returns_2 c =
     let d = c.before in
-    bound_after _ (start d).requires _ _ d.before.before.last-not-above.ensures (ltb-true _ _ (less d ∙ c.if2.true))
+    bound_after _ (start d).requires _ _ d.before.before.last_not_above-last.ensures (ltb-true _ _ (less d ∙ c.if-key_less.true))
 
-returns_3 : tie.Need-returns-3
+returns_3 : tie.Need-returns
 returns_3 c =
     let d = c.before in
-    bound_here _ (start d).requires _ _ d.before.before.last-not-above.ensures (ltb-false _ _ (less d ∙ c.if2.false))
+    bound_here _ (start d).requires _ _ d.before.before.last_not_above-last.ensures (ltb-false _ _ (less d ∙ c.if-key_less.false))
 
-pub first-not-below-spec : {M : Type 1} → statement M
-first-not-below-spec =
+pub first_not_below_spec : {M : Type 1} → statement M
+first_not_below_spec =
     tie.close
     (tie.spec
     search-window-requires

@@ -8,31 +8,31 @@ use borrow.Author.Rules.{rules}
 use Rattle.filled_list.proofs.end_key.Statement.{statement}
 use Rattle.filled_list.proofs.end_key.Tie as tie
 
-mul-start : tie.Need-overflow-mul-start
+mul-start : tie.Need-overflow_mul-start
 mul-start c = search rules
 
-add-end : tie.Need-overflow-add-end
+add-end : tie.Need-overflow_add-end
 add-end c = search rules
 
-add-end-2 : tie.Need-overflow-add-end-2
+add-end-2 : tie.Need-overflow_add-end-2
 add-end-2 c = search rules
 
-sub-first : tie.Need-overflow-sub-first
+sub-first : tie.Need-overflow_sub-first
 sub-first c = search rules
 
-mul-key-of : tie.Need-overflow-mul-key-of
+mul-key-of : tie.Need-offset_bounds-table-first
 mul-key-of c = search rules
 
-sub-key-of : tie.Need-overflow-sub-key-of
+sub-key-of : tie.Need-slice_bounds-key_of-count
 sub-key-of c = search rules
 
-part-key-of-start : tie.Need-slice-bounds-key-of-start
+part-key-of-start : tie.Need-slice_bounds-key_of-start
 part-key-of-start c = search rules
 
-part-key-of-end : tie.Need-slice-bounds-key-of-end
+part-key-of-end : tie.Need-slice_bounds-key_of-end
 part-key-of-end c = search rules
 
-key-of-requires : tie.Need-key-of-requires
+key-of-requires : tie.Need-key_of-requires
 key-of-requires c κs =
     let s = c.before in
     (rw length-take (omega arith), rw (places-last _ _ _ _ s.requires.2 s.requires.4) (last-are_words _ _ _ s.requires.1))
@@ -40,8 +40,8 @@ key-of-requires c κs =
 returns : tie.Need-returns
 returns c = let s = c.before.before in c.key_of.ensures ∙ ap key (places-last _ _ _ _ s.requires.2 s.requires.4)
 
-pub end-key-spec : {M : Type 1} → statement M
-end-key-spec =
+pub end_key_spec : {M : Type 1} → statement M
+end_key_spec =
     tie.close
     (tie.spec
     mul-start

@@ -20,35 +20,43 @@ record Under (t : List ℤ) (m n floor k row high low : ℕ) : Type 0 where
 ended : {t : List ℤ} {m n floor k row high low : ℕ} → Under t m n floor k row high low → n < k → k ≡ suc n
 ended v l = let w = v.to in omega arith
 
-abbrev invariant-loop : tie.invariant-loop
+abbrev invariant-loop : tie.invariant-loop-k
 invariant-loop table m n floor near₀ rows best₀ k₀ near best k = Under table m n (key_of floor.high floor.low) k best.row best.key.high best.key.low
 
-abbrev decreases-loop : tie.decreases-loop
+abbrev decreases-loop : tie.decreases-loop-k
 decreases-loop table m n floor near₀ rows best₀ k₀ near best k = suc n - k
 
-loop-holds : tie.Need-loop-init invariant-loop decreases-loop
+loop-holds : tie.Need-loop-k-init invariant-loop decreases-loop
 unfolding rows_of
 loop-holds c = record { from = omega arith; to = omega arith; best = best-start _ c.requires.0 _ _ _ _ }
 
-better-requires : tie.Need-better-requires invariant-loop decreases-loop
+better-requires : tie.Need-better-best-requires invariant-loop decreases-loop
 better-requires c κs =
-    let v = c.before.before.loop.invariant in
+    let v = c.before.before.loop-k.invariant in
     let p = c.before.before.before.requires in
     (p.0, p.1, v.from, omega arith, p.4, p.5, v.best)
 
-add-k : tie.Need-overflow-add-k invariant-loop decreases-loop
+add-k : tie.Need-overflow_add-k invariant-loop decreases-loop
 add-k c = omega arith
 
-loop-less : tie.Need-loop-smaller invariant-loop decreases-loop
+loop-less : tie.Need-loop-k-smaller invariant-loop decreases-loop
 loop-less c = omega arith
 
-loop-again : tie.Need-loop-preserved invariant-loop decreases-loop
-loop-again c = let e = c.better.ensures in record { from = omega arith; to = omega arith; best = best_as _ _ _ _ _ _ _ _ (sym (add-one _)) e }
+loop-again : tie.Need-loop-k-preserved invariant-loop decreases-loop
+loop-again c = let e = c.better-best.ensures in record { from = omega arith; to = omega arith; best = best_as _ _ _ _ _ _ _ _ (sym (add-one _)) e }
 
 returns : tie.Need-returns invariant-loop decreases-loop
-returns c = let v = c.before.loop.invariant in let l = c.loop-test.false in best_as _ _ _ _ _ _ _ _ (ended v l) v.best
+returns c = let v = c.before.loop-k.invariant in let l = c.loop-k-test.false in best_as _ _ _ _ _ _ _ _ (ended v l) v.best
 
-pub next-row-spec : {M : Type 1} → statement M
-next-row-spec =
+pub next_row_spec : {M : Type 1} → statement M
+next_row_spec =
     tie.close
-    (tie.spec invariant-loop decreases-loop loop-holds better-requires add-k loop-less loop-again returns)
+    (tie.spec
+    invariant-loop
+    decreases-loop
+    loop-holds
+    better-requires
+    add-k
+    loop-less
+    loop-again
+    returns)

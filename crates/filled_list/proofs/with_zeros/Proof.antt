@@ -17,43 +17,51 @@ record Shifted (asked j i high low : ℕ) : Type 0 where
 room_of : {asked j i high low : ℕ} → Shifted asked j i high low → zeros (j - i) (key_of high low) ≤ power order_limit
 room_of v = rw v.left v.room
 
-abbrev invariant-loop : tie.invariant-loop
+abbrev invariant-loop : tie.invariant-loop-i
 invariant-loop j shifted₀ i₀ shifted i = Shifted (zeros j (key_of shifted₀.high shifted₀.low)) j i shifted.high shifted.low
 
-abbrev decreases-loop : tie.decreases-loop
+abbrev decreases-loop : tie.decreases-loop-i
 decreases-loop j shifted₀ i₀ shifted i = j - i
 
-loop-holds : tie.Need-loop-init invariant-loop decreases-loop
+loop-holds : tie.Need-loop-i-init invariant-loop decreases-loop
 loop-holds c = record { within = omega arith; left = zeros-none _ _; room = c.requires }
 
-key-shifted-requires : tie.Need-key-shifted-requires invariant-loop decreases-loop
+key-shifted-requires : tie.Need-key_shifted-shifted-requires invariant-loop decreases-loop
 key-shifted-requires c κs =
-    let v = c.before.loop.invariant in
-    room-left _ _ _ _ c.loop-test.true (room_of v)
+    let v = c.before.loop-i.invariant in
+    room-left _ _ _ _ c.loop-i-test.true (room_of v)
 
-add-i : tie.Need-overflow-add-i invariant-loop decreases-loop
+add-i : tie.Need-overflow_add-i invariant-loop decreases-loop
 add-i c = omega arith
 
-loop-less : tie.Need-loop-smaller invariant-loop decreases-loop
+loop-less : tie.Need-loop-i-smaller invariant-loop decreases-loop
 loop-less c = omega arith
 
-loop-again : tie.Need-loop-preserved invariant-loop decreases-loop
+loop-again : tie.Need-loop-i-preserved invariant-loop decreases-loop
 loop-again c =
     let d = c.before in
-    let v = d.before.loop.invariant in
-    let l = d.loop-test.true in
+    let v = d.before.loop-i.invariant in
+    let l = d.loop-i-test.true in
     record {
       within = omega arith;
-      left = zero_more _ _ _ _ l (room_of v) _ _ c.key-shifted.ensures ∙ v.left;
+      left = zero_more _ _ _ _ l (room_of v) _ _ c.key_shifted-shifted.ensures ∙ v.left;
       room = v.room;
     }
 
 returns : tie.Need-returns invariant-loop decreases-loop
 returns c =
-    let v = c.before.loop.invariant in
-    zeros-end _ _ _ c.loop-test.false ∙ v.left
+    let v = c.before.loop-i.invariant in
+    zeros-end _ _ _ c.loop-i-test.false ∙ v.left
 
-pub with-zeros-spec : {M : Type 1} → statement M
-with-zeros-spec =
+pub with_zeros_spec : {M : Type 1} → statement M
+with_zeros_spec =
     tie.close
-    (tie.spec invariant-loop decreases-loop loop-holds key-shifted-requires add-i loop-less loop-again returns)
+    (tie.spec
+    invariant-loop
+    decreases-loop
+    loop-holds
+    key-shifted-requires
+    add-i
+    loop-less
+    loop-again
+    returns)

@@ -11,55 +11,55 @@ use Rattle.filling.proofs.Refusals.{checks_as, checks-five, checks-many, checks-
 use Rattle.filling.proofs.check_needed.Statement.{statement}
 use Rattle.filling.proofs.check_needed.Tie as tie
 
-sub-length-of : tie.Need-overflow-sub-length-of
+sub-length-of : tie.Need-overflow_sub-rows
 unfolding rows_of
 sub-length-of c = (checked-size true _ c.requires).0
 
-length-of-requires : tie.Need-length-of-requires
+length-of-requires : tie.Need-length_of-requires
 unfolding rows_of
 length-of-requires c κs = let s = (checked-size true _ c.requires).0 in omega arith
 
-count-rows-requires : tie.Need-count-rows-requires
+count-rows-requires : tie.Need-count_rows-counted-requires
 unfolding order_of rows_of
 count-rows-requires c κs = (c.before.requires, c.length_of_lem.ensures.0)
 
-needing-row-requires : tie.Need-needing-row-requires
+needing-row-requires : tie.Need-needing_row-i-requires
 needing-row-requires c κs = search rules
 
-add-refused : tie.Need-overflow-add-refused
+add-refused : tie.Need-overflow_add-i
 add-refused c = search rules
 
-cast-refused : tie.Need-overflow-cast-refused
+cast-refused : tie.Need-overflow_cast-i
 unfolding rows_of
-cast-refused c = let s = (checked-size true _ c.before.before.before.before.requires).1 in let l = c.if1.true in omega arith
+cast-refused c = let s = (checked-size true _ c.before.before.before.before.requires).1 in let l = c.if-i-rows.true in omega arith
 
 refused-requires : tie.Need-refused-requires
 refused-requires c κs = search rules
 
-returns : tie.Need-returns
+returns : tie.Need-returns-then-i-rows
 unfolding rows_of
 returns c =
     let i = c.before in
     let f = i.before in
     let r = c.refused.ensures in
-    checks_as _ _ _ _ _ _ _ r.0 r.1 (checks-five _ _ f.before.before.before.requires _ f.needing-row.ensures _ i.if1.true)
+    checks_as _ _ _ _ _ _ _ r.0 r.1 (checks-five _ _ f.before.before.before.requires _ f.needing_row-i.ensures _ i.if-i-rows.true)
 
 -- no row needs what is out of range
-passed : (c : tie.Else1) → c.before.needing-row.result ≡ rows_of c.before.before.before.before.args.table.now
+passed : (c : tie.Else-i-rows) → c.before.needing_row-i.result ≡ rows_of c.before.before.before.before.args.table.now
 unfolding rows_of
-passed c = le_antisymm c.before.needing-row.ensures.within c.if1.false
+passed c = le_antisymm c.before.needing_row-i.ensures.within c.if-i-rows.false
 
-refused-requires-2 : tie.Need-refused-requires-2
+refused-requires-2 : tie.Need-refused-requires-then-count-gt-ROW_LIMIT
 refused-requires-2 c κs = search rules
 
-returns_2 : tie.Need-returns-2
+returns_2 : tie.Need-returns-then-count-gt-ROW_LIMIT
 returns_2 c =
     let d = c.before.before in
     let f = d.before in
-    let r = c.refused2.ensures in
-    checks_as _ _ _ _ _ _ _ r.0 r.1 (checks-many _ _ f.before.before.before.requires _ f.needing-row.ensures (passed d) _ f.before.count-rows.ensures.rows_are _ c.before.if2.true)
+    let r = c.refused-then-count-gt-ROW_LIMIT.ensures in
+    checks_as _ _ _ _ _ _ _ r.0 r.1 (checks-many _ _ f.before.before.before.requires _ f.needing_row-i.ensures (passed d) _ f.before.count_rows-counted.ensures.rows_are _ c.before.if-count-gt-ROW_LIMIT.true)
 
-refused-requires-3 : tie.Need-refused-requires-3
+refused-requires-3 : tie.Need-refused-requires-then-size-count
 refused-requires-3 c κs = search rules
 
 short : {n size : ℕ} → size / 8 < n → size < 8 * n
@@ -68,23 +68,23 @@ short l = omega arith
 enough : {n size : ℕ} → n ≤ size / 8 → 8 * n ≤ size
 enough l = omega arith
 
-returns_3 : tie.Need-returns-3
+returns_3 : tie.Need-returns-then-size-count
 returns_3 c =
     let e = c.before.before in
     let d = e.before in
     let f = d.before in
-    let r = c.refused3.ensures in
-    checks_as _ _ _ _ _ _ _ r.0 r.1 (checks-short _ _ f.before.before.before.requires _ f.needing-row.ensures (passed d) _ f.before.count-rows.ensures.rows_are e.if2.false _ (short c.before.if3.true))
+    let r = c.refused-then-size-count.ensures in
+    checks_as _ _ _ _ _ _ _ r.0 r.1 (checks-short _ _ f.before.before.before.requires _ f.needing_row-i.ensures (passed d) _ f.before.count_rows-counted.ensures.rows_are e.if-count-gt-ROW_LIMIT.false _ (short c.before.if-size-count.true))
 
-returns-4 : tie.Need-returns-4
+returns-4 : tie.Need-returns
 returns-4 c =
     let e = c.before in
     let d = e.before in
     let f = d.before in
-    checks-none _ _ f.before.before.before.requires _ f.needing-row.ensures (passed d) _ f.before.count-rows.ensures.rows_are e.if2.false (enough c.if3.false)
+    checks-none _ _ f.before.before.before.requires _ f.needing_row-i.ensures (passed d) _ f.before.count_rows-counted.ensures.rows_are e.if-count-gt-ROW_LIMIT.false (enough c.if-size-count.false)
 
-pub check-needed-spec : {M : Type 1} → statement M
-check-needed-spec =
+pub check_needed_spec : {M : Type 1} → statement M
+check_needed_spec =
     tie.close
     (tie.spec
     sub-length-of

@@ -9,44 +9,44 @@ use Rattle.filling.proofs.Meaning.{fill_means}
 use Rattle.filling.proofs.fill.Statement.{statement}
 use Rattle.filling.proofs.fill.Tie as tie
 
-check-all-requires : tie.Need-check-all-requires
+check-all-requires : tie.Need-check_all-checked-requires
 check-all-requires c κs = search rules
 
-returns : tie.Need-returns
+returns : tie.Need-returns-then-checked-ne0
 returns c =
-    let o = outcome_refused _ _ _ _ _ c.before.before.check-all.ensures c.if1.true in
+    let o = outcome_refused _ _ _ _ _ c.before.before.check_all-checked.ensures c.if-checked-ne0.true in
     (o, fill_means _ _ _ _ _ _ o)
 
 -- nothing refuses it
-fills : (c : tie.Else1) → Fills c.before.before.before.args.table.now (length c.before.before.before.args.filled.now)
-fills c = fill_accepted _ _ (c.before.before.check-all.ensures.accepted c.if1.false)
+fills : (c : tie.Else-checked-ne0) → Fills c.before.before.before.args.table.now (length c.before.before.before.args.filled.now)
+fills c = fill_accepted _ _ (c.before.before.check_all-checked.ensures.accepted c.if-checked-ne0.false)
 
-sub-last : tie.Need-overflow-sub-last
+sub-last : tie.Need-overflow_sub-last
 unfolding rows_of
 sub-last c = (checked-size _ _ (fills c).checked).0
 
-length-of-requires : tie.Need-length-of-requires
+length-of-requires : tie.Need-length_of-requires
 unfolding rows_of
 length-of-requires c κs = let h = (checked-size _ _ (fills c).checked).0 in omega arith
 
-write-rows-requires : tie.Need-write-rows-requires
+write-rows-requires : tie.Need-write_rows-requires
 unfolding rows_of order_of
 write-rows-requires c κs = let f = fills c.before.before in (f.checked, c.before.length_of_lem.ensures.0, f.fits)
 
 -- where nothing refuses it, from the end
-abbrev passed : tie.After-struct-known2 → tie.Else1
+abbrev passed : tie.After-struct_known-2-1 → tie.Else-checked-ne0
 passed c = c.before.before.before.before.before
 
-cast-t11 : tie.Need-overflow-cast-t11
-cast-t11 c = let e = passed c in omega (arith, e.before.before.check-all.ensures.rows_are e.if1.left, (fills e).few)
+cast-t11 : tie.Need-overflow_cast-result
+cast-t11 c = let e = passed c in omega (arith, e.before.before.check_all-checked.ensures.rows_are e.if-checked-ne0.false, (fills e).few)
 
-same_length : tie.Need-same-length
+same_length : tie.Need-shape_of-filled
 same_length c = search rules
 
-returns_2 : tie.Need-returns-2
+returns_2 : tie.Need-returns
 returns_2 c =
     let e = passed c in
-    let o = outcome_accepted _ _ _ _ _ e.before.before.check-all.ensures e.if1.left _ c.before.before.write-rows.ensures in
+    let o = outcome_accepted _ _ _ _ _ e.before.before.check_all-checked.ensures e.if-checked-ne0.false _ c.before.before.write_rows.ensures in
     (o, fill_means _ _ _ _ _ _ o)
 
 pub fill_spec : {M : Type 1} → statement M

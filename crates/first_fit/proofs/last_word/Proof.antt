@@ -6,24 +6,24 @@ use Rattle.first_fit.proofs.OldestWords.{child-first, d_first, reach-ahead, reac
 use Rattle.first_fit.proofs.last_word.Statement.{statement}
 use Rattle.first_fit.proofs.last_word.Tie as tie
 
-returns : tie.Need-returns
+returns : tie.Need-returns-then-count-eq0
 unfolding rows_of
-returns c = let rows = c.before.args.rows.now in record { word = omega arith; same = d_first rows; farthest = λ A top d. reach-none rows top d c.if1.true }
+returns c = let rows = c.before.args.rows.now in record { word = omega arith; same = d_first rows; farthest = λ A top d. reach-none rows top d c.if-count-eq0.true }
 
-sub-oldest-word : tie.Need-overflow-sub-oldest-word
+sub-oldest-word : tie.Need-overflow_sub-count
 sub-oldest-word c = search rules
 
-oldest-word-requires : tie.Need-oldest-word-requires
+oldest-word-requires : tie.Need-oldest_word-requires
 unfolding rows_of
-oldest-word-requires c κs = (c.before.requires, omega (arith, c.if1.false))
+oldest-word-requires c κs = (c.before.requires, omega (arith, c.if-count-eq0.false))
 
-returns_2 : tie.Need-returns-2
+returns_2 : tie.Need-returns
 unfolding rows_of
 returns_2 c = record {
-  word = c.oldest-word.ensures.1;
-  same = λ room behind d h. rw c.oldest-word.ensures.0 (child-first _ _ (omega arith) room behind d);
-  farthest = λ A top d. rw c.oldest-word.ensures.0 (reach-ahead _ _ top d A (omega (arith, c.before.if1.false)));
+  word = c.oldest_word.ensures.1;
+  same = λ room behind d h. rw c.oldest_word.ensures.0 (child-first _ _ (omega arith) room behind d);
+  farthest = λ A top d. rw c.oldest_word.ensures.0 (reach-ahead _ _ top d A (omega (arith, c.before.if-count-eq0.false)));
 }
 
-pub last-word-spec : {M : Type 1} → statement M
-last-word-spec = tie.close (tie.spec returns sub-oldest-word oldest-word-requires returns_2)
+pub last_word_spec : {M : Type 1} → statement M
+last_word_spec = tie.close (tie.spec returns sub-oldest-word oldest-word-requires returns_2)

@@ -16,26 +16,26 @@ use Rattle.first_fit.proofs.oldest_word.Tie as tie
 abbrev word : tie.Start → ℤ
 word s = field s.args.rows.now s.args.k 1
 
-mul-result : tie.Need-overflow-mul-result
+mul-result : tie.Need-overflow_mul-result
 mul-result c = search rules
 
-add-result : tie.Need-overflow-add-result
+add-result : tie.Need-overflow_add-result
 add-result c = search rules
 
-mul-result-2 : tie.Need-overflow-mul-result-2
+mul-result-2 : tie.Need-offset_bounds-rows-k
 mul-result-2 c = search rules
 
-shared-slice-copy-out-result : tie.Need-shared-slice-copy-out-result
+shared-slice-copy-out-result : tie.Need-bounds-rows-k
 shared-slice-copy-out-result c = search rules
 
-fits : (c : tie.After-result) → SFits w32 (word c.before)
+fits : (c : tie.After-result-1) → SFits w32 (word c.before)
 unfolding field
-fits c = sfits_of c.result.given
+fits c = sfits_of c.result-1.given
 
-in_words : (c : tie.After-result) → between (pos 0) (pos word_limit) (word c.before) ≡ true
+in_words : (c : tie.After-result-1) → between (pos 0) (pos word_limit) (word c.before) ≡ true
 in_words c = c.before.requires.0.word c.before.args.k c.before.requires.1
 
-cast-result : tie.Need-overflow-cast-result
+cast-result : tie.Need-overflow_cast-result
 unfolding field
 cast-result c = between_cast (pos word_limit) (fits c) (in_words c)
 
@@ -45,7 +45,13 @@ returns c =
     let e = ap nat_abs (to_z-of_z (fits c)) ∙ sym (up_to_in (pos word_limit) (word c.before) (in_words c)) in
     (e, rw e (up_to_le word_limit (word c.before)))
 
-pub oldest-word-spec : {M : Type 1} → statement M
-oldest-word-spec =
+pub oldest_word_spec : {M : Type 1} → statement M
+oldest_word_spec =
     tie.close
-    (tie.spec mul-result add-result mul-result-2 shared-slice-copy-out-result cast-result returns)
+    (tie.spec
+    mul-result
+    add-result
+    mul-result-2
+    shared-slice-copy-out-result
+    cast-result
+    returns)

@@ -38,37 +38,37 @@ module _ (base check : List ℤ) (ws : List ℕ) where
   unfolding fragment_outcome store_in
   all-scored h few = rw (opened_some base check h, le-ltb run_limit (length ws) few)
 
-is-array-requires : tie.Need-is-array-requires
+is-array-requires : tie.Need-is_array-requires
 is-array-requires c κs = search rules
 
 refused-requires : tie.Need-refused-requires
 refused-requires c κs = search rules
 
-returns : tie.Need-returns
+returns : tie.Need-returns-then-not-is_array
 returns c =
     let k = c.before.before in
     let s = k.before.before in
-    answers s.args.base.now s.args.check.now s.args.words.now _ (c.refused.ensures ∙ no-array _ _ _ (sym k.is-array.ensures ∙ not-true k.is-array.result c.before.if1.true))
+    answers s.args.base.now s.args.check.now s.args.words.now _ (c.refused.ensures ∙ no-array _ _ _ (sym k.is_array.ensures ∙ not-true k.is_array.result c.before.if-not-is_array.true))
 
-array : (c : tie.Else1) → is_array c.before.before.before.args.base.now c.before.before.before.args.check.now ≡ true
-array c = sym c.before.is-array.ensures ∙ not-false c.before.is-array.result c.if1.false
+array : (c : tie.Else-not-is_array) → is_array c.before.before.before.args.base.now c.before.before.before.args.check.now ≡ true
+array c = sym c.before.is_array.ensures ∙ not-false c.before.is_array.result c.if-not-is_array.false
 
-refused-requires-2 : tie.Need-refused-requires-2
+refused-requires-2 : tie.Need-refused-requires-then-words-gt-RUN_LIMIT
 refused-requires-2 c κs = search rules
 
-returns_2 : tie.Need-returns-2
+returns_2 : tie.Need-returns-then-words-gt-RUN_LIMIT
 returns_2 c =
     let e = c.before.before in
     let s = e.before.before.before in
-    answers s.args.base.now s.args.check.now s.args.words.now _ (c.refused2.ensures ∙ too_many _ _ _ (array e) c.before.if2.true)
+    answers s.args.base.now s.args.check.now s.args.words.now _ (c.refused-then-words-gt-RUN_LIMIT.ensures ∙ too_many _ _ _ (array e) c.before.if-words-gt-RUN_LIMIT.true)
 
-order-of-requires : tie.Need-order-of-requires
+order-of-requires : tie.Need-order_of-order-requires
 order-of-requires c κs = let s = c.before.before.before.before in (opened-head s.args.base.now s.args.check.now (array c.before)).order
 
 scored-requires : tie.Need-scored-requires
-scored-requires c κs = (array c.before.before, (c.order-of.ensures, c.before.if2.false))
+scored-requires c κs = (array c.before.before, (c.order_of-order.ensures, c.before.if-words-gt-RUN_LIMIT.false))
 
-returns_3 : tie.Need-returns-3
+returns_3 : tie.Need-returns
 returns_3 c =
     let o = c.before in
     let e = o.before in
@@ -76,10 +76,10 @@ returns_3 c =
     let base = s.args.base.now in
     let check = s.args.check.now in
     let ws = s.args.words.now in
-    answers base check ws _ (c.scored.ensures ∙ ap (λ (n : ℕ). crossed (scored_as n ws (run_over (store_in base check) ws empty 1))) o.order-of.ensures ∙ all-scored base check ws (array e.before) e.if2.false)
+    answers base check ws _ (c.scored.ensures ∙ ap (λ (n : ℕ). crossed (scored_as n ws (run_over (store_in base check) ws empty 1))) o.order_of-order.ensures ∙ all-scored base check ws (array e.before) e.if-words-gt-RUN_LIMIT.false)
 
-pub score-fragment-spec : {M : Type 1} → statement M
-score-fragment-spec =
+pub score_fragment_spec : {M : Type 1} → statement M
+score_fragment_spec =
     tie.close
     (tie.spec
     is-array-requires

@@ -21,39 +21,39 @@ use Rattle.fragment_scoring.proofs.scored.Tie as tie
 empty-requires : tie.Need-empty-requires
 empty-requires c κs = search rules
 
-sum-words-requires : tie.Need-sum-words-requires
+sum-words-requires : tie.Need-sum_words-ran-requires
 sum-words-requires c κs = let s = c.before.before in (s.requires.0, (s.requires.1.0, (rw c.empty.ensures (zeros_ok s.args.order), s.requires.1.1)))
 
 refused-requires : tie.Need-refused-requires
 refused-requires c κs = search rules
 
-returns : tie.Need-returns
+returns : tie.Need-returns-then-ran-ne0
 returns c =
     let k = c.before.before.before in
     let s = k.before.before.before in
     let S = store_in s.args.base.now s.args.check.now in
     let ws = s.args.words.now in
-    c.refused.ensures ∙ ap crossed (sym (summed-refused s.args.order ws nine_zeros k.sum-words.result (run_over S ws empty 1) (summed-empty S ws _ _ k.before.empty.ensures k.sum-words.ensures) c.before.if1.true))
+    c.refused.ensures ∙ ap crossed (sym (summed-refused s.args.order ws nine_zeros k.sum_words-ran.result (run_over S ws empty 1) (summed-empty S ws _ _ k.before.empty.ensures k.sum_words-ran.ensures) c.before.if-ran-ne0.true))
 
-kept-fragment-requires : tie.Need-kept-fragment-requires
+kept-fragment-requires : tie.Need-kept_fragment-requires
 kept-fragment-requires c κs =
     let s = c.before.before.before.before.before.before.before in
     (rw s.requires.1.0 (opened-order s.args.base.now s.args.check.now s.requires.0), s.requires.1.1)
 
-returns_2 : tie.Need-returns-2
+returns_2 : tie.Need-returns
 returns_2 c =
     let e = c.before.before.before in
     let k = e.before.before in
     let s = k.before.before.before in
     let S = store_in s.args.base.now s.args.check.now in
     let ws = s.args.words.now in
-    let x = k.sum-words.result in
-    let fits : SFits w64 x.total = sfits_of c.before.struct_told.given.1.1.0.1 in
-    ap (λ (f : Fragment). record { number = 0; place = 0; fragment = f }) (c.kept-fragment.ensures ∙ ap (λ (z : ℤ). to_numbers (scored_fragment s.args.order ws z (numbers_of x.end))) (to_z-of_z fits))
-    ∙ ap crossed (sym (summed-scored s.args.order ws nine_zeros x (run_over S ws empty 1) (summed-empty S ws _ _ k.before.empty.ensures k.sum-words.ensures) e.if1.false))
+    let x = k.sum_words-ran.result in
+    let fits : SFits w64 x.total = sfits_of c.before.struct_told-1.given.1.1.0.1 in
+    ap (λ (f : Fragment). record { number = 0; place = 0; fragment = f }) (c.kept_fragment.ensures ∙ ap (λ (z : ℤ). to_numbers (scored_fragment s.args.order ws z (numbers_of x.end-1))) (to_z-of_z fits))
+    ∙ ap crossed (sym (summed-scored s.args.order ws nine_zeros x (run_over S ws empty 1) (summed-empty S ws _ _ k.before.empty.ensures k.sum_words-ran.ensures) e.if-ran-ne0.false))
 
-pub scored-spec : {M : Type 1} → statement M
-scored-spec =
+pub scored_spec : {M : Type 1} → statement M
+scored_spec =
     tie.close
     (tie.spec
     empty-requires

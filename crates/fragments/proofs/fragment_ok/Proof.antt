@@ -13,19 +13,19 @@ use borrow.Author.Rules.{rules}
 use Rattle.fragments.proofs.fragment_ok.Statement.{statement}
 use Rattle.fragments.proofs.fragment_ok.Tie as tie
 
-state-ok-requires : tie.Need-state-ok-requires
+state-ok-requires : tie.Need-state_ok-state_ok-requires
 state-ok-requires c κs = search rules
 
-cast-kept-ok : tie.Need-overflow-cast-kept-ok
+cast-kept-ok : tie.Need-overflow_cast-kept_ok
 cast-kept-ok c = search rules
 
-cast-kept-of : tie.Need-overflow-cast-kept-of
+cast-kept-of : tie.Need-overflow_cast-fragment
 cast-kept-of c = search rules
 
-kept-of-requires : tie.Need-kept-of-requires
+kept-of-requires : tie.Need-kept_of-requires
 kept-of-requires c κs = search rules
 
-total-ok-requires : tie.Need-total-ok-requires
+total-ok-requires : tie.Need-total_ok-total_ok-requires
 total-ok-requires c κs = search rules
 
 total-fits : (s : tie.Start) → SFits w64 s.args.fragment.total
@@ -40,11 +40,11 @@ returns c =
     let t = k.before.before.before in
     let s = t.before.before in
     let f = s.args.fragment in
-    three_tests f.kept _ _ k.kept_of.ensures t.state_ok_lem.ensures (c.total-ok.ensures ∙ ap (λ (z : ℤ). leb (nat_abs z) (f.count * (s.args.order * largest_backoff))) (to_z-of_z (total-fits s)))
+    three_tests f.kept _ _ k.kept_of.ensures t.state_ok_lem.ensures (c.total_ok-total_ok.ensures ∙ ap (λ (z : ℤ). leb (nat_abs z) (f.count * (s.args.order * largest_backoff))) (to_z-of_z (total-fits s)))
     ∙ sym (fragment_ok_tests s.args.order f)
 
-pub fragment-ok-spec : {M : Type 1} → statement M
-fragment-ok-spec =
+pub fragment_ok_spec : {M : Type 1} → statement M
+fragment_ok_spec =
     tie.close
     (tie.spec
     state-ok-requires

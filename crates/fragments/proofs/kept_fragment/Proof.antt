@@ -8,19 +8,19 @@ use borrow.Author.Rules.{rules}
 use Rattle.fragments.proofs.kept_fragment.Statement.{statement}
 use Rattle.fragments.proofs.kept_fragment.Tie as tie
 
-sub-first-words : tie.Need-overflow-sub-first-words
+sub-first-words : tie.Need-overflow_sub-order
 sub-first-words c = search rules
 
-first-words-requires : tie.Need-first-words-requires
+first-words-requires : tie.Need-first_words-first-requires
 first-words-requires c κs = search rules
 
-cast-t9 : tie.Need-overflow-cast-t9
+cast-t9 : tie.Need-overflow_cast-result
 cast-t9 c = search rules
 
-kept-of-requires : tie.Need-kept-of-requires
+kept-of-requires : tie.Need-kept_of-requires
 kept-of-requires c κs = search rules
 
-cast-t10 : tie.Need-overflow-cast-t10
+cast-t10 : tie.Need-overflow_cast-result-2
 cast-t10 c = search rules
 
 four : (s : tie.Start) → Four s.args.end
@@ -33,11 +33,17 @@ returns c =
       total = to_z-of_z s.ranges.total i;
       count = length s.args.words.now;
       kept = (c.kept_of.ensures ∙ sym (length-take (s.args.order - 1) s.args.words.now)) i;
-      first = c.before.first-words.ensures i;
+      first = c.before.first_words-first.ensures i;
       state = sym (state_from-numbers s.args.end (four s)) i;
     }
 
-pub kept-fragment-spec : {M : Type 1} → statement M
-kept-fragment-spec =
+pub kept_fragment_spec : {M : Type 1} → statement M
+kept_fragment_spec =
     tie.close
-    (tie.spec sub-first-words first-words-requires cast-t9 kept-of-requires cast-t10 returns)
+    (tie.spec
+    sub-first-words
+    first-words-requires
+    cast-t9
+    kept-of-requires
+    cast-t10
+    returns)

@@ -23,5 +23,5 @@ returns c =
     let state : c.empty.result ≡ state_from nine_zeros = sym (state_from-numbers c.empty.result (four c)) ∙ ap state_from c.empty.ensures in
     λ i. record { number = c.before.args.number; place = c.before.args.place; fragment = record { total = pos 0; count = 0; kept = 0; first = 0 ∷ 0 ∷ 0 ∷ 0 ∷ []; state = state i } }
 
-pub refused-spec : {M : Type 1} → statement M
-refused-spec = tie.close (tie.spec empty-requires returns)
+pub refused_spec : {M : Type 1} → statement M
+refused_spec = tie.close (tie.spec empty-requires returns)

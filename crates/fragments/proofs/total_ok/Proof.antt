@@ -51,28 +51,35 @@ within z m = go (dec_le (nat_abs z) m) (le_or_lt z (pos m))
     go (no h) (inl o) = let low : le_z (pos 0 -ℤ pos m) z ≡ false = omega (zarith, abs z, sub (pos 0) (pos m)) in rw (low, lt-leb (nat_abs z) m (omega arith))
     go (no h) (inr o) = let high : le_z z (pos m) ≡ false = omega zarith in and_no (le_z (pos 0 -ℤ pos m) z) (le_z z (pos m)) high ∙ sym (lt-leb (nat_abs z) m (omega arith))
 
-cast-most : tie.Need-overflow-cast-most
+cast-most : tie.Need-overflow_cast-most
 cast-most c = search rules
 
-cast-most-2 : tie.Need-overflow-cast-most-2
+cast-most-2 : tie.Need-overflow_cast-most-2
 cast-most-2 c = search rules
 
-cast-most-3 : tie.Need-overflow-cast-most-3
+cast-most-3 : tie.Need-overflow_cast-most-3
 cast-most-3 c = search rules
 
-mul_most : tie.Need-overflow-mul-most
+mul_most : tie.Need-overflow_mul-most
 mul_most c = rw (order-read c) (factor_fits c)
 
-mul-most-2 : tie.Need-overflow-mul-most-2
+mul-most-2 : tie.Need-overflow_mul-most-2
 mul-most-2 c = rw (order-read c, to_z-of_z (factor_fits c), count-read c) (most-fits c)
 
-sub-result : tie.Need-overflow-sub-result
+sub-result : tie.Need-overflow_sub-result
 sub-result c = rw (order-read c, to_z-of_z (factor_fits c), count-read c, to_z-of_z (most-fits c)) (least_fits c)
 
 returns : tie.Need-returns
 returns c =
     rw (order-read c, to_z-of_z (factor_fits c), count-read c, to_z-of_z (most-fits c), to_z-of_z (least_fits c), to_z-of_z c.ranges.total) (within c.args.total (most c))
 
-pub total-ok-spec : {M : Type 1} → statement M
-total-ok-spec =
-    tie.close (tie.spec cast-most cast-most-2 cast-most-3 mul_most mul-most-2 sub-result returns)
+pub total_ok_spec : {M : Type 1} → statement M
+total_ok_spec =
+    tie.close (tie.spec
+    cast-most
+    cast-most-2
+    cast-most-3
+    mul_most
+    mul-most-2
+    sub-result
+    returns)

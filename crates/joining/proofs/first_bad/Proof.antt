@@ -8,28 +8,33 @@ use Rattle.fragments.specs.Outcome.{fragment_in}
 use Rattle.joining.proofs.first_bad.Statement.{statement}
 use Rattle.joining.proofs.first_bad.Tie as tie
 
-fragment-ok-requires : tie.Need-fragment-ok-requires
+fragment-ok-requires : tie.Need-fragment_ok-requires
 fragment-ok-requires c κs = search rules
 
-returns : tie.Need-returns
-returns c = rw (sym c.before.fragment-ok.ensures ∙ not-true c.before.fragment-ok.result c.if1.true)
+returns : tie.Need-returns-then-not-fragment_ok
+returns c = rw (sym c.before.fragment_ok.ensures ∙ not-true c.before.fragment_ok.result c.if-not-fragment_ok.true)
 
-fragment-ok-requires-2 : tie.Need-fragment-ok-requires-2
+fragment-ok-requires-2 : tie.Need-fragment_ok-requires-2
 fragment-ok-requires-2 c κs = search rules
 
 -- the first passes
-first_passes : (c : tie.Else1) → fragment_ok c.before.before.args.order (fragment_in c.before.before.args.one) ≡ true
-first_passes c = sym c.before.fragment-ok.ensures ∙ not-false c.before.fragment-ok.result c.if1.false
+first_passes : (c : tie.Else-not-fragment_ok) → fragment_ok c.before.before.args.order (fragment_in c.before.before.args.one) ≡ true
+first_passes c = sym c.before.fragment_ok.ensures ∙ not-false c.before.fragment_ok.result c.if-not-fragment_ok.false
 
-second_is : (c : tie.After-fragment-ok2) (t : Bool) → c.fragment-ok2.result ≡ t → fragment_ok c.before.before.before.args.order (fragment_in c.before.before.before.args.two) ≡ t
-second_is c t e = sym c.fragment-ok2.ensures ∙ e
+second_is : (c : tie.After-fragment_ok-2) (t : Bool) → c.fragment_ok-2.result ≡ t → fragment_ok c.before.before.before.args.order (fragment_in c.before.before.before.args.two) ≡ t
+second_is c t e = sym c.fragment_ok-2.ensures ∙ e
 
-returns_2 : tie.Need-returns-2
-returns_2 c = let k = c.before in rw (first_passes k.before, second_is k _ (not-true k.fragment-ok2.result c.if2.true))
+returns_2 : tie.Need-returns-then-not-fragment_ok-2
+returns_2 c = let k = c.before in rw (first_passes k.before, second_is k _ (not-true k.fragment_ok-2.result c.if-not-fragment_ok-2.true))
 
-returns_3 : tie.Need-returns-3
-returns_3 c = let k = c.before in rw (first_passes k.before, second_is k _ (not-false k.fragment-ok2.result c.if2.false))
+returns_3 : tie.Need-returns
+returns_3 c = let k = c.before in rw (first_passes k.before, second_is k _ (not-false k.fragment_ok-2.result c.if-not-fragment_ok-2.false))
 
-pub first-bad-spec : {M : Type 1} → statement M
-first-bad-spec =
-    tie.close (tie.spec fragment-ok-requires returns fragment-ok-requires-2 returns_2 returns_3)
+pub first_bad_spec : {M : Type 1} → statement M
+first_bad_spec =
+    tie.close (tie.spec
+    fragment-ok-requires
+    returns
+    fragment-ok-requires-2
+    returns_2
+    returns_3)

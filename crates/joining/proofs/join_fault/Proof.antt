@@ -8,39 +8,39 @@ use Rattle.double_array.proofs.DoubleArray.{opened-head, opened-order, opened_so
 use Rattle.joining.proofs.join_fault.Statement.{statement}
 use Rattle.joining.proofs.join_fault.Tie as tie
 
-is-array-requires : tie.Need-is-array-requires
+is-array-requires : tie.Need-is_array-requires
 is-array-requires c κs = search rules
 
-returns : tie.Need-returns
+returns : tie.Need-returns-then-not-is_array
 returns c =
     let s = c.before.before in
-    rw (opened-none s.args.base.now s.args.check.now (sym c.before.is-array.ensures ∙ not-true c.before.is-array.result c.if1.true))
+    rw (opened-none s.args.base.now s.args.check.now (sym c.before.is_array.ensures ∙ not-true c.before.is_array.result c.if-not-is_array.true))
 
-array : (c : tie.Else1) → is_array c.before.before.args.base.now c.before.before.args.check.now ≡ true
-array c = sym c.before.is-array.ensures ∙ not-false c.before.is-array.result c.if1.false
+array : (c : tie.Else-not-is_array) → is_array c.before.before.args.base.now c.before.before.args.check.now ≡ true
+array c = sym c.before.is_array.ensures ∙ not-false c.before.is_array.result c.if-not-is_array.false
 
-order-of-requires : tie.Need-order-of-requires
+order-of-requires : tie.Need-order_of-order-requires
 order-of-requires c κs = let s = c.before.before in (opened-head s.args.base.now s.args.check.now (array c)).order
 
-first-bad-requires : tie.Need-first-bad-requires
+first-bad-requires : tie.Need-first_bad-requires
 first-bad-requires c κs =
     let s = c.before.before.before in
-    rw c.order-of.ensures (opened-order s.args.base.now s.args.check.now (array c.before))
+    rw c.order_of-order.ensures (opened-order s.args.base.now s.args.check.now (array c.before))
 
-pair-fault-requires : tie.Need-pair-fault-requires
+pair-fault-requires : tie.Need-pair_fault-requires
 pair-fault-requires c κs = search rules
 
-returns_2 : tie.Need-returns-2
+returns_2 : tie.Need-returns
 unfolding store_in
 returns_2 c =
     let k = c.before in
     let o = k.before in
     let s = o.before.before.before in
-    c.pair-fault.ensures
-    ∙ rw (k.first_bad_lem.ensures, o.order-of.ensures, opened_some s.args.base.now s.args.check.now (array o.before))
+    c.pair_fault.ensures
+    ∙ rw (k.first_bad_lem.ensures, o.order_of-order.ensures, opened_some s.args.base.now s.args.check.now (array o.before))
 
-pub join-fault-spec : {M : Type 1} → statement M
-join-fault-spec =
+pub join_fault_spec : {M : Type 1} → statement M
+join_fault_spec =
     tie.close
     (tie.spec
     is-array-requires

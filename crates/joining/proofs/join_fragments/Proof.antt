@@ -29,46 +29,46 @@ answers s r e = let is = outcome in (is, rw is (join_means s.args.base.now s.arg
     outcome : r ≡ join_outcome (opened s.args.base.now s.args.check.now) s.args.one s.args.two
     outcome = unfold join_outcome in e
 
-join-fault-requires : tie.Need-join-fault-requires
+join-fault-requires : tie.Need-join_fault-fault-requires
 join-fault-requires c κs = search rules
 
-enum-known-fault : tie.Need-enum-known-fault
+enum-known-fault : tie.Need-enum_known-fault
 enum-known-fault c = search rules
 
 refused-requires : tie.Need-refused-requires
 refused-requires c κs = search rules
 
-returns : tie.Need-returns
+returns : tie.Need-returns-in-Refused
 returns c =
     let f = c.before.before in
     let k = f.before.before in
     let s = k.before in
-    answers s _ (c.refused.ensures ∙ ap crossed (sym (fault_refuses (fragment_in s.args.one) (fragment_in s.args.two) (opened s.args.base.now s.args.check.now) _ _ (sym k.join-fault.ensures ∙ f.fault.given.1))))
+    answers s _ (c.refused.ensures ∙ ap crossed (sym (fault_refuses (fragment_in s.args.one) (fragment_in s.args.two) (opened s.args.base.now s.args.check.now) _ _ (sym k.join_fault-fault.ensures ∙ f.fault-1.given.1))))
 
-enum_told : tie.Need-enum-told
+enum_told : tie.Need-enum_told-1
 enum_told c = search rules
 
 -- nothing refuses the join before a word is scored
-none_refuses : (c : tie.After-enum-told) → join_fault (opened c.before.before.before.args.base.now c.before.before.before.args.check.now) (fragment_in c.before.before.before.args.one) (fragment_in c.before.before.before.args.two) ≡ Accepted
-none_refuses c = sym c.before.before.join-fault.ensures ∙ c.enum_told.given.1
+none_refuses : (c : tie.In_default) → join_fault (opened c.before.before.before.args.base.now c.before.before.before.args.check.now) (fragment_in c.before.before.before.args.one) (fragment_in c.before.before.before.args.two) ≡ Accepted
+none_refuses c = sym c.before.before.join_fault-fault.ensures ∙ c.enum_told-1.given.1
 
-order-of-requires : tie.Need-order-of-requires
+order-of-requires : tie.Need-order_of-order-requires
 order-of-requires c κs =
     let s = c.before.before.before in
     let base = s.args.base.now in
     let check = s.args.check.now in
     (opened-head base check (fault_array (fragment_in s.args.one) (fragment_in s.args.two) base check (none_refuses c))).order
 
-join-passed-requires : tie.Need-join-passed-requires
+join-passed-requires : tie.Need-join_passed-requires
 join-passed-requires c κs =
     let s = c.before.before.before.before in
     let base = s.args.base.now in
     let check = s.args.check.now in
     let a = fragment_in s.args.one in
     let b = fragment_in s.args.two in
-    (fault_array a b base check (none_refuses c.before), (c.order-of.ensures, rw c.order-of.ensures (fault_passed a b base check (none_refuses c.before))))
+    (fault_array a b base check (none_refuses c.before), (c.order_of-order.ensures, rw c.order_of-order.ensures (fault_passed a b base check (none_refuses c.before))))
 
-returns_2 : tie.Need-returns-2
+returns_2 : tie.Need-returns
 returns_2 c =
     let o = c.before in
     let s = o.before.before.before.before in
@@ -77,12 +77,12 @@ returns_2 c =
     let a = fragment_in s.args.one in
     let b = fragment_in s.args.two in
     answers s _
-    (c.join-passed.ensures
-    ∙ ap (λ (n : ℕ). crossed (joined_as n a b (run_over (store_in base check) b.first empty 1) (run_over (store_in base check) b.first (state_in a.end) 1))) o.order-of.ensures
+    (c.join_passed.ensures
+    ∙ ap (λ (n : ℕ). crossed (joined_as n a b (run_over (store_in base check) b.first empty 1) (run_over (store_in base check) b.first (state_in a.end) 1))) o.order_of-order.ensures
     ∙ ap crossed (sym (fault_none a b base check (none_refuses o.before))))
 
-pub join-fragments-spec : {M : Type 1} → statement M
-join-fragments-spec =
+pub join_fragments_spec : {M : Type 1} → statement M
+join_fragments_spec =
     tie.close
     (tie.spec
     join-fault-requires

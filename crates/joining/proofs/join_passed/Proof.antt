@@ -52,7 +52,7 @@ abbrev store : tie.Start → Store
 store s = store_in s.args.base.now s.args.check.now
 
 abbrev state : tie.Start → State
-state s = state_in (numbers_of s.args.one.state)
+state s = state_in (numbers_of s.args.one.state-1)
 
 words_are : (s : tie.Start) → kept_in s.args.two.kept s.args.two.first ≡ words s
 words_are s = kept_in-within s.args.two.kept s.args.two.first (within s)
@@ -60,32 +60,32 @@ words_are s = kept_in-within s.args.two.kept s.args.two.first (within s)
 words-few : (s : tie.Start) → length (words s) ≤ 4
 words-few s = omega (arith, length-take s.args.two.kept s.args.two.first, kept-few s)
 
-state_passes : (s : tie.Start) → state_ok s.args.order (numbers_of s.args.one.state) ≡ true
+state_passes : (s : tie.Start) → state_ok s.args.order (numbers_of s.args.one.state-1) ≡ true
 state_passes s = end_ok s.args.order (fragment_in s.args.one) s.requires.1.1.first
 
-four : (s : tie.Start) → Four s.args.one.state
+four : (s : tie.Start) → Four s.args.one.state-1
 four s = record { words = search rules; backoffs = search rules }
 
 state_bounded : (s : tie.Start) → Bounded (s.args.order - 1) (state s)
-state_bounded s = state_ok_bounded s.args.order (numbers_of s.args.one.state) (length-numbers s.args.one.state (four s)) (order_in_lem s).1 (state_passes s)
+state_bounded s = state_ok_bounded s.args.order (numbers_of s.args.one.state-1) (length-numbers s.args.one.state-1 (four s)) (order_in_lem s).1 (state_passes s)
 
-cast-kept : tie.Need-overflow-cast-kept
+cast-kept : tie.Need-overflow_cast-kept
 cast-kept c = search rules
 
-array-share-prefix-words : tie.Need-array-share-prefix-words
+array-share-prefix-words : tie.Need-slice_bounds-words-end
 array-share-prefix-words c = within c.before.before.before
 
-slice-aggregate-rescore : tie.Need-slice-aggregate-rescore
+slice-aggregate-rescore : tie.Need-slice_bounds-rescore-end
 slice-aggregate-rescore c = let s = c.before.before.before.before in sym (length-take-le s.args.two.kept s.args.two.first (within s))
 
-rescore-requires : tie.Need-rescore-requires
+rescore-requires : tie.Need-rescore-again-requires
 rescore-requires c κs = let s = c.before.before.before.before in (s.requires.0, (s.requires.1.0, (state_passes s, omega (arith, words-few s))))
 
 refused-requires : tie.Need-refused-requires
 refused-requires c κs = search rules
 
 -- the function's entry
-abbrev entry : tie.After-rescore → tie.Start
+abbrev entry : tie.After-rescore-again → tie.Start
 entry c = c.before.before.before.before.before
 
 -- the two scorings of the kept words
@@ -95,39 +95,39 @@ alone s = run_over (store s) (kept_in s.args.two.kept s.args.two.first) empty 1
 abbrev after : tie.Start → Ran
 after s = run_over (store s) (kept_in s.args.two.kept s.args.two.first) (state s) 1
 
-again : (c : tie.After-rescore) → RescoredAs (alone (entry c)) (after (entry c)) c.rescore.result
-again c = rw (words_are (entry c)) c.rescore.ensures
+again : (c : tie.After-rescore-again) → RescoredAs (alone (entry c)) (after (entry c)) c.rescore-again.result
+again c = rw (words_are (entry c)) c.rescore-again.ensures
 
-returns : tie.Need-returns
+returns : tie.Need-returns-then-not-again
 returns c =
     let k = c.before.before.before in
     let s = entry k in
-    c.refused.ensures ∙ ap crossed (sym (rescored_refused s.args.order (fragment_in s.args.one) (fragment_in s.args.two) k.rescore.result (alone s) (after s) (again k) (not-true k.rescore.result.sound c.before.if1.true)))
+    c.refused.ensures ∙ ap crossed (sym (rescored_refused s.args.order (fragment_in s.args.one) (fragment_in s.args.two) k.rescore-again.result (alone s) (after s) (again k) (not-true k.rescore-again.result.sound c.before.if-not-again.true)))
 
 -- both scorings are sound, and their totals small
-sound : (c : tie.Else1) → c.before.before.rescore.result.sound ≡ true
-sound c = not-false c.before.before.rescore.result.sound c.if1.false
+sound : (c : tie.Else-not-again) → c.before.before.rescore-again.result.sound ≡ true
+sound c = not-false c.before.before.rescore-again.result.sound c.if-not-again.false
 
-small : (c : tie.Else1) → (nat_abs c.before.before.rescore.result.less ≤ 4 * most_points) × (nat_abs c.before.before.rescore.result.plus ≤ 4 * most_points)
+small : (c : tie.Else-not-again) → (nat_abs c.before.before.rescore-again.result.less ≤ 4 * most_points) × (nat_abs c.before.before.rescore-again.result.plus ≤ 4 * most_points)
 small c =
     let k = c.before.before in
     let s = entry k in
-    let n = s.pre.1.0 in
-    totals_small s.args.base.now s.args.check.now (rw n at (order_in_lem s).1) (words s) (words-few s) (state s) (subst (λ (m : ℕ). Bounded (m - 1) (state s)) n (state_bounded s)) k.rescore.result k.rescore.ensures (sound c)
+    let n = s.requires.1.0 in
+    totals_small s.args.base.now s.args.check.now (rw n at (order_in_lem s).1) (words s) (words-few s) (state s) (subst (λ (m : ℕ). Bounded (m - 1) (state s)) n (state_bounded s)) k.rescore-again.result k.rescore-again.ensures (sound c)
 
-less_fits : (c : tie.After-struct-told2) → SFits w64 c.before.before.before.before.before.rescore.result.less
-less_fits c = sfits_of c.before.struct_told.given.1.0.1
+less_fits : (c : tie.After-struct_told-2-1) → SFits w64 c.before.before.before.before.before.rescore-again.result.less
+less_fits c = sfits_of c.before.struct_told-1.given.1.0.1
 
-plus-fits : (c : tie.After-struct-told2) → SFits w64 c.before.before.before.before.before.rescore.result.plus
-plus-fits c = sfits_of c.struct-told2.given.1.1.0.1
+plus-fits : (c : tie.After-struct_told-2-1) → SFits w64 c.before.before.before.before.before.rescore-again.result.plus
+plus-fits c = sfits_of c.struct_told-2-1.given.1.1.0.1
 
 merge-requires : tie.Need-merge-requires
 merge-requires c κs =
     let e = c.before.before.before in
     let s = entry e.before.before in
-    (order_in_lem s, (s.pre.1.1, rw (to_z-of_z (less_fits c), to_z-of_z (plus-fits c)) (small e)))
+    (order_in_lem s, (s.requires.1.1, rw (to_z-of_z (less_fits c), to_z-of_z (plus-fits c)) (small e)))
 
-returns_2 : tie.Need-returns-2
+returns_2 : tie.Need-returns
 returns_2 c =
     let t = c.before in
     let e = t.before.before.before in
@@ -136,13 +136,13 @@ returns_2 c =
     let a = fragment_in s.args.one in
     let b = fragment_in s.args.two in
     let n = s.args.order in
-    let r = k.rescore.result in
+    let r = k.rescore-again.result in
     ap (λ (f : Fragment). record { number = 0; place = 0; fragment = f })
-    (c.merge.ensures ∙ ap₂ (λ (x y : ℤ). to_numbers (joined_fragment n a b x y (numbers_of r.end))) (to_z-of_z (less_fits t)) (to_z-of_z (plus-fits t)))
+    (c.merge.ensures ∙ ap₂ (λ (x y : ℤ). to_numbers (joined_fragment n a b x y (numbers_of r.end-1))) (to_z-of_z (less_fits t)) (to_z-of_z (plus-fits t)))
     ∙ ap crossed (sym (rescored_joined n a b r (alone s) (after s) (again k) (sound e)))
 
-pub join-passed-spec : {M : Type 1} → statement M
-join-passed-spec =
+pub join_passed_spec : {M : Type 1} → statement M
+join_passed_spec =
     tie.close
     (tie.spec
     cast-kept

@@ -27,21 +27,21 @@ use Rattle.joining.proofs.merge.Tie as tie
 -- ---- what 21 left of both
 
 kept-one : (s : tie.Start) → s.args.one.kept ≡ min (s.args.order - 1) s.args.one.count
-kept-one s = sym (length-kept_in s.args.one.kept s.args.one.first) ∙ kept-words s.args.order (fragment_in s.args.one) s.requires.1.0.first
+kept-one s = sym (length-kept_in s.args.one.kept s.args.one.first-1) ∙ kept-words s.args.order (fragment_in s.args.one) s.requires.1.0.first-1
 
 kept-two : (s : tie.Start) → s.args.two.kept ≡ min (s.args.order - 1) s.args.two.count
-kept-two s = sym (length-kept_in s.args.two.kept s.args.two.first) ∙ kept-words s.args.order (fragment_in s.args.two) s.requires.1.0.second
+kept-two s = sym (length-kept_in s.args.two.kept s.args.two.first-1) ∙ kept-words s.args.order (fragment_in s.args.two) s.requires.1.0.second
 
-places-one : (s : tie.Start) → length s.args.one.first ≡ 4
+places-one : (s : tie.Start) → length s.args.one.first-1 ≡ 4
 places-one s = search rules
 
-places-two : (s : tie.Start) → length s.args.two.first ≡ 4
+places-two : (s : tie.Start) → length s.args.two.first-1 ≡ 4
 places-two s = search rules
 
-within-one : (s : tie.Start) → s.args.one.kept ≤ length s.args.one.first
+within-one : (s : tie.Start) → s.args.one.kept ≤ length s.args.one.first-1
 within-one s = omega (arith, kept-one s, places-one s, s.requires.0)
 
-within-two : (s : tie.Start) → s.args.two.kept ≤ length s.args.two.first
+within-two : (s : tie.Start) → s.args.two.kept ≤ length s.args.two.first-1
 within-two s = omega (arith, kept-two s, places-two s, s.requires.0)
 
 -- ---- the total
@@ -58,7 +58,7 @@ both s = s.args.one.total +ℤ s.args.two.total
 -- both totals lie within what 21 and 14 leave
 bounds : (s : tie.Start) → (nat_abs s.args.one.total ≤ s.args.one.count * most_points) × ((nat_abs s.args.two.total ≤ s.args.two.count * most_points) × (s.args.one.count + s.args.two.count ≤ run_limit))
 bounds s = (
-  total_bound s.args.order (fragment_in s.args.one) s.requires.1.0.first s.requires.0.1,
+  total_bound s.args.order (fragment_in s.args.one) s.requires.1.0.first-1 s.requires.0.1,
   (total_bound s.args.order (fragment_in s.args.two) s.requires.1.0.second s.requires.0.1, s.requires.1.0.few),
 )
 
@@ -91,50 +91,50 @@ from-cond : (b : Bool) (s t : State) → Four s → Four t → cond b s t ≡ st
 from-cond true s t f g = sym (state_from-numbers s f)
 from-cond false s t f g = sym (state_from-numbers t g)
 
-add-count : tie.Need-overflow-add-count
+add-count : tie.Need-overflow_add-count
 add-count c = search rules
 
-cast-kept : tie.Need-overflow-cast-kept
+cast-kept : tie.Need-overflow_cast-kept
 cast-kept c = search rules
 
-cast-more : tie.Need-overflow-cast-more
+cast-more : tie.Need-overflow_cast-more
 cast-more c = search rules
 
-array-share-prefix-words : tie.Need-array-share-prefix-words
+array-share-prefix-words : tie.Need-slice_bounds-words-end
 array-share-prefix-words c = within-two c.before.before.before.before.before.before
 
-slice-aggregate-first-words : tie.Need-slice-aggregate-first-words
-slice-aggregate-first-words c = let s = c.before.before.before.before.before.before.before in sym (length-take-le s.args.two.kept s.args.two.first (within-two s))
+slice-aggregate-first-words : tie.Need-slice_bounds-first_words-end
+slice-aggregate-first-words c = let s = c.before.before.before.before.before.before.before in sym (length-take-le s.args.two.kept s.args.two.first-1 (within-two s))
 
-sub-first-words : tie.Need-overflow-sub-first-words
+sub-first-words : tie.Need-overflow_sub-order
 sub-first-words c = search rules
 
-first-words-requires : tie.Need-first-words-requires
+first-words-requires : tie.Need-first_words-first-requires
 first-words-requires c κs = let s = c.before.before.before.before.before.before.before in (omega (arith, kept-one s), omega (arith, s.requires.0))
 
 -- the function's entry
-abbrev entry : tie.After-struct-told2 → tie.Start
+abbrev entry : tie.After-struct_told-2-1 → tie.Start
 entry c = c.before.before.before.before.before.before.before.before.before.before.before.before.before
 
-end-of-requires : tie.Need-end-of-requires
+end-of-requires : tie.Need-end_of-state-requires
 end-of-requires c κs = search rules
 
-add_t17 : tie.Need-overflow-add-t17
+add_t17 : tie.Need-overflow_add-result
 add_t17 c = let s = entry c in rw (to_z-of_z (fits_one s), to_z-of_z (fits-two s)) (both_fit s)
 
-sub-t18 : tie.Need-overflow-sub-t18
+sub-t18 : tie.Need-overflow_sub-result
 sub-t18 c = let s = entry c in rw (to_z-of_z (fits_one s), to_z-of_z (fits-two s), to_z-of_z (both_fit s), to_z-of_z s.fits.less) (less_fits s)
 
-add-t19 : tie.Need-overflow-add-t19
+add-t19 : tie.Need-overflow_add-result-2
 add-t19 c = let s = entry c in rw (to_z-of_z (fits_one s), to_z-of_z (fits-two s), to_z-of_z (both_fit s), to_z-of_z s.fits.less, to_z-of_z (less_fits s), to_z-of_z s.fits.plus) (total-fits s)
 
-cast-kept-of : tie.Need-overflow-cast-kept-of
+cast-kept-of : tie.Need-overflow_cast-count
 cast-kept-of c = search rules
 
-kept-of-requires : tie.Need-kept-of-requires
+kept-of-requires : tie.Need-kept_of-requires
 kept-of-requires c κs = (entry c).requires.0.0
 
-cast-t21 : tie.Need-overflow-cast-t21
+cast-t21 : tie.Need-overflow_cast-result
 cast-t21 c = omega (arith, c.kept_of.ensures, (entry c.before).requires.0)
 
 returns : tie.Need-returns
@@ -142,19 +142,19 @@ returns c =
     let s = entry c.before in
     let one = s.args.one in
     let two = s.args.two in
-    let words = kept_in one.kept one.first ++ kept_in two.kept two.first in
-    let kept : min (s.args.order - 1) (one.count + two.count) ≡ length (take (s.args.order - 1) words) = omega (arith, length-take (s.args.order - 1) words, length-append (kept_in one.kept one.first) (kept_in two.kept two.first), length-kept_in one.kept one.first, length-kept_in two.kept two.first, kept-one s, kept-two s) in
+    let words = kept_in one.kept one.first-1 ++ kept_in two.kept two.first-1 in
+    let kept : min (s.args.order - 1) (one.count + two.count) ≡ length (take (s.args.order - 1) words) = omega (arith, length-take (s.args.order - 1) words, length-append (kept_in one.kept one.first-1) (kept_in two.kept two.first-1), length-kept_in one.kept one.first-1, length-kept_in two.kept two.first-1, kept-one s, kept-two s) in
     let e = c.before.before.before.before.before in
     λ i. record {
       total = sum_back (fits_one s) (fits-two s) s.fits.less s.fits.plus (both_fit s) (less_fits s) (total-fits s) i;
       count = one.count + two.count;
       kept = (c.kept_of.ensures ∙ kept) i;
-      first = (e.before.first-words.ensures ∙ ap₂ (λ (x y : List ℕ). four_places (take (s.args.order - 1) (x ++ y))) (sym (kept_in-within one.kept one.first (within-one s))) (sym (kept_in-within two.kept two.first (within-two s)))) i;
+      first = (e.before.first_words-first.ensures ∙ ap₂ (λ (x y : List ℕ). four_places (take (s.args.order - 1) (x ++ y))) (sym (kept_in-within one.kept one.first-1 (within-one s))) (sym (kept_in-within two.kept two.first-1 (within-two s)))) i;
       state = (e.end_of_lem.ensures ∙ from-cond (leb (s.args.order - 1) two.count) two.state s.args.end (state-two s) (state-end s)) i;
     }
 
-pub merge-spec : {M : Type 1} → statement M
-merge-spec =
+pub merge_spec : {M : Type 1} → statement M
+merge_spec =
     tie.close
     (tie.spec
     add-count

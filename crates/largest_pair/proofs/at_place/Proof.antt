@@ -17,52 +17,52 @@ record Blocks (totals : List ℤ) (v weight : ℕ) (kept : Pair) (block : ℕ) :
   within : block ≤ length totals
   so_far : KeptSoFar totals v weight block kept
 
-abbrev invariant-loop : tie.invariant-loop
+abbrev invariant-loop : tie.invariant-loop-block
 invariant-loop totals weight count kept₀ block₀ kept block = Blocks totals count weight kept block
 
-abbrev decreases-loop : tie.decreases-loop
+abbrev decreases-loop : tie.decreases-loop-block
 decreases-loop totals weight count kept₀ block₀ kept block = length totals - block
 
 -- the block of this turn
-this : (c : tie.In-loop invariant-loop decreases-loop) → IsBlock c.before.before.args.totals.now c.before.before.args.count c.before.before.args.weight c.before.loop.block
+this : (c : tie.In-loop-block invariant-loop decreases-loop) → IsBlock c.before.before.args.totals.now c.before.before.args.count c.before.before.args.weight c.before.loop-block.block
 this c =
     let l = c.before in
     let s = l.before in
-    block_at s.args.totals.now s.args.count s.args.weight l.loop.invariant.number l.loop.block s.requires.1.0 l.loop.invariant.at c.loop-test.true
+    block_at s.args.totals.now s.args.count s.args.weight l.loop-block.invariant.number l.loop-block.block s.requires.1.0 l.loop-block.invariant.at c.loop-block-test.true
 
-loop-holds : tie.Need-loop-init invariant-loop decreases-loop
+loop-holds : tie.Need-loop-block-init invariant-loop decreases-loop
 loop-holds c = record { number = 0; at = omega arith; within = omega arith; so_far = c.requires.1.1 }
 
-with-block-requires : tie.Need-with-block-requires invariant-loop decreases-loop
-with-block-requires c κs = (c.before.before.requires.0, (this c, c.before.loop.invariant.so_far))
+with-block-requires : tie.Need-with_block-kept-requires invariant-loop decreases-loop
+with-block-requires c κs = (c.before.before.requires.0, (this c, c.before.loop-block.invariant.so_far))
 
-mul-block : tie.Need-overflow-mul-block invariant-loop decreases-loop
+mul-block : tie.Need-overflow_mul-block invariant-loop decreases-loop
 mul-block c = omega (arith, (this c.before).inside)
 
-add-block : tie.Need-overflow-add-block invariant-loop decreases-loop
+add-block : tie.Need-overflow_add-block invariant-loop decreases-loop
 add-block c = omega (arith, (this c.before).inside)
 
-loop-less : tie.Need-loop-smaller invariant-loop decreases-loop
+loop-less : tie.Need-loop-block-smaller invariant-loop decreases-loop
 loop-less c =
     let i = c.before in
     let s = i.before.before in
-    omega (arith, i.loop-test.true, some_block s.args.totals.now s.args.count s.args.weight s.requires.1.0)
+    omega (arith, i.loop-block-test.true, some_block s.args.totals.now s.args.count s.args.weight s.requires.1.0)
 
-loop-again : tie.Need-loop-preserved invariant-loop decreases-loop
+loop-again : tie.Need-loop-block-preserved invariant-loop decreases-loop
 loop-again c =
     let i = c.before in
     let l = i.before in
-    record { number = l.loop.invariant.number + 1; at = omega (arith, l.loop.invariant.at); within = (this i).inside; so_far = c.with-block.ensures }
+    record { number = l.loop-block.invariant.number + 1; at = omega (arith, l.loop-block.invariant.at); within = (this i).inside; so_far = c.with_block-kept.ensures }
 
 returns : tie.Need-returns invariant-loop decreases-loop
 returns c =
     let l = c.before in
     let s = l.before in
-    let e : l.loop.block ≡ length s.args.totals.now = omega (arith, l.loop.invariant.within, c.loop-test.false) in
-    place_seen s.args.totals.now s.args.count s.requires.1.0.place s.args.weight l.loop.auto s.requires.1.0.two s.requires.1.0.weight_is (rw e at l.loop.invariant.so_far)
+    let e : l.loop-block.block ≡ length s.args.totals.now = omega (arith, l.loop-block.invariant.within, c.loop-block-test.false) in
+    place_seen s.args.totals.now s.args.count s.requires.1.0.place s.args.weight l.loop-block.auto s.requires.1.0.two s.requires.1.0.weight_is (rw e at l.loop-block.invariant.so_far)
 
-pub at-place-spec : {M : Type 1} → statement M
-at-place-spec =
+pub at_place_spec : {M : Type 1} → statement M
+at_place_spec =
     tie.close
     (tie.spec
     invariant-loop

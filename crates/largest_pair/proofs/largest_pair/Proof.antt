@@ -18,57 +18,57 @@ record Places (totals : List ℤ) (v k : ℕ) (kept : Pair) (weight place : ℕ)
   weight_is : weight ≡ v ^ place
   so_far : KeptSoFar totals v weight 0 kept
 
-abbrev invariant-loop : tie.invariant-loop
+abbrev invariant-loop : tie.invariant-loop-place
 invariant-loop totals count k kept₀ weight₀ place₀ kept weight place = Places totals count k kept weight place
 
-abbrev decreases-loop : tie.decreases-loop
+abbrev decreases-loop : tie.decreases-loop-place
 decreases-loop totals count k kept₀ weight₀ place₀ kept weight place = k - place
 
-loop-holds : tie.Need-loop-init invariant-loop decreases-loop
+loop-holds : tie.Need-loop-place-init invariant-loop decreases-loop
 loop-holds c = record { within = omega arith; weight_is = sym (pow-zero c.args.count); so_far = none_seen c.args.totals.now c.args.count (omega (arith, c.requires.1.two)) }
 
-at-place-requires : tie.Need-at-place-requires invariant-loop decreases-loop
+at-place-requires : tie.Need-at_place-kept-requires invariant-loop decreases-loop
 at-place-requires c κs =
     let l = c.before in
     let s = l.before in
-    (s.requires.0, (place_at_lem s.args.totals.now s.args.count s.args.k l.loop.place l.loop.weight s.requires.1 c.loop-test.true l.loop.invariant.weight_is, l.loop.invariant.so_far))
+    (s.requires.0, (place_at_lem s.args.totals.now s.args.count s.args.k l.loop-place.place l.loop-place.weight s.requires.1 c.loop-place-test.true l.loop-place.invariant.weight_is, l.loop-place.invariant.so_far))
 
 -- the weight of the next place
-next_weight : (c : tie.In-loop invariant-loop decreases-loop) → c.before.loop.weight * c.before.before.args.count ≡ c.before.before.args.count ^ suc c.before.loop.place
+next_weight : (c : tie.In-loop-place invariant-loop decreases-loop) → c.before.loop-place.weight * c.before.before.args.count ≡ c.before.before.args.count ^ suc c.before.loop-place.place
 next_weight c =
     let l = c.before in
     let v = l.before.args.count in
-    ap (λ n. n * v) l.loop.invariant.weight_is ∙ sym (pow-suc v l.loop.place)
+    ap (λ n. n * v) l.loop-place.invariant.weight_is ∙ sym (pow-suc v l.loop-place.place)
 
-mul-weight : tie.Need-overflow-mul-weight invariant-loop decreases-loop
+mul-weight : tie.Need-overflow_mul-weight invariant-loop decreases-loop
 mul-weight c =
     let i = c.before in
     let l = i.before in
     let s = l.before in
-    omega (arith, next_weight i, few-sentences s.args.count (suc l.loop.place) s.requires.1.few (omega (arith, i.loop-test.true, s.requires.1.short)))
+    omega (arith, next_weight i, few-sentences s.args.count (suc l.loop-place.place) s.requires.1.few (omega (arith, i.loop-place-test.true, s.requires.1.short)))
 
-add-place : tie.Need-overflow-add-place invariant-loop decreases-loop
-add-place c = omega (arith, c.before.loop-test.true)
+add-place : tie.Need-overflow_add-place invariant-loop decreases-loop
+add-place c = omega (arith, c.before.loop-place-test.true)
 
-loop-less : tie.Need-loop-smaller invariant-loop decreases-loop
-loop-less c = omega (arith, c.before.loop-test.true)
+loop-less : tie.Need-loop-place-smaller invariant-loop decreases-loop
+loop-less c = omega (arith, c.before.loop-place-test.true)
 
-loop-again : tie.Need-loop-preserved invariant-loop decreases-loop
+loop-again : tie.Need-loop-place-preserved invariant-loop decreases-loop
 loop-again c =
     let i = c.before in
     let l = i.before in
-    record { within = omega (arith, i.loop-test.true); weight_is = next_weight i ∙ ap (λ n. l.before.args.count ^ n) (sym (add-one l.loop.place)); so_far = c.at_place.ensures }
+    record { within = omega (arith, i.loop-place-test.true); weight_is = next_weight i ∙ ap (λ n. l.before.args.count ^ n) (sym (add-one l.loop-place.place)); so_far = c.at_place-kept.ensures }
 
 returns : tie.Need-returns invariant-loop decreases-loop
 returns c =
     let l = c.before in
     let s = l.before in
-    let e : l.loop.place ≡ s.args.k = omega (arith, l.loop.invariant.within, c.loop-test.false) in
-    let w : l.loop.weight ≡ s.args.count ^ s.args.k = l.loop.invariant.weight_is ∙ ap (λ n. s.args.count ^ n) e in
-    all_seen s.args.count s.args.k s.requires.1.two s.args.totals.now l.loop.auto s.requires.1.long s.requires.1.some (rw w at l.loop.invariant.so_far)
+    let e : l.loop-place.place ≡ s.args.k = omega (arith, l.loop-place.invariant.within, c.loop-place-test.false) in
+    let w : l.loop-place.weight ≡ s.args.count ^ s.args.k = l.loop-place.invariant.weight_is ∙ ap (λ n. s.args.count ^ n) e in
+    all_seen s.args.count s.args.k s.requires.1.two s.args.totals.now l.loop-place.auto s.requires.1.long s.requires.1.some (rw w at l.loop-place.invariant.so_far)
 
-pub largest-pair-spec : {M : Type 1} → statement M
-largest-pair-spec =
+pub largest_pair_spec : {M : Type 1} → statement M
+largest_pair_spec =
     tie.close
     (tie.spec
     invariant-loop

@@ -32,13 +32,13 @@ record Scanned (filling : Bool) (t : List ℤ) (n : ℕ) (old new : List Bool) (
   rest : verdict_for filling t ≡ scan filling t n i (rows_of t - i)
   marks : verdict_for filling t ≡ Accepted → Marked t i new
 
-abbrev invariant-loop : tie.invariant-loop
+abbrev invariant-loop : tie.invariant-loop-i
 invariant-loop table n filling marks₀ rows near₀ shorter₀ i₀ marks near shorter i = Scanned filling table n marks₀ marks i
 
-abbrev decreases-loop : tie.decreases-loop
+abbrev decreases-loop : tie.decreases-loop-i
 decreases-loop table n filling marks₀ rows near₀ shorter₀ i₀ marks near shorter i = rows_of table - i
 
-loop-holds : tie.Need-loop-init invariant-loop decreases-loop
+loop-holds : tie.Need-loop-i-init invariant-loop decreases-loop
 loop-holds c =
     let s = c.before in
     record {
@@ -49,47 +49,47 @@ loop-holds c =
       marks = λ a. marked-none _ s.args.marks.now s.requires.2;
     }
 
-inside : (c : tie.In-loop invariant-loop decreases-loop) → c.before.loop.i < rows_of c.before.before.before.args.table.now
+inside : (c : tie.In-loop-i invariant-loop decreases-loop) → c.before.loop-i.i < rows_of c.before.before.before.args.table.now
 unfolding rows_of
-inside c = c.loop-test.true
+inside c = c.loop-i-test.true
 
-few : (c : tie.In-loop invariant-loop decreases-loop) → c.before.loop.i < row_limit
+few : (c : tie.In-loop-i invariant-loop decreases-loop) → c.before.loop-i.i < row_limit
 unfolding rows_of
 few c = omega (arith, (fitting_table _ c.before.before.before.requires.0).1, inside c)
 
-shorter-rows-requires : tie.Need-shorter-rows-requires invariant-loop decreases-loop
+shorter-rows-requires : tie.Need-shorter_rows-shorter-requires invariant-loop decreases-loop
 shorter-rows-requires c κs = row_in _ _ (inside c)
 
-row-fault-requires : tie.Need-row-fault-requires invariant-loop decreases-loop
-row-fault-requires c κs = (row_in _ _ (inside c.before), c.before.before.loop.invariant.good)
+row-fault-requires : tie.Need-row_fault-checked-requires invariant-loop decreases-loop
+row-fault-requires c κs = (row_in _ _ (inside c.before), c.before.before.loop-i.invariant.good)
 
-add-t12 : tie.Need-overflow-add-t12 invariant-loop decreases-loop
+add-t12 : tie.Need-overflow_add-result invariant-loop decreases-loop
 add-t12 c = omega (arith, few c.before.before.before.before)
 
-cast-t13 : tie.Need-overflow-cast-t13 invariant-loop decreases-loop
+cast-t13 : tie.Need-overflow_cast-result invariant-loop decreases-loop
 cast-t13 c = omega (arith, few c.before.before.before.before)
 
-same_length : tie.Need-same-length invariant-loop decreases-loop
-same_length c = c.before.before.before.before.before.loop.invariant.long
+same_length : tie.Need-shape_of-marks-then-checked-ne0 invariant-loop decreases-loop
+same_length c = c.before.before.before.before.before.loop-i.invariant.long
 
-returns : tie.Need-returns invariant-loop decreases-loop
+returns : tie.Need-returns-then-checked-ne0 invariant-loop decreases-loop
 returns c =
     let r = c.before.before in
-    let l = r.before.before.before.loop in
-    let e = r.row-fault.ensures.0 in
-    let v = l.invariant.rest ∙ scan_fault _ _ _ _ _ (inside r.before.before) (λ z. c.if1.true (e ∙ z)) ∙ ap (λ (f : ℕ). Refused f (l.i + 1)) (sym e) in
+    let l = r.before.before.before.loop-i in
+    let e = r.row_fault-checked.ensures.0 in
+    let v = l.invariant.rest ∙ scan_fault _ _ _ _ _ (inside r.before.before) (λ z. c.if-checked-ne0.true (e ∙ z)) ∙ ap (λ (f : ℕ). Refused f (l.i + 1)) (sym e) in
     (sym v, λ z. absurd (accepted-refused _ _ z))
 
-mark-continued-requires : tie.Need-mark-continued-requires invariant-loop decreases-loop
+mark-continued-requires : tie.Need-mark_continued-requires invariant-loop decreases-loop
 mark-continued-requires c κs = tt
 
-add-i : tie.Need-overflow-add-i invariant-loop decreases-loop
+add-i : tie.Need-overflow_add-i invariant-loop decreases-loop
 add-i c = omega (arith, few c.before.before.before.before.before.before.before.before)
 
-loop-less : tie.Need-loop-smaller invariant-loop decreases-loop
+loop-less : tie.Need-loop-i-smaller invariant-loop decreases-loop
 loop-less c = omega (arith, inside c.before.before.before.before.before.before.before.before)
 
-loop-again : tie.Need-loop-preserved invariant-loop decreases-loop
+loop-again : tie.Need-loop-i-preserved invariant-loop decreases-loop
 loop-again c =
     let m = c.before.before in
     let d = m.before.before in
@@ -97,50 +97,50 @@ loop-again c =
     let l = r.before.before.before in
     let s = l.before.before in
     let t = s.args.table.now in
-    let i = l.loop.i in
+    let i = l.loop-i.i in
     let h = inside r.before.before in
-    let e = sym r.row-fault.ensures.0 ∙ d.if1.false in
+    let e = sym r.row_fault-checked.ensures.0 ∙ d.if-checked-ne0.false in
     let p = passed-row _ _ _ _ e in
     record {
       within = omega (arith, h);
-      long = omega (arith, m.mark-continued.auto.1.1.0, l.loop.invariant.long);
-      good = good_more _ _ l.loop.invariant.good p.fields.good p.after;
-      rest = l.loop.invariant.rest ∙ scan_pass _ _ _ _ _ h e;
+      long = omega (arith, m.mark_continued.auto.1.1.0, l.loop-i.invariant.long);
+      good = good_more _ _ l.loop-i.invariant.good p.fields.good p.after;
+      rest = l.loop-i.invariant.rest ∙ scan_pass _ _ _ _ _ h e;
       marks = λ a.
-          let f : m.mark-continued.new.1.1.0 ≡ mark_found (find_in t (without_last t i)) l.loop.marks = m.mark-continued.ensures ∙ ap (λ (f : Found). mark_found f l.loop.marks) (r.row-fault.ensures.1 d.if1.false ∙ checked-before s.args.filling t a i h) in
-          rw f (marked_more t (checked-good s.args.filling t a) i l.loop.marks (l.loop.invariant.marks a));
+          let f : m.mark_continued.new.1.1.0 ≡ mark_found (find_in t (without_last t i)) l.loop-i.marks = m.mark_continued.ensures ∙ ap (λ (f : Found). mark_found f l.loop-i.marks) (r.row_fault-checked.ensures.1 d.if-checked-ne0.false ∙ checked-before s.args.filling t a i h) in
+          rw f (marked_more t (checked-good s.args.filling t a) i l.loop-i.marks (l.loop-i.invariant.marks-1 a));
     }
 
-passed-all : (c : tie.After-loop invariant-loop decreases-loop) → c.before.loop.i ≡ rows_of c.before.before.before.args.table.now
+passed-all : (c : tie.After-loop-i invariant-loop decreases-loop) → c.before.loop-i.i ≡ rows_of c.before.before.before.args.table.now
 unfolding rows_of
-passed-all c = omega (arith, c.before.loop.invariant.within, c.loop-test.false)
+passed-all c = omega (arith, c.before.loop-i.invariant.within, c.loop-i-test.false)
 
-reserved-listed-requires : tie.Need-reserved-listed-requires invariant-loop decreases-loop
-reserved-listed-requires c κs = rw (passed-all c) at c.before.loop.invariant.good
+reserved-listed-requires : tie.Need-reserved_listed-requires invariant-loop decreases-loop
+reserved-listed-requires c κs = rw (passed-all c) at c.before.loop-i.invariant.good
 
 abbrev last : Bool → Verdict
 last b = cond b Accepted (Refused reserved_word 0)
 
-ended : (c : tie.After-reserved-listed invariant-loop decreases-loop) → verdict_for c.before.before.before.before.args.filling c.before.before.before.before.args.table.now ≡ last c.reserved-listed.result
-ended c = c.before.before.loop.invariant.rest ∙ scan-end _ _ _ _ _ (omega (arith, passed-all c.before)) ∙ ap (λ (b : Bool). last b) (sym c.reserved-listed.ensures)
+ended : (c : tie.After-reserved_listed invariant-loop decreases-loop) → verdict_for c.before.before.before.before.args.filling c.before.before.before.before.args.table.now ≡ last c.reserved_listed.result
+ended c = c.before.before.loop-i.invariant.rest ∙ scan-end _ _ _ _ _ (omega (arith, passed-all c.before)) ∙ ap (λ (b : Bool). last b) (sym c.reserved_listed.ensures)
 
-same-length_2 : tie.Need-same-length-2 invariant-loop decreases-loop
-same-length_2 c = c.before.before.before.loop.invariant.long
+same-length_2 : tie.Need-shape_of-marks-then-reserved_listed invariant-loop decreases-loop
+same-length_2 c = c.before.before.before.loop-i.invariant.long
 
-returns_2 : tie.Need-returns-2 invariant-loop decreases-loop
+returns_2 : tie.Need-returns-then-reserved_listed invariant-loop decreases-loop
 returns_2 c =
     let r = c.before in
-    let a = ended r ∙ ap (λ (b : Bool). last b) c.if2.true in
-    (sym a, λ z. rw (passed-all r.before) at (r.before.before.loop.invariant.marks a))
+    let a = ended r ∙ ap (λ (b : Bool). last b) c.if-reserved_listed.true in
+    (sym a, λ z. rw (passed-all r.before) at (r.before.before.loop-i.invariant.marks-1 a))
 
-same-length-3 : tie.Need-same-length-3 invariant-loop decreases-loop
-same-length-3 c = c.before.before.before.loop.invariant.long
+same-length-3 : tie.Need-shape_of-marks invariant-loop decreases-loop
+same-length-3 c = c.before.before.before.loop-i.invariant.long
 
-returns_3 : tie.Need-returns-3 invariant-loop decreases-loop
-returns_3 c = (sym (ended c.before ∙ ap (λ (b : Bool). last b) c.if2.false), λ z. absurd (accepted-refused _ _ z))
+returns_3 : tie.Need-returns invariant-loop decreases-loop
+returns_3 c = (sym (ended c.before ∙ ap (λ (b : Bool). last b) c.if-reserved_listed.false), λ z. absurd (accepted-refused _ _ z))
 
-pub check-rows-spec : {M : Type 1} → statement M
-check-rows-spec =
+pub check_rows_spec : {M : Type 1} → statement M
+check_rows_spec =
     tie.close
     (tie.spec
     invariant-loop

@@ -9,11 +9,11 @@ use Rattle.list_trie.proofs.order_of.Tie as tie
 some : (s : tie.Start) → 0 < rows_of s.args.table.now
 some s = (accepted-size s.args.table.now s.requires).0
 
-sub-length-of : tie.Need-overflow-sub-length-of
+sub-length-of : tie.Need-overflow_sub-table
 unfolding rows_of
 sub-length-of c = omega (arith, some c)
 
-length-of-requires : tie.Need-length-of-requires
+length-of-requires : tie.Need-length_of-requires
 unfolding rows_of
 length-of-requires c κs = omega (arith, some c)
 
@@ -21,5 +21,5 @@ returns : tie.Need-returns
 unfolding order_of rows_of
 returns c = c.length_of_lem.ensures
 
-pub order-of-spec : {M : Type 1} → statement M
-order-of-spec = tie.close (tie.spec sub-length-of length-of-requires returns)
+pub order_of_spec : {M : Type 1} → statement M
+order_of_spec = tie.close (tie.spec sub-length-of length-of-requires returns)

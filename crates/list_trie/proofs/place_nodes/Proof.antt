@@ -10,60 +10,60 @@ use Rattle.list_trie.proofs.NodeByNode.{over_refused}
 use Rattle.list_trie.proofs.place_nodes.Statement.{statement}
 use Rattle.list_trie.proofs.place_nodes.Tie as tie
 
-place-root-requires : tie.Need-place-root-requires
+place-root-requires : tie.Need-place_root-top-requires
 place-root-requires c κs = search rules
 
-same_length : tie.Need-same-length
-same_length c = c.before.before.before.before.before.place-root.auto.1.0
+same_length : tie.Need-shape_of-base-then-check-top
+same_length c = c.before.before.before.before.before.place_root-top.auto.1.0
 
-same-length_2 : tie.Need-same-length-2
-same-length_2 c = c.before.before.before.before.before.place-root.auto.1.1.0
+same-length_2 : tie.Need-shape_of-check-then-check-top
+same-length_2 c = c.before.before.before.before.before.place_root-top.auto.1.1.0
 
-same-length-3 : tie.Need-same-length-3
-same-length-3 c = c.before.before.before.before.before.place-root.auto.1.1.1.0
+same-length-3 : tie.Need-shape_of-work-then-check-top
+same-length-3 c = c.before.before.before.before.before.place_root-top.auto.1.1.1.0
 
-returns : tie.Need-returns
-returns c = let r = c.before.before.before.before.before in over_refused 1 (omega (arith, c.if1.true, r.place-root.auto.1.1.0)) r.place-root.ensures
+returns : tie.Need-returns-then-check-top
+returns c = let r = c.before.before.before.before.before in over_refused 1 (omega (arith, c.if-check-top.true, r.place_root-top.auto.1.1.0)) r.place_root-top.ensures
 
-abbrev start : tie.Else1 → tie.Start
+abbrev start : tie.Else-check-top → tie.Start
 start c = c.before.before.before.before.before.before.before.before.before.before.before
 
-room : (c : tie.Else1) → let r = c.before.before.before.before.before in r.place-root.result ≤ length r.before.before.before.before.before.before.args.check.now
-room c = let r = c.before.before.before.before.before in omega (arith, c.if1.false, r.place-root.auto.1.1.0)
+room : (c : tie.Else-check-top) → let r = c.before.before.before.before.before in r.place_root-top.result ≤ length r.before.before.before.before.before.before.args.check.now
+room c = let r = c.before.before.before.before.before in omega (arith, c.if-check-top.false, r.place_root-top.auto.1.1.0)
 
-placed : (c : tie.Else1) → let r = c.before.before.before.before.before in let s = r.before.before.before.before.before.before in
-    Filled s.args.table.now (length s.args.check.now) (placed_nodes s.args.table.now 1) r.place-root.new.1.0 r.place-root.new.1.1.0 r.place-root.new.1.1.1.0
-placed c = c.before.before.before.before.before.place-root.ensures.filled (room c)
+placed : (c : tie.Else-check-top) → let r = c.before.before.before.before.before in let s = r.before.before.before.before.before.before in
+    Filled s.args.table.now (length s.args.check.now) (placed_nodes s.args.table.now 1) r.place_root-top.new.1.0 r.place_root-top.new.1.1.0 r.place_root-top.new.1.1.1.0
+placed c = c.before.before.before.before.before.place_root-top.ensures.filled (room c)
 
-order-of-requires : tie.Need-order-of-requires
+order-of-requires : tie.Need-order_of-requires
 order-of-requires c κs = (start c).requires.0.0
 
-rows-below-requires : tie.Need-rows-below-requires
+rows-below-requires : tie.Need-rows_below-shorter-requires
 rows-below-requires c κs = (start c.before).requires.0.0
 
-place-rows-requires : tie.Need-place-rows-requires
+place-rows-requires : tie.Need-place_rows-requires
 place-rows-requires c κs =
     let b = c.before.before.before in
     let e = b.before.before in
     let r = e.before.before.before.before.before in
-    (((start e).requires.0.0, rw b.before.order-of.ensures.0 at b.rows-below.ensures, omega (arith, room e, r.place-root.ensures.answer), (start e).requires.0.1), filled-here (placed e))
+    (((start e).requires.0.0, rw b.before.order_of.ensures.0 at b.rows_below-shorter.ensures, omega (arith, room e, r.place_root-top.ensures.answer), (start e).requires.0.1), filled-here (placed e))
 
-same-length-4 : tie.Need-same-length-4
-same-length-4 c = let r = c.before.before.before.before in r.place-rows.auto.1.1.0 ∙ r.before.before.before.before.before.before.before.before.before.before.before.place-root.auto.1.0
+same-length-4 : tie.Need-shape_of-base
+same-length-4 c = let r = c.before.before.before.before in r.place_rows.auto.1.1.0 ∙ r.before.before.before.before.before.before.before.before.before.before.before.place_root-top.auto.1.0
 
-same-length-5 : tie.Need-same-length-5
-same-length-5 c = let r = c.before.before.before.before in r.place-rows.auto.1.1.1.0 ∙ r.before.before.before.before.before.before.before.before.before.before.before.place-root.auto.1.1.0
+same-length-5 : tie.Need-shape_of-check
+same-length-5 c = let r = c.before.before.before.before in r.place_rows.auto.1.1.1.0 ∙ r.before.before.before.before.before.before.before.before.before.before.before.place_root-top.auto.1.1.0
 
-same-length-6 : tie.Need-same-length-6
-same-length-6 c = let r = c.before.before.before.before in r.place-rows.auto.1.1.1.1.1.0 ∙ r.before.before.before.before.before.before.before.before.before.before.before.place-root.auto.1.1.1.0
+same-length-6 : tie.Need-shape_of-work
+same-length-6 c = let r = c.before.before.before.before in r.place_rows.auto.1.1.1.1.1.0 ∙ r.before.before.before.before.before.before.before.before.before.before.before.place_root-top.auto.1.1.1.0
 
-returns_2 : tie.Need-returns-2
+returns_2 : tie.Need-returns
 returns_2 c =
     let r = c.before.before.before.before in
-    rw (filled-check (placed r.before.before.before.before.before.before)) at r.place-rows.ensures
+    rw (filled-check (placed r.before.before.before.before.before.before)) at r.place_rows.ensures
 
-pub place-nodes-spec : {M : Type 1} → statement M
-place-nodes-spec =
+pub place_nodes_spec : {M : Type 1} → statement M
+place_nodes_spec =
     tie.close
     (tie.spec
     place-root-requires

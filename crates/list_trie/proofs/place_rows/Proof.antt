@@ -25,125 +25,125 @@ record Reached (t : List ℤ) (shorter N : ℕ) (base check : List ℤ) (work : 
   top-is : top ≡ (placed_nodes t (i + 1)).top
   filled : Filled t N (placed_nodes t (i + 1)) base check work
 
-abbrev invariant-loop : tie.invariant-loop
+abbrev invariant-loop : tie.invariant-loop-i
 invariant-loop table shorter base₀ check₀ marks work₀ given top₀ from₀ i₀ base check work top from i = Reached table shorter (length check₀) base check work top from i
 
-abbrev decreases-loop : tie.decreases-loop
+abbrev decreases-loop : tie.decreases-loop-i
 decreases-loop table shorter base₀ check₀ marks work₀ given top₀ from₀ i₀ base check work top from i = shorter - i
 
-loop-holds : tie.Need-loop-init invariant-loop decreases-loop
+loop-holds : tie.Need-loop-i-init invariant-loop decreases-loop
 loop-holds c =
     let s = c.before.before.before in
-    let o = c.rows-below.ensures in
+    let o = c.rows_below-from.ensures in
     record { within = omega arith; children = λ l. children-first s.args.table.now s.requires.0.0 _ o.within o.fewer o.more; top-is = s.requires.0.2; filled = s.requires.1 }
 
-rows-below-requires : tie.Need-rows-below-requires invariant-loop decreases-loop
+rows-below-requires : tie.Need-rows_below-from-requires invariant-loop decreases-loop
 rows-below-requires c κs = search rules
 
-abbrev start : tie.At-loop invariant-loop decreases-loop → tie.Start invariant-loop decreases-loop
+abbrev start : tie.At-loop-i invariant-loop decreases-loop → tie.Start invariant-loop decreases-loop
 start l = l.before.before.before.before
 
-abbrev table : tie.At-loop invariant-loop decreases-loop → List ℤ
+abbrev table : tie.At-loop-i invariant-loop decreases-loop → List ℤ
 table l = (start l).args.table.now
 
-inside : (c : tie.In-loop invariant-loop decreases-loop) → c.before.loop.i < rows_of (table c.before)
-inside c = omega (arith, c.loop-test.true, (start c.before).pre.0.1.within)
+inside : (c : tie.In-loop-i invariant-loop decreases-loop) → c.before.loop-i.i < rows_of (table c.before)
+inside c = omega (arith, c.loop-i-test.true, (start c.before).requires.0.1.within)
 
-children-end-requires : tie.Need-children-end-requires invariant-loop decreases-loop
+children-end-requires : tie.Need-children_end-to-requires invariant-loop decreases-loop
 children-end-requires c κs =
     let l = c.before in
-    (row_in (table l) l.loop.i (inside c), accepted-good (table l) (start l).requires.0.0, l.loop.invariant.children (inside c))
+    (row_in (table l) l.loop-i.i (inside c), accepted-good (table l) (start l).requires.0.0, l.loop-i.invariant.children (inside c))
 
-place-row-requires : tie.Need-place-row-requires invariant-loop decreases-loop
+place-row-requires : tie.Need-place_row-top-requires invariant-loop decreases-loop
 place-row-requires c κs =
     let e = c.before.before.before in
     let i = e.before in
     let l = i.before in
     let s = start l in
-    ((s.pre.0.0, inside i, s.pre.0.1.fewer l.loop.i i.loop-test.true, l.loop.invariant.top-is, e.children-end.ensures, s.pre.0.3), filled-here l.loop.invariant.filled)
+    ((s.requires.0.0, inside i, s.requires.0.1.fewer l.loop-i.i i.loop-i-test.true, l.loop-i.invariant.top-is, e.children_end-to.ensures, s.requires.0.3), filled-here l.loop-i.invariant.filled)
 
-abbrev at : tie.After-place-row invariant-loop decreases-loop → tie.At-loop invariant-loop decreases-loop
+abbrev at : tie.After-place_row-top invariant-loop decreases-loop → tie.At-loop-i invariant-loop decreases-loop
 at c = c.before.before.before.before.before.before
 
 -- the slices keep their lengths
-base_kept : (l : tie.At-loop invariant-loop decreases-loop) → length l.loop.base ≡ length (start l).args.base.now
-base_kept l = filled-base l.loop.invariant.filled ∙ sym (filled-base (start l).requires.1)
+base_kept : (l : tie.At-loop-i invariant-loop decreases-loop) → length l.loop-i.base ≡ length (start l).args.base.now
+base_kept l = filled-base l.loop-i.invariant.filled ∙ sym (filled-base (start l).requires.1)
 
-work-kept : (l : tie.At-loop invariant-loop decreases-loop) → length l.loop.work ≡ length (start l).args.work.now
-work-kept l = l.loop.invariant.filled.each ∙ sym (start l).requires.1.each
+work-kept : (l : tie.At-loop-i invariant-loop decreases-loop) → length l.loop-i.work ≡ length (start l).args.work.now
+work-kept l = l.loop-i.invariant.filled.each ∙ sym (start l).requires.1.each
 
 -- row i's turn
-turn : (c : tie.After-place-row invariant-loop decreases-loop) → Tried (table (at c)) (length (start (at c)).args.check.now) (placed_nodes (table (at c)) (suc ((at c).loop.i + 1))) c.place-row.result c.place-row.new.1.1.1.0 c.place-row.new.1.1.1.1.0 c.place-row.new.1.1.1.1.1.1.0
+turn : (c : tie.After-place_row-top invariant-loop decreases-loop) → Tried (table (at c)) (length (start (at c)).args.check.now) (placed_nodes (table (at c)) (suc ((at c).loop-i.i + 1))) c.place_row-top.result c.place_row-top.new.1.1.1.0 c.place_row-top.new.1.1.1.1.0 c.place_row-top.new.1.1.1.1.1.1.0
 turn c =
-    let e : (at c).loop.i + 2 ≡ suc ((at c).loop.i + 1) = omega arith in
-    rw (e, filled-check (at c).loop.invariant.filled) at c.place-row.ensures
+    let e : (at c).loop-i.i + 2 ≡ suc ((at c).loop-i.i + 1) = omega arith in
+    rw (e, filled-check (at c).loop-i.invariant.filled) at c.place_row-top.ensures
 
-same_length : tie.Need-same-length invariant-loop decreases-loop
-same_length c = let p = c.before.before.before.before.before in p.place-row.auto.1.1.1.0 ∙ base_kept (at p)
+same_length : tie.Need-shape_of-base-then-check-top invariant-loop decreases-loop
+same_length c = let p = c.before.before.before.before.before in p.place_row-top.auto.1.1.1.0 ∙ base_kept (at p)
 
-same-length_2 : tie.Need-same-length-2 invariant-loop decreases-loop
-same-length_2 c = let p = c.before.before.before.before.before in p.place-row.auto.1.1.1.1.0 ∙ filled-check (at p).loop.invariant.filled
+same-length_2 : tie.Need-shape_of-check-then-check-top invariant-loop decreases-loop
+same-length_2 c = let p = c.before.before.before.before.before in p.place_row-top.auto.1.1.1.1.0 ∙ filled-check (at p).loop-i.invariant.filled
 
-same-length-3 : tie.Need-same-length-3 invariant-loop decreases-loop
-same-length-3 c = let p = c.before.before.before.before.before in p.place-row.auto.1.1.1.1.1.1.0 ∙ work-kept (at p)
+same-length-3 : tie.Need-shape_of-work-then-check-top invariant-loop decreases-loop
+same-length-3 c = let p = c.before.before.before.before.before in p.place_row-top.auto.1.1.1.1.1.1.0 ∙ work-kept (at p)
 
-returns : tie.Need-returns invariant-loop decreases-loop
+returns : tie.Need-returns-then-check-top invariant-loop decreases-loop
 returns c =
     let p = c.before.before.before.before.before in
-    over_refused (suc ((at p).loop.i + 1)) (omega (arith, c.if1.true, p.place-row.auto.1.1.1.1.0, filled-check (at p).loop.invariant.filled)) (turn p)
+    over_refused (suc ((at p).loop-i.i + 1)) (omega (arith, c.if-check-top.true, p.place_row-top.auto.1.1.1.1.0, filled-check (at p).loop-i.invariant.filled)) (turn p)
 
-add-i : tie.Need-overflow-add-i invariant-loop decreases-loop
+add-i : tie.Need-overflow_add-i invariant-loop decreases-loop
 add-i c = search rules
 
-loop-less : tie.Need-loop-smaller invariant-loop decreases-loop
-loop-less c = let p = c.before.before.before.before.before in omega (arith, p.before.before.before.before.before.loop-test.true)
+loop-less : tie.Need-loop-i-smaller invariant-loop decreases-loop
+loop-less c = let p = c.before.before.before.before.before in omega (arith, p.before.before.before.before.before.loop-i-test.true)
 
-loop-again : tie.Need-loop-preserved invariant-loop decreases-loop
+loop-again : tie.Need-loop-i-preserved invariant-loop decreases-loop
 loop-again c =
     let p = c.before.before.before.before.before in
     let l = at p in
     let T = turn p in
-    let room : p.place-row.result ≤ length (start l).args.check.now = omega (arith, c.if1.false, p.place-row.auto.1.1.1.1.0, filled-check l.loop.inv.filled) in
+    let room : p.place_row-top.result ≤ length (start l).args.check.now = omega (arith, c.if-check-top.false, p.place_row-top.auto.1.1.1.1.0, filled-check l.loop-i.inv.filled) in
     record {
-      within = omega (arith, p.before.before.before.before.before.loop-test.true);
-      children = λ h. rw (add-one l.loop.i) (children-next (table l) (start l).pre.0.0 _ _ _ (omega (arith, h)) (l.loop.inv.children (inside p.before.before.before.before.before)) p.before.before.before.before.children-end.ensures);
-      top-is = rw (add-one (l.loop.i + 1)) (omega (arith, T.answer));
-      filled = rw (add-one (l.loop.i + 1)) (T.filled room);
+      within = omega (arith, p.before.before.before.before.before.loop-i-test.true);
+      children = λ h. rw (add-one l.loop-i.i) (children-next (table l) (start l).requires.0.0 _ _ _ (omega (arith, h)) (l.loop-i.inv.children (inside p.before.before.before.before.before)) p.before.before.before.before.children_end-to.ensures);
+      top-is = rw (add-one (l.loop-i.i + 1)) (omega (arith, T.answer));
+      filled = rw (add-one (l.loop-i.i + 1)) (T.filled room);
     }
 
 -- the rows of fewer than n words are placed
-short-placed : (c : tie.After-loop invariant-loop decreases-loop) → c.before.loop.i ≡ (start c.before).args.shorter
-short-placed c = omega (arith, c.loop-test.false, c.before.loop.invariant.within)
+short-placed : (c : tie.After-loop-i invariant-loop decreases-loop) → c.before.loop-i.i ≡ (start c.before).args.shorter
+short-placed c = omega (arith, c.loop-i-test.false, c.before.loop-i.invariant.within)
 
-short-filled : (c : tie.After-loop invariant-loop decreases-loop) → Filled (table c.before) (length (start c.before).args.check.now) (placed_nodes (table c.before) ((start c.before).args.shorter + 1)) c.before.loop.base c.before.loop.check c.before.loop.work
-short-filled c = rw (short-placed c) at c.before.loop.invariant.filled
+short-filled : (c : tie.After-loop-i invariant-loop decreases-loop) → Filled (table c.before) (length (start c.before).args.check.now) (placed_nodes (table c.before) ((start c.before).args.shorter + 1)) c.before.loop-i.base c.before.loop-i.check c.before.loop-i.work
+short-filled c = rw (short-placed c) at c.before.loop-i.invariant.filled
 
-place-longest-requires : tie.Need-place-longest-requires invariant-loop decreases-loop
+place-longest-requires : tie.Need-place_longest-requires invariant-loop decreases-loop
 place-longest-requires c κs =
     let e = c.before.before in
     let s = start e.before in
-    ((s.pre.0.0, s.pre.0.1), (_, _, short-filled e))
+    ((s.requires.0.0, s.requires.0.1), (_, _, short-filled e))
 
-same-length-4 : tie.Need-same-length-4 invariant-loop decreases-loop
-same-length-4 c = c.before.place-longest.auto.1.1.0 ∙ base_kept c.before.before.before.before.before
+same-length-4 : tie.Need-shape_of-base invariant-loop decreases-loop
+same-length-4 c = c.before.place_longest.auto.1.1.0 ∙ base_kept c.before.before.before.before.before
 
-same-length-5 : tie.Need-same-length-5 invariant-loop decreases-loop
-same-length-5 c = filled-check c.before.before.before.before.before.loop.invariant.filled
+same-length-5 : tie.Need-shape_of-check invariant-loop decreases-loop
+same-length-5 c = filled-check c.before.before.before.before.before.loop-i.invariant.filled
 
-same-length-6 : tie.Need-same-length-6 invariant-loop decreases-loop
+same-length-6 : tie.Need-shape_of-work invariant-loop decreases-loop
 same-length-6 c = work-kept c.before.before.before.before.before
 
 tried_same : {t : List ℤ} {N q r : ℕ} {P : Placed} {base check : List ℤ} {work : List ℕ} → r ≡ q → Tried t N P q base check work → Tried t N P r base check work
 tried_same e T = rw e T
 
-returns_2 : tie.Need-returns-2 invariant-loop decreases-loop
+returns_2 : tie.Need-returns invariant-loop decreases-loop
 returns_2 c =
     let e = c.before.before.before.before in
     let l = e.before in
-    tried_same (l.loop.invariant.top-is ∙ ap (λ (i : ℕ). (placed_nodes (table l) (i + 1)).top) (short-placed e)) (c.before.place-longest.ensures _ _ (short-filled e))
+    tried_same (l.loop-i.invariant.top-is ∙ ap (λ (i : ℕ). (placed_nodes (table l) (i + 1)).top) (short-placed e)) (c.before.place_longest.ensures _ _ (short-filled e))
 
-pub place-rows-spec : {M : Type 1} → statement M
-place-rows-spec =
+pub place_rows_spec : {M : Type 1} → statement M
+place_rows_spec =
     tie.close
     (tie.spec
     invariant-loop

@@ -12,21 +12,21 @@ use Rattle.lookup.specs.declared.Lookup.TheVariants.{Found}
 use Rattle.lookup.proofs.found_at.Statement.{statement}
 use Rattle.lookup.proofs.found_at.Tie as tie
 
-enum-known-marker : tie.Need-enum-known-marker
+enum-known-marker : tie.Need-enum_known-marker
 enum-known-marker c = search rules
 
-enum_told : tie.Need-enum-told
+enum_told : tie.Need-enum_told-1
 enum_told c = search rules
 
-returns : tie.Need-returns
-returns c = sym (ap (λ (m : Marker). lookup_of (look_marker m)) c.enum_told.given.1)
+returns : tie.Need-returns-in_default
+returns c = sym (ap (λ (m : Marker). lookup_of (look_marker m)) c.enum_told-1.given.1)
 
-returns_2 : tie.Need-returns-2
+returns_2 : tie.Need-returns
 returns_2 c =
-    let m = c.before.marker.given in
-    let k : SFits w32 m.0.0 = sfits_of c.known-told.given.0.1 in
-    let n : SFits w32 m.0.1.0 = sfits_of c.known-told.given.1.0.1 in
+    let m = c.before.marker-1.given in
+    let k : SFits w32 m.0.0 = sfits_of c.known_told-1.given.0.1 in
+    let n : SFits w32 m.0.1.0 = sfits_of c.known_told-1.given.1.0.1 in
     ap₂ (λ (p b : ℤ). Found p b m.0.1.1.0) (to_z-of_z k) (to_z-of_z n) ∙ sym (ap (λ (k : Marker). lookup_of (look_marker k)) m.1)
 
-pub found-at-spec : {M : Type 1} → statement M
-found-at-spec = tie.close (tie.spec enum-known-marker enum_told returns returns_2)
+pub found_at_spec : {M : Type 1} → statement M
+found_at_spec = tie.close (tie.spec enum-known-marker enum_told returns returns_2)

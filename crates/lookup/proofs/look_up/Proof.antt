@@ -23,56 +23,56 @@ wanted s = lookup_outcome s.args.base.now s.args.check.now s.args.words.now
 answers : (s : tie.Start) {r : Lookup} → wanted s ≡ r → (r ≡ wanted s) × AnswerMeans s.args.base.now s.args.check.now s.args.words.now r
 answers s e = (sym e, subst (AnswerMeans s.args.base.now s.args.check.now s.args.words.now) e (lookup_means s.args.base.now s.args.check.now s.args.words.now))
 
-is-array-requires : tie.Need-is-array-requires
+is-array-requires : tie.Need-is_array-requires
 is-array-requires c κs = search rules
 
-returns : tie.Need-returns
+returns : tie.Need-returns-then-not-is_array
 returns c =
     let s = c.before.before.before in
-    let h : is_array s.args.base.now s.args.check.now ≡ false = sym c.before.is-array.ensures ∙ not-true _ c.if1.true in
+    let h : is_array s.args.base.now s.args.check.now ≡ false = sym c.before.is_array.ensures ∙ not-true _ c.if-not-is_array.true in
     answers s (lookup_no_array s.args.base.now s.args.check.now s.args.words.now h)
 
-cast-if3 : tie.Need-overflow-cast-if3
+cast-if3 : tie.Need-overflow_cast-t-9
 cast-if3 c = search rules
 
-array : (c : tie.Else1) → is_array c.before.before.before.args.base.now c.before.before.before.args.check.now ≡ true
-array c = sym c.before.is-array.ensures ∙ not-false _ c.if1.false
+array : (c : tie.Else-not-is_array) → is_array c.before.before.before.args.base.now c.before.before.before.args.check.now ≡ true
+array c = sym c.before.is_array.ensures ∙ not-false _ c.if-not-is_array.false
 
-returns_2 : tie.Need-returns-2
+returns_2 : tie.Need-returns-then-count-lt1
 returns_2 c =
     let s = c.before.before.before.before in
     answers s
     (⊎_elim
-    (λ v. lookup_nothing s.args.base.now s.args.check.now s.args.words.now (array c.before) v.taken)
+    (λ v. lookup_nothing s.args.base.now s.args.check.now s.args.words.now (array c.before) v.true)
     (λ v. lookup_above_five s.args.base.now s.args.check.now s.args.words.now (array c.before) (omega zarith))
     c.if2.branch)
 
-order-of-requires : tie.Need-order-of-requires
+order-of-requires : tie.Need-order_of-order-requires
 order-of-requires c κs = let s = c.before.before.before.before.before in (opened-head s.args.base.now s.args.check.now (array c.before.before)).order
 
 -- at most five words are left, and the fourth test compares them with the order
-few : (c : tie.Else3) → length c.before.before.before.before.before.args.words.now ≤ order_limit
+few : (c : tie.Else-count) → length c.before.before.before.before.before.args.words.now ≤ order_limit
 few c = omega zarith
 
-returns_3 : tie.Need-returns-3
+returns_3 : tie.Need-returns-then-order-count
 returns_3 c =
     let e = c.before.before in
     let s = e.before.before.before.before.before in
-    let h : order_in s.args.check.now < length s.args.words.now = rw c.before.order-of.ensures at c.if4.true in
+    let h : order_in s.args.check.now < length s.args.words.now = rw c.before.order_of-order.ensures at c.if-order-count.true in
     answers s (lookup_above_order s.args.base.now s.args.check.now s.args.words.now (array e.before.before) e.before.if2.false (few e) h)
 
 walk-requires : tie.Need-walk-requires
-walk-requires c κs = (array c.before.before.before.before, (c.before.order-of.ensures, (c.before.before.before.if2.false, c.if4.false)))
+walk-requires c κs = (array c.before.before.before.before, (c.before.order_of-order.ensures, (c.before.before.before.if2.false, c.if-order-count.false)))
 
-returns-4 : tie.Need-returns-4
+returns-4 : tie.Need-returns
 returns-4 c =
     let e = c.before.before.before in
     let s = e.before.before.before.before.before in
-    let h : length s.args.words.now ≤ order_in s.args.check.now = rw c.before.before.order-of.ensures at c.before.if4.false in
+    let h : length s.args.words.now ≤ order_in s.args.check.now = rw c.before.before.order_of-order.ensures at c.before.if-order-count.false in
     answers s (lookup_walks s.args.base.now s.args.check.now s.args.words.now (array e.before.before) e.before.if2.false h ∙ sym c.walk.ensures)
 
-pub look-up-spec : {M : Type 1} → statement M
-look-up-spec =
+pub look_up_spec : {M : Type 1} → statement M
+look_up_spec =
     tie.close
     (tie.spec
     is-array-requires

@@ -44,10 +44,10 @@ turn base check words s left p b e f m l h =
     ∙ look-down base check (length words - left) s p b e f (get_or words (left - 1) 0) (reverse (take (left - 1) words)) m
     ∙ ap (λ (i : ℕ). down_to (child_at base check s (get_or words (left - 1) 0)) (λ (t : ℕ). look_from base check i t (reverse (take (left - 1) words)))) deeper
 
-abbrev invariant-loop : tie.invariant-loop
+abbrev invariant-loop : tie.invariant-loop-left
 invariant-loop base check order words left₀ first s₀ left s = Walked base check words s left
 
-abbrev decreases-loop : tie.decreases-loop
+abbrev decreases-loop : tie.decreases-loop-left
 decreases-loop base check order words left₀ first s₀ left s = left
 
 sizes : (s : tie.Start invariant-loop decreases-loop) → Sizes s.args.base.now s.args.check.now
@@ -62,32 +62,32 @@ from s left t = look_from s.args.base.now s.args.check.now (length s.args.words.
 
 -- ---- the first word
 
-sub-left : tie.Need-overflow-sub-left invariant-loop decreases-loop
+sub-left : tie.Need-overflow_sub-left invariant-loop decreases-loop
 sub-left c = search rules
 
-mul-root-child : tie.Need-overflow-mul-root-child invariant-loop decreases-loop
+mul-root-child : tie.Need-offset_bounds-words-left invariant-loop decreases-loop
 mul-root-child c = search rules
 
-shared-slice-read-root-child : tie.Need-shared-slice-read-root-child invariant-loop decreases-loop
+shared-slice-read-root-child : tie.Need-bounds-words-left invariant-loop decreases-loop
 shared-slice-read-root-child c = search rules
 
-root-child-requires : tie.Need-root-child-requires invariant-loop decreases-loop
+root-child-requires : tie.Need-root_child-requires invariant-loop decreases-loop
 root-child-requires c κs = let s = c.before.before in (opened-head s.args.base.now s.args.check.now s.requires.0).root-check
 
-enum-known-first : tie.Need-enum-known-first invariant-loop decreases-loop
+enum-known-first : tie.Need-enum_known-first invariant-loop decreases-loop
 enum-known-first c = search rules
 
-enum_told : tie.Need-enum-told invariant-loop decreases-loop
+enum_told : tie.Need-enum_told-1 invariant-loop decreases-loop
 enum_told c = search rules
 
 abbrev newest : tie.Start invariant-loop decreases-loop → ℕ
 newest s = get_or s.args.words.now (length s.args.words.now - 1) 0
 
 -- the root's child is what `root_child` answered, and the walk goes on by it
-child-is : (c : tie.After-root-child invariant-loop decreases-loop) (r : Child) → c.root-child.result ≡ r → child_at c.before.before.before.args.base.now c.before.before.before.args.check.now 0 (newest c.before.before.before) ≡ r
-child-is c r e = let s = c.before.before.before in sym (root-child s.args.base.now s.args.check.now s.requires.0 (newest s)) ∙ sym c.root-child.ensures ∙ e
+child-is : (c : tie.After-root_child invariant-loop decreases-loop) (r : Child) → c.root_child.result ≡ r → child_at c.before.before.before.args.base.now c.before.before.before.args.check.now 0 (newest c.before.before.before) ≡ r
+child-is c r e = let s = c.before.before.before in sym (root-child s.args.base.now s.args.check.now s.requires.0 (newest s)) ∙ sym c.root_child.ensures ∙ e
 
-begun : (c : tie.After-root-child invariant-loop decreases-loop) (r : Child) → c.root-child.result ≡ r → whole c.before.before.before ≡ down_to r (from c.before.before.before (length c.before.before.before.args.words.now - 1))
+begun : (c : tie.After-root_child invariant-loop decreases-loop) (r : Child) → c.root_child.result ≡ r → whole c.before.before.before ≡ down_to r (from c.before.before.before (length c.before.before.before.args.words.now - 1))
 begun c r e =
     let s = c.before.before.before in
     let words = s.args.words.now in
@@ -96,124 +96,124 @@ begun c r e =
     ∙ turn s.args.base.now s.args.check.now words 0 (length words) _ _ _ _ (ap (λ (k : ℕ). marker_at s.args.base.now s.args.check.now k 0) (sym none) ∙ root-sound s.args.base.now s.args.check.now s.requires.0) s.requires.1.1.0 (omega arith)
     ∙ ap (λ (k : Child). down_to k (from s (length words - 1))) (child-is c r e)
 
-returns : tie.Need-returns invariant-loop decreases-loop
-returns c = sym (ap lookup_of (begun c.before.before Nothing c.enum_told.given.1))
+returns : tie.Need-returns-in_default invariant-loop decreases-loop
+returns c = sym (ap lookup_of (begun c.before.before Nothing c.enum_told-1.given.1))
 
-loop-holds : tie.Need-loop-init invariant-loop decreases-loop
+loop-holds : tie.Need-loop-left-init invariant-loop decreases-loop
 loop-holds c =
     let a = c.before in
     let r = a.before.before in
     let s = r.before.before.before in
     let z = sizes s in
-    let t = a.first.given.0.0 in
-    let h = child-inside s.args.base.now s.args.check.now 0 (newest s) t (child-is r (At t) a.first.given.1) in
+    let t = a.first-1.given.0.0 in
+    let h = child-inside s.args.base.now s.args.check.now 0 (newest s) t (child-is r (At t) a.first-1.given.1) in
     let some = s.requires.1.1.0 in
-    record { inside = omega arith; few = omega arith; rest = begun r (At t) a.first.given.1 }
+    record { inside = omega arith; few = omega arith; rest = begun r (At t) a.first-1.given.1 }
 
 -- ---- a node behind which there are more words
 
-abbrev start : tie.At-loop invariant-loop decreases-loop → tie.Start invariant-loop decreases-loop
+abbrev start : tie.At-loop-left invariant-loop decreases-loop → tie.Start invariant-loop decreases-loop
 start l = l.before.before.before.before.before.before.before
 
-kept-marker-requires : tie.Need-kept-marker-requires invariant-loop decreases-loop
-kept-marker-requires c κs = ((sizes (start c.before)).same, c.before.loop.invariant.inside)
+kept-marker-requires : tie.Need-kept_marker-requires invariant-loop decreases-loop
+kept-marker-requires c κs = ((sizes (start c.before)).same, c.before.loop-left.invariant.inside)
 
-enum-told-2 : tie.Need-enum-told-2 invariant-loop decreases-loop
+enum-told-2 : tie.Need-enum_told-in-Sound invariant-loop decreases-loop
 enum-told-2 c = search rules
 
-enum-told-3 : tie.Need-enum-told-3 invariant-loop decreases-loop
+enum-told-3 : tie.Need-enum_told-in_default-kept_marker invariant-loop decreases-loop
 enum-told-3 c = search rules
 
-found-at-requires : tie.Need-found-at-requires invariant-loop decreases-loop
+found-at-requires : tie.Need-found_at-requires invariant-loop decreases-loop
 found-at-requires c κs = search rules
 
 -- the node keeps its marker, which is what `kept_marker` answered
-marker_is : (c : tie.After-kept-marker invariant-loop decreases-loop) (m : Marker) → c.kept-marker.result ≡ m
-    → marker_at (start c.before.before).args.base.now (start c.before.before).args.check.now (length (start c.before.before).args.words.now - c.before.before.loop.left) c.before.before.loop.s ≡ m
+marker_is : (c : tie.After-kept_marker invariant-loop decreases-loop) (m : Marker) → c.kept_marker.result ≡ m
+    → marker_at (start c.before.before).args.base.now (start c.before.before).args.check.now (length (start c.before.before).args.words.now - c.before.before.loop-left.left) c.before.before.loop-left.s ≡ m
 marker_is c m e =
     let l = c.before.before in
     let a = (start l).args in
-    marker_kept a.base.now a.check.now (length a.words.now - l.loop.left) l.loop.s (λ q. absurd (omega (arith, c.before.loop-test.true, l.loop.invariant.few, (start l).requires.1.0, (start l).requires.1.1.1)))
-    ∙ sym c.kept-marker.ensures ∙ e
+    marker_kept a.base.now a.check.now (length a.words.now - l.loop-left.left) l.loop-left.s (λ q. absurd (omega (arith, c.before.loop-left-test.true, l.loop-left.invariant.few, (start l).requires.1.0, (start l).requires.1.1.1)))
+    ∙ sym c.kept_marker.ensures ∙ e
 
-returns_2 : tie.Need-returns-2 invariant-loop decreases-loop
+returns_2 : tie.Need-returns-in_default-kept_marker invariant-loop decreases-loop
 returns_2 c =
     let k = c.before.before.before in
     let l = k.before.before in
     let a = (start l).args in
     c.found_at.ensures
-    ∙ sym (ap lookup_of (l.loop.invariant.rest ∙ look-broken a.base.now a.check.now (length a.words.now - l.loop.left) l.loop.s (reverse (take l.loop.left a.words.now)) (marker_is k Broken c.before.enum-told3.given.1)))
+    ∙ sym (ap lookup_of (l.loop-left.invariant.rest ∙ look-broken a.base.now a.check.now (length a.words.now - l.loop-left.left) l.loop-left.s (reverse (take l.loop-left.left a.words.now)) (marker_is k Broken c.before.enum_told-in_default-kept_marker-1.given.1)))
 
-sub-left-2 : tie.Need-overflow-sub-left-2 invariant-loop decreases-loop
-sub-left-2 c = c.before.before.before.loop-test.true
+sub-left-2 : tie.Need-overflow_sub-left-in-loop-left invariant-loop decreases-loop
+sub-left-2 c = c.before.before.before.loop-left-test.true
 
-mul-find-child : tie.Need-overflow-mul-find-child invariant-loop decreases-loop
+mul-find-child : tie.Need-offset_bounds-words-left-in-loop-left invariant-loop decreases-loop
 mul-find-child c = search rules
 
-shared-slice-read-find-child : tie.Need-shared-slice-read-find-child invariant-loop decreases-loop
-shared-slice-read-find-child c = let l = c.before.before.before.before.before in omega (arith, l.loop.invariant.few)
+shared-slice-read-find-child : tie.Need-bounds-words-left-in-loop-left invariant-loop decreases-loop
+shared-slice-read-find-child c = let l = c.before.before.before.before.before in omega (arith, l.loop-left.invariant.few)
 
-find-child-requires : tie.Need-find-child-requires invariant-loop decreases-loop
-find-child-requires c κs = let l = c.before.before.before.before.before in (l.loop.invariant.inside, (sizes (start l)).high)
+find-child-requires : tie.Need-find_child-requires invariant-loop decreases-loop
+find-child-requires c κs = let l = c.before.before.before.before.before in (l.loop-left.invariant.inside, (sizes (start l)).high)
 
-enum-known-t : tie.Need-enum-known-t invariant-loop decreases-loop
+enum-known-t : tie.Need-enum_known-t invariant-loop decreases-loop
 enum-known-t c = search rules
 
-enum-told-4 : tie.Need-enum-told-4 invariant-loop decreases-loop
+enum-told-4 : tie.Need-enum_told-in_default-find_child invariant-loop decreases-loop
 enum-told-4 c = search rules
 
-abbrev asked : tie.After-find-child invariant-loop decreases-loop → tie.After-kept-marker invariant-loop decreases-loop
+abbrev asked : tie.After-find_child invariant-loop decreases-loop → tie.After-kept_marker invariant-loop decreases-loop
 asked c = c.before.before.before.before
 
-abbrev looped : tie.After-find-child invariant-loop decreases-loop → tie.At-loop invariant-loop decreases-loop
+abbrev looped : tie.After-find_child invariant-loop decreases-loop → tie.At-loop-left invariant-loop decreases-loop
 looped c = (asked c).before.before
 
 -- the walk goes on by what `find_child` answered
-onward : (c : tie.After-find-child invariant-loop decreases-loop) (r : Child) → c.find-child.result ≡ r → whole (start (looped c)) ≡ down_to r (from (start (looped c)) ((looped c).loop.left - 1))
+onward : (c : tie.After-find_child invariant-loop decreases-loop) (r : Child) → c.find_child.result ≡ r → whole (start (looped c)) ≡ down_to r (from (start (looped c)) ((looped c).loop-left.left - 1))
 onward c r e =
     let l = looped c in
     let a = (start l).args in
-    let m = c.before.before.enum-told2.given in
-    let few = l.loop.inv.few in
-    l.loop.inv.rest
-    ∙ turn a.base.now a.check.now a.words.now l.loop.s l.loop.left m.0.0 m.0.1.0 m.0.1.1.0 m.0.1.1.1.0 (marker_is (asked c) _ m.1) (asked c).before.loop-test.true (omega arith)
-    ∙ ap (λ (k : Child). down_to k (from (start l) (l.loop.left - 1))) (sym c.find-child.ensures.0 ∙ e)
+    let m = c.before.before.enum_told-in-Sound-1.given in
+    let few = l.loop-left.inv.few in
+    l.loop-left.inv.rest
+    ∙ turn a.base.now a.check.now a.words.now l.loop-left.s l.loop-left.left m.0.0 m.0.1.0 m.0.1.1.0 m.0.1.1.1.0 (marker_is (asked c) _ m.1) (asked c).before.loop-left-test.true (omega arith)
+    ∙ ap (λ (k : Child). down_to k (from (start l) (l.loop-left.left - 1))) (sym c.find_child.ensures.0 ∙ e)
 
-returns_3 : tie.Need-returns-3 invariant-loop decreases-loop
-returns_3 c = sym (ap lookup_of (onward c.before.before Nothing c.enum-told4.given.1))
+returns_3 : tie.Need-returns-in_default-find_child invariant-loop decreases-loop
+returns_3 c = sym (ap lookup_of (onward c.before.before Nothing c.enum_told-in_default-find_child-1.given.1))
 
-loop-less : tie.Need-loop-smaller invariant-loop decreases-loop
-loop-less c = let h = (asked c.before.before.before).before.loop-test.taken in omega arith
+loop-less : tie.Need-loop-left-smaller invariant-loop decreases-loop
+loop-less c = let h = (asked c.before.before.before).before.loop-left-test.true in omega arith
 
-loop-again : tie.Need-loop-preserved invariant-loop decreases-loop
+loop-again : tie.Need-loop-left-preserved invariant-loop decreases-loop
 loop-again c =
     let r = c.before.before.before in
     let z = sizes (start (looped r)) in
-    let h = r.find-child.ensures.1 c.before.t.given.0.0 c.before.t.given.1 in
-    record { inside = omega arith; few = omega (arith, (looped r).loop.invariant.few); rest = onward r (At c.before.t.given.0.0) c.before.t.given.1 }
+    let h = r.find_child.ensures.1 c.before.t-1.given.0.0 c.before.t-1.given.1 in
+    record { inside = omega arith; few = omega (arith, (looped r).loop-left.invariant.few); rest = onward r (At c.before.t-1.given.0.0) c.before.t-1.given.1 }
 
 -- ---- the last node
 
-read-marker-requires : tie.Need-read-marker-requires invariant-loop decreases-loop
-read-marker-requires c κs = let s = start c.before in ((sizes s).same, (c.before.loop.invariant.inside, s.pre.1.0))
+read-marker-requires : tie.Need-read_marker-requires invariant-loop decreases-loop
+read-marker-requires c κs = let s = start c.before in ((sizes s).same, (c.before.loop-left.invariant.inside, s.requires.1.0))
 
-found-at-requires-2 : tie.Need-found-at-requires-2 invariant-loop decreases-loop
+found-at-requires-2 : tie.Need-found_at-requires-2 invariant-loop decreases-loop
 found-at-requires-2 c κs = search rules
 
-returns-4 : tie.Need-returns-4 invariant-loop decreases-loop
+returns-4 : tie.Need-returns invariant-loop decreases-loop
 unfolding look_from
 returns-4 c =
     let r = c.before in
     let l = r.before.before in
     let a = (start l).args in
-    let none : l.loop.left ≡ 0 = omega (arith, r.before.loop-test.false) in
-    let deep : length a.words.now - l.loop.left ≡ length a.words.now = omega (arith, none) in
-    c.found-at2.ensures
-    ∙ ap (λ (m : Marker). lookup_of (look_marker m)) r.read-marker.ensures
-    ∙ sym (ap lookup_of (l.loop.invariant.rest ∙ ap₂ (λ (k i : ℕ). look_from a.base.now a.check.now k l.loop.s (reverse (take i a.words.now))) deep none))
+    let none : l.loop-left.left ≡ 0 = omega (arith, r.before.loop-left-test.false) in
+    let deep : length a.words.now - l.loop-left.left ≡ length a.words.now = omega (arith, none) in
+    c.found_at-2.ensures
+    ∙ ap (λ (m : Marker). lookup_of (look_marker m)) r.read_marker.ensures
+    ∙ sym (ap lookup_of (l.loop-left.invariant.rest ∙ ap₂ (λ (k i : ℕ). look_from a.base.now a.check.now k l.loop-left.s (reverse (take i a.words.now))) deep none))
 
-pub walk-spec : {M : Type 1} → statement M
-walk-spec =
+pub walk_spec : {M : Type 1} → statement M
+walk_spec =
     tie.close
     (tie.spec
     invariant-loop

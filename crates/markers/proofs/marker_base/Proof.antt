@@ -51,22 +51,22 @@ packed b e f =
     omega
     (zarith, mul 4 b, mul 2 (bit e), add (pos 4 *ℤ b) (pos 2 *ℤ bit e), add (pos 4 *ℤ b +ℤ pos 2 *ℤ bit e) (bit f), mul 2 b, add (pos 2 *ℤ b) (bit e), mul 2 (twice b e), add (pos 2 *ℤ twice b e) (bit f))
 
-mul-result : tie.Need-overflow-mul-result
+mul-result : tie.Need-overflow_mul-result
 mul-result c = rw (to_z-of_z c.ranges.b) (four-fits c)
 
-cast-result : tie.Need-overflow-cast-result
+cast-result : tie.Need-overflow_cast-result
 cast-result c = search rules
 
-mul-result-2 : tie.Need-overflow-mul-result-2
+mul-result-2 : tie.Need-overflow_mul-result-2
 mul-result-2 c = rw (cast_bit c.args.e) (two_fits c)
 
-add-result : tie.Need-overflow-add-result
+add-result : tie.Need-overflow_add-result
 add-result c = rw (to_z-of_z c.ranges.b, cast_bit c.args.e, to_z-of_z (four-fits c), to_z-of_z (two_fits c)) (both_fit c)
 
-cast-result-2 : tie.Need-overflow-cast-result-2
+cast-result-2 : tie.Need-overflow_cast-result-2
 cast-result-2 c = search rules
 
-add-result-2 : tie.Need-overflow-add-result-2
+add-result-2 : tie.Need-overflow_add-result-2
 add-result-2 c =
     rw (to_z-of_z c.ranges.b, cast_bit c.args.e, cast_bit c.args.f, to_z-of_z (four-fits c), to_z-of_z (two_fits c), to_z-of_z (both_fit c)) (all_fit c)
 
@@ -75,5 +75,12 @@ returns c =
     rw (to_z-of_z c.ranges.b, cast_bit c.args.e, cast_bit c.args.f, to_z-of_z (four-fits c), to_z-of_z (two_fits c), to_z-of_z (both_fit c), to_z-of_z (all_fit c))
     (packed c.args.b c.args.e c.args.f)
 
-pub marker-base-spec : {M : Type 1} → statement M
-marker-base-spec = tie.close (tie.spec mul-result cast-result mul-result-2 add-result cast-result-2 add-result-2 returns)
+pub marker_base_spec : {M : Type 1} → statement M
+marker_base_spec = tie.close (tie.spec
+    mul-result
+    cast-result
+    mul-result-2
+    add-result
+    cast-result-2
+    add-result-2
+    returns)

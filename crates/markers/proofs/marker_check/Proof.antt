@@ -9,7 +9,7 @@ use Rattle.backoff.specs.Model.{in_probability}
 use Rattle.markers.proofs.marker_check.Statement.{statement}
 use Rattle.markers.proofs.marker_check.Tie as tie
 
-sub-result : tie.Need-overflow-sub-result
+sub-result : tie.Need-overflow_sub-result
 unfolding in_probability
 sub-result c =
     let l = between-low least_probability (pos 0) c.args.p c.requires in
@@ -19,5 +19,5 @@ sub-result c =
 returns : tie.Need-returns
 returns c = to_z-of_z (sub-result c) ∙ ap (λ (z : ℤ). z -ℤ pos 1) (to_z-of_z c.ranges.p)
 
-pub marker-check-spec : {M : Type 1} → statement M
-marker-check-spec = tie.close (tie.spec sub-result returns)
+pub marker_check_spec : {M : Type 1} → statement M
+marker_check_spec = tie.close (tie.spec sub-result returns)

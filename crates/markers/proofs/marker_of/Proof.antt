@@ -80,20 +80,20 @@ range_is s =
     rw (to_z-of_z s.ranges.check, to_z-of_z s.ranges.base, next_low s.args.check, next-high s.args.check, quarter_low s.args.base, quarter_high s.args.base)
     (sym (and_assoc (le_z (least_probability -ℤ pos 1) s.args.check && lt_z s.args.check (pos 0)) (le_z (neg_ℤ (pos (4 * largest_backoff))) s.args.base) (le_z s.args.base (pos (4 * largest_backoff + 3)))))
 
-returns : tie.Need-returns
+returns : tie.Need-returns-then-not-inside
 returns c =
     let s = c.before in
-    sym (marker_broken s.args.check s.args.base (range_is s ∙ not-true (range_test s) c.if1.true))
+    sym (marker_broken s.args.check s.args.base (range_is s ∙ not-true (range_test s) c.if-not-inside.true))
 
-range_yes : (c : tie.Else1) → (in_probability (p c.before) && in_backoff (b c.before)) ≡ true
-range_yes c = range_is c.before ∙ not-false (range_test c.before) c.if1.false
+range_yes : (c : tie.Else-not-inside) → (in_probability (p c.before) && in_backoff (b c.before)) ≡ true
+range_yes c = range_is c.before ∙ not-false (range_test c.before) c.if-not-inside.false
 
 -- p is at most 0
-p-high : (c : tie.Else1) → p c.before ≤ℤ pos 0
+p-high : (c : tie.Else-not-inside) → p c.before ≤ℤ pos 0
 unfolding in_probability
 p-high c = let s = c.before in between-high least_probability (pos 0) (p s) (and_left (in_probability (p s)) (in_backoff (b s)) (range_yes c))
 
-add-p : tie.Need-overflow-add-p
+add-p : tie.Need-overflow_add-p
 add-p c = let h = p-high c in omega (zarith, fit c.before.ranges.check, add c.before.args.check (pos 1))
 
 upper_fits : (s : tie.Start) → SFits w32 (half s.args.base)
@@ -111,11 +111,11 @@ same_marker h k l m = cc
 upper_odd : (s : tie.Start) → eqb (bit_and (of_z w32 (half (to_z w32 (of_z w32 s.args.base)))) 1) 1 ≡ odd (half s.args.base)
 upper_odd s = rw (to_z-of_z s.ranges.base) (lowest_bit (upper_fits s))
 
-returns_2 : tie.Need-returns-2
+returns_2 : tie.Need-returns
 returns_2 c =
     let s = c.before in
     let p-is = to_z-of_z (add-p c) ∙ ap (λ (z : ℤ). z +ℤ pos 1) (to_z-of_z s.ranges.check) in
     same_marker p-is (b-is s) (upper_odd s) (lowest_bit s.ranges.base) ∙ sym (marker_sound s.args.check s.args.base (range_yes c))
 
-pub marker-of-spec : {M : Type 1} → statement M
-marker-of-spec = tie.close (tie.spec returns add-p returns_2)
+pub marker_of_spec : {M : Type 1} → statement M
+marker_of_spec = tie.close (tie.spec returns add-p returns_2)

@@ -23,25 +23,25 @@ begun p = p.before.before.before.before.before.before
 none : (p : tie.After-wipe) → let t = (begun p).args.table.now in Filled t (length (begun p).args.check.now) (placed_nodes t 0) p.wipe.new.0 p.wipe.new.1.0 p.wipe.new.1.1.0
 none p = filled_none (begun p).args.table.now (begun p).requires p.wipe.ensures
 
-place-nodes-requires : tie.Need-place-nodes-requires
+place-nodes-requires : tie.Need-place_nodes-top-requires
 place-nodes-requires c κs = let p = c.before.before.before.before.before.before.before in (((begun p).requires.accepted, (begun p).requires.flags), filled-here (none p))
 
-abbrev wiped : tie.After-place-nodes → tie.After-wipe
+abbrev wiped : tie.After-place_nodes-top → tie.After-wipe
 wiped c = c.before.before.before.before.before.before.before.before
 
-abbrev start : tie.After-place-nodes → tie.Start
+abbrev start : tie.After-place_nodes-top → tie.Start
 start c = begun (wiped c)
 
-tried : (c : tie.After-place-nodes) → Tried (start c).args.table.now (length (start c).args.check.now) (placed_list (start c).args.table.now) c.place-nodes.result c.place-nodes.new.1.0 c.place-nodes.new.1.1.0 c.place-nodes.new.1.1.1.1.0
-tried c = rw (filled-check (none (wiped c))) at c.place-nodes.ensures
+tried : (c : tie.After-place_nodes-top) → Tried (start c).args.table.now (length (start c).args.check.now) (placed_list (start c).args.table.now) c.place_nodes-top.result c.place_nodes-top.new.1.0 c.place_nodes-top.new.1.1.0 c.place_nodes-top.new.1.1.1.1.0
+tried c = rw (filled-check (none (wiped c))) at c.place_nodes-top.ensures
 
 -- where all nodes have room
-room : (e : tie.Then1) → let c = e.before.before.before.before.before in c.place-nodes.result ≤ length (start c).args.check.now
-room e = let c = e.before.before.before.before.before in omega (arith, e.if1.true, c.place-nodes.auto.1.1.0, filled-check (none (wiped c)))
+room : (e : tie.Then-top-check) → let c = e.before.before.before.before.before in c.place_nodes-top.result ≤ length (start c).args.check.now
+room e = let c = e.before.before.before.before.before in omega (arith, e.if-top-check.true, c.place_nodes-top.auto.1.1.0, filled-check (none (wiped c)))
 
 -- the slices with links, once all nodes are placed
-linked : (e : tie.Then1) → let c = e.before.before.before.before.before in let t = (start c).args.table.now in
-    Linked (length (start c).args.check.now) (placed_list t).base (placed_list t).check c.place-nodes.new.1.0 c.place-nodes.new.1.1.0
+linked : (e : tie.Then-top-check) → let c = e.before.before.before.before.before in let t = (start c).args.table.now in
+    Linked (length (start c).args.check.now) (placed_list t).base-1 (placed_list t).check-1 c.place_nodes-top.new.1.0 c.place_nodes-top.new.1.1.0
 linked e = ((tried e.before.before.before.before.before).filled (room e)).linked
 
 finish-requires : tie.Need-finish-requires
@@ -49,49 +49,49 @@ finish-requires c κs =
     let e = c.before.before in
     ((start e.before.before.before.before.before).requires.accepted, record { N = _; b = _; c = _; linked = linked e })
 
-same_length : tie.Need-same-length
+same_length : tie.Need-shape_of-base-then-top-check
 same_length c = search rules
 
-same-length_2 : tie.Need-same-length-2
+same-length_2 : tie.Need-shape_of-check-then-top-check
 same-length_2 c = search rules
 
-same-length-3 : tie.Need-same-length-3
+same-length-3 : tie.Need-shape_of-work-then-top-check
 same-length-3 c = search rules
 
-returns : tie.Need-returns
+returns : tie.Need-returns-then-top-check
 returns c =
     let f = c.before.before in
     let e = f.before.before.before in
     let n = e.before.before.before.before.before in
     let s = start n in
-    built-accepted s.args.table.now s.args.base.now s.args.check.now s.args.work.now (sizes_told _ _ s.pre.sizes).same s.pre.each s.pre.accepted (room e) (tried n)
-    (f.finish.ensures _ _ _ (linked e) (λ u l. list-past s.args.table.now s.pre.accepted u (omega (arith, room e, (tried n).answer))))
+    built-accepted s.args.table.now s.args.base.now s.args.check.now s.args.work.now (sizes_told _ _ s.requires.sizes).same s.requires.each s.requires.accepted (room e) (tried n)
+    (f.finish.ensures _ _ _ (linked e) (λ u l. list-past s.args.table.now s.requires.accepted u (omega (arith, room e, (tried n).answer))))
 
 wipe-requires-2 : tie.Need-wipe-requires-2
 wipe-requires-2 c κs = search rules
 
-same-length-4 : tie.Need-same-length-4
+same-length-4 : tie.Need-shape_of-base
 same-length-4 c = search rules
 
-same-length-5 : tie.Need-same-length-5
+same-length-5 : tie.Need-shape_of-check
 same-length-5 c = search rules
 
-same-length-6 : tie.Need-same-length-6
+same-length-6 : tie.Need-shape_of-work
 same-length-6 c = search rules
 
-returns_2 : tie.Need-returns-2
+returns_2 : tie.Need-returns
 returns_2 c =
     let w = c.before.before.before.before in
     let e = w.before.before.before.before in
     let n = e.before.before.before.before.before in
     let s = start n in
     let p = (wiped n).wipe.auto in
-    let k = n.place-nodes.auto in
-    built-refused s.args.table.now s.args.base.now s.args.check.now s.args.work.now (sizes_told _ _ s.pre.sizes).same s.pre.each (omega (arith, e.if1.false, k.1.1.0, filled-check (none (wiped n)))) (tried n)
-    (k.1.0 ∙ p.0) (k.1.1.0 ∙ p.1.0) (k.1.1.1.1.0 ∙ p.1.1.0) w.wipe2.ensures
+    let k = n.place_nodes-top.auto in
+    built-refused s.args.table.now s.args.base.now s.args.check.now s.args.work.now (sizes_told _ _ s.requires.sizes).same s.requires.each (omega (arith, e.if-top-check.false, k.1.1.0, filled-check (none (wiped n)))) (tried n)
+    (k.1.0 ∙ p.0) (k.1.1.0 ∙ p.1.0) (k.1.1.1.1.0 ∙ p.1.1.0) w.wipe-2.ensures
 
-pub place-list-spec : {M : Type 1} → statement M
-place-list-spec =
+pub place_list_spec : {M : Type 1} → statement M
+place_list_spec =
     tie.close
     (tie.spec
     wipe-requires

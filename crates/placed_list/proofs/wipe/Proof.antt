@@ -12,26 +12,26 @@ fill-requires-2 c κs = search rules
 zero-requires : tie.Need-zero-requires
 zero-requires c κs = search rules
 
-abbrev checked : tie.After-zero → tie.After-fill2
+abbrev checked : tie.After-zero → tie.After-fill-2
 checked z = z.before.before.before
 
 abbrev based : tie.After-zero → tie.After-fill
 based z = (checked z).before.before.before
 
-same_length : tie.Need-same-length
+same_length : tie.Need-shape_of-base
 same_length c = (based c.before.before).fill.auto.0
 
-same-length_2 : tie.Need-same-length-2
-same-length_2 c = (checked c.before.before).fill2.auto.0
+same-length_2 : tie.Need-shape_of-check
+same-length_2 c = (checked c.before.before).fill-2.auto.0
 
-same-length-3 : tie.Need-same-length-3
+same-length-3 : tie.Need-shape_of-work
 same-length-3 c = c.before.before.zero.auto.0
 
 returns : tie.Need-returns
-returns c = let z = c.before.before in record { base-free = (based z).fill.ensures; check-free = (checked z).fill2.ensures; items-zero = z.zero.ensures }
+returns c = let z = c.before.before in record { base-free = (based z).fill.ensures; check-free = (checked z).fill-2.ensures; items-zero = z.zero.ensures }
 
-pub wipe-spec : {M : Type 1} → statement M
-wipe-spec =
+pub wipe_spec : {M : Type 1} → statement M
+wipe_spec =
     tie.close
     (tie.spec
     fill-requires

@@ -24,17 +24,17 @@ model s = model_of s.args.table.now
 accepted : (s : tie.Start) → AcceptedModel (model s)
 accepted s = accepted-model _ s.requires.0
 
-replaced-requires : tie.Need-replaced-requires
+replaced-requires : tie.Need-replaced-known-requires
 replaced-requires c κs = search rules
 
-module _ (c : tie.After-replaced) where
-  known_is : to_z w32 (of_z w32 c.replaced.result) ≡ pos (replaced (model c.before) c.before.args.word)
-  known_is = let f : SFits w32 c.replaced.result = sfits_of c.replaced.type-inv in to_z-of_z f ∙ c.replaced.ensures
+module _ (c : tie.After-replaced-known) where
+  known_is : to_z w32 (of_z w32 c.replaced-known.result) ≡ pos (replaced (model c.before) c.before.args.word)
+  known_is = let f : SFits w32 c.replaced-known.result = sfits_of c.replaced-known.type_inv in to_z-of_z f ∙ c.replaced-known.ensures
 
-  word-is : word_of (to_z w32 (of_z w32 c.replaced.result)) ≡ replaced (model c.before) c.before.args.word
+  word-is : word_of (to_z w32 (of_z w32 c.replaced-known.result)) ≡ replaced (model c.before) c.before.args.word
   word-is = ap word_of known_is ∙ word_of-pos _ (first_limit _ [] (replaced-is-word (model c.before) c.before.args.word (accepted c.before)))
 
-score-word-requires : tie.Need-score-word-requires
+score-word-requires : tie.Need-score_word-scored-requires
 score-word-requires c κs =
     let s = c.before in
     (s.requires.0, s.requires.1, rw (word-is c) (replaced-listed (model s) (accepted s) s.args.word))
@@ -42,19 +42,19 @@ score-word-requires c κs =
 push-requires : tie.Need-push-requires
 push-requires c κs = search rules
 
-points-fits : (c : tie.After-struct-told) → SFits w32 c.before.before.score-word.result.points
-points-fits c = sfits_of c.struct_told.given.0.1
+points-fits : (c : tie.After-struct_told-1) → SFits w32 c.before.before.score_word-scored.result.points
+points-fits c = sfits_of c.struct_told-1.given.0.1
 
 returns : tie.Need-returns
 returns c =
     let p = c.before in
     let x = p.before in
-    let k = rw (word-is x.before) at x.score-word.ensures in
+    let k = rw (word-is x.before) at x.score_word-scored.ensures in
     record {
       points_are = to_z-of_z (points-fits c) ∙ k.points_are;
       byte_is = k.byte_is;
       recent_is = p.push.ensures ∙ rw (known_is x.before);
     }
 
-pub score-next-spec : {M : Type 1} → statement M
-score-next-spec = tie.close (tie.spec replaced-requires score-word-requires push-requires returns)
+pub score_next_spec : {M : Type 1} → statement M
+score_next_spec = tie.close (tie.spec replaced-requires score-word-requires push-requires returns)

@@ -15,43 +15,43 @@ use Rattle.plain_history.proofs.Newest.{history_part, history-are_words, history
 use Rattle.plain.proofs.score_word.Statement.{statement}
 use Rattle.plain.proofs.score_word.Tie as tie
 
-sub-oldest : tie.Need-overflow-sub-oldest
+sub-oldest : tie.Need-overflow_sub-oldest
 sub-oldest c = omega (arith, c.before.before.requires.1.few)
 
-mul-score-after : tie.Need-overflow-mul-score-after
+mul-score-after : tie.Need-offset_bounds-words-oldest
 mul-score-after c = search rules
 
-sub-score-after : tie.Need-overflow-sub-score-after
+sub-score-after : tie.Need-slice_bounds-score_after-count
 sub-score-after c = search rules
 
-part-score-after-start : tie.Need-slice-bounds-score-after-start
+part-score-after-start : tie.Need-slice_bounds-score_after-start
 part-score-after-start c = search rules
 
-part-score-after-end : tie.Need-slice-bounds-score-after-end
+part-score-after-end : tie.Need-slice_bounds-score_after-end
 part-score-after-end c = search rules
 
-score_after_requires : tie.Need-score-after-requires
+score_after_requires : tie.Need-score_after-score-requires
 score_after_requires c κs =
     let s = c.before.before.before.before in
     let k = s.requires.1 in
     (s.requires.0, rw (history_part _ k) (history-are_words _ k), rw (to_z-of_z s.ranges.word) s.requires.2)
 
-abbrev start : tie.After-score-after → tie.Start
+abbrev start : tie.After-score_after-score → tie.Start
 start c = c.before.before.before.before.before
 
-score_is : (c : tie.After-score-after) → IsScore (start c).args.table.now (text_rule (model_of (start c).args.table.now) (in_use (start c).args.recent) (word_of (start c).args.word)) c.score-after.result
+score_is : (c : tie.After-score_after-score) → IsScore (start c).args.table.now (text_rule (model_of (start c).args.table.now) (in_use (start c).args.recent) (word_of (start c).args.word)) c.score_after-score.result
 score_is c =
     let s = start c in
-    rw (history_part _ s.pre.1, to_z-of_z s.fits.word) at c.score-after.ensures
+    rw (history_part _ s.requires.1, to_z-of_z s.fits.word) at c.score_after-score.ensures
 
-byte-of-requires : tie.Need-byte-of-requires
+byte-of-requires : tie.Need-byte_of-requires
 byte-of-requires c κs =
     let s = start c in
-    let k = s.pre.1 in
-    (s.pre.0, (score_is c).row_is.within, rw (score_is c).matched-is (omega (arith, k.few, history-length _ k, text-matched (model_of s.args.table.now) (word_of s.args.word) (in_use s.args.recent))))
+    let k = s.requires.1 in
+    (s.requires.0, (score_is c).row_is.within, rw (score_is c).matched-is (omega (arith, k.few, history-length _ k, text-matched (model_of s.args.table.now) (word_of s.args.word) (in_use s.args.recent))))
 
-points-fits : (c : tie.After-struct-told) → SFits w32 c.before.before.score-after.result.points
-points-fits c = sfits_of c.struct_told.given.0.1
+points-fits : (c : tie.After-struct_told-1) → SFits w32 c.before.before.score_after-score.result.points
+points-fits c = sfits_of c.struct_told-1.given.0.1
 
 returns : tie.Need-returns
 returns c =
@@ -63,8 +63,8 @@ returns c =
       byte_is = rw (k.matched-is, to_z-of_z (start x).ranges.word, k.row_is.extended-is) at b.byte_of.ensures;
     }
 
-pub score-word-spec : {M : Type 1} → statement M
-score-word-spec =
+pub score_word_spec : {M : Type 1} → statement M
+score_word_spec =
     tie.close
     (tie.spec
     sub-oldest

@@ -14,11 +14,11 @@ use Rattle.plain.proofs.Run.{Scoring, scoring_none, scoring_more, total-added, p
 use Rattle.plain.proofs.score_words.Statement.{statement}
 use Rattle.plain.proofs.score_words.Tie as tie
 
-abbrev invariant-loop : tie.invariant-loop
+abbrev invariant-loop : tie.invariant-loop-i
 invariant-loop table n after-start words points₀ lengths₀ starts most recent₀ total₀ i₀ i-end points lengths recent total i =
     Scoring (model_of table) after-start words points₀ lengths₀ points lengths recent (to_z w64 total) i
 
-abbrev decreases-loop : tie.decreases-loop
+abbrev decreases-loop : tie.decreases-loop-i
 decreases-loop table n after-start words points₀ lengths₀ starts most recent₀ total₀ i₀ i-end points lengths recent total i =
     i-end - i
 
@@ -32,86 +32,86 @@ most-is : (s : tie.Start invariant-loop decreases-loop) → s.args.n - 1 ≡ rea
 unfolding reach model_of
 most-is s = rw s.requires.1
 
-find-starts-requires : tie.Need-find-starts-requires invariant-loop decreases-loop
+find-starts-requires : tie.Need-find_starts-starts-requires invariant-loop decreases-loop
 find-starts-requires c κs = search rules
 
-sub-most : tie.Need-overflow-sub-most invariant-loop decreases-loop
+sub-most : tie.Need-overflow_sub-most invariant-loop decreases-loop
 unfolding model_of
 sub-most c = let s = c.before.before.before in omega (arith, s.requires.1, (accepted s).order-low)
 
-begin-requires : tie.Need-begin-requires invariant-loop decreases-loop
+begin-requires : tie.Need-begin-recent-requires invariant-loop decreases-loop
 begin-requires c κs = search rules
 
-loop-holds : tie.Need-loop-init invariant-loop decreases-loop
+loop-holds : tie.Need-loop-i-init invariant-loop decreases-loop
 loop-holds c =
     let s = c.before.before.before.before in
-    rw (c.begin.ensures, most-is s) (scoring_none (accepted s) _ _ _ _)
+    rw (c.begin-recent.ensures, most-is s) (scoring_none (accepted s) _ _ _ _)
 
-abbrev start : tie.At-loop invariant-loop decreases-loop → tie.Start invariant-loop decreases-loop
+abbrev start : tie.At-loop-i invariant-loop decreases-loop → tie.Start invariant-loop decreases-loop
 start l = l.before.before.before.before.before
 
-mul-score-next : tie.Need-overflow-mul-score-next invariant-loop decreases-loop
+mul-score-next : tie.Need-offset_bounds-words-i invariant-loop decreases-loop
 mul-score-next c = search rules
 
-shared-slice-read-score-next : tie.Need-shared-slice-read-score-next invariant-loop decreases-loop
+shared-slice-read-score-next : tie.Need-bounds-words-i invariant-loop decreases-loop
 shared-slice-read-score-next c = search rules
 
-score-next-requires : tie.Need-score-next-requires invariant-loop decreases-loop
+score-next-requires : tie.Need-score_next-next-requires invariant-loop decreases-loop
 score-next-requires c κs =
     let l = c.before.before.before in
     let s = start l in
-    (s.pre.0, l.loop.invariant.holds.places)
+    (s.requires.0, l.loop-i.invariant.holds.places)
 
-mul-p : tie.Need-overflow-mul-p invariant-loop decreases-loop
+mul-p : tie.Need-offset_bounds-points-i invariant-loop decreases-loop
 mul-p c = search rules
 
-abbrev turn : tie.After-struct-told invariant-loop decreases-loop → tie.At-loop invariant-loop decreases-loop
+abbrev turn : tie.After-struct_told-1 invariant-loop decreases-loop → tie.At-loop-i invariant-loop decreases-loop
 turn c = c.before.before.before.before.before
 
-slice-set-from-p : tie.Need-slice-set-from-p invariant-loop decreases-loop
-slice-set-from-p c = omega (arith, points-length (turn c).loop.invariant (start (turn c)).pre.3)
+slice-set-from-p : tie.Need-bounds-points-i invariant-loop decreases-loop
+slice-set-from-p c = omega (arith, points-length (turn c).loop-i.invariant (start (turn c)).requires.3)
 
-slice-write-lengths : tie.Need-slice-write-lengths invariant-loop decreases-loop
-slice-write-lengths c = omega (arith, lengths-length (turn c).loop.invariant (start (turn c)).pre.4)
+slice-write-lengths : tie.Need-bounds-lengths-i invariant-loop decreases-loop
+slice-write-lengths c = omega (arith, lengths-length (turn c).loop-i.invariant (start (turn c)).requires.4)
 
-points-fits : (c : tie.After-struct-told invariant-loop decreases-loop) → SFits w32 c.before.score-next.result.points
-points-fits c = sfits_of c.struct_told.given.0.1
+points-fits : (c : tie.After-struct_told-1 invariant-loop decreases-loop) → SFits w32 c.before.score_next-next.result.points
+points-fits c = sfits_of c.struct_told-1.given.0.1
 
-cast-total : tie.Need-overflow-cast-total invariant-loop decreases-loop
+cast-total : tie.Need-overflow_cast-total invariant-loop decreases-loop
 cast-total c = to-wide tt (points-fits c)
 
-add_total : tie.Need-overflow-add-total invariant-loop decreases-loop
+add_total : tie.Need-overflow_add-total invariant-loop decreases-loop
 add_total c =
     let l = turn c in
     let s = start l in
     rw (to_z-of_z (cast-total c) ∙ to_z-of_z (points-fits c))
-    (total-added l.loop.inv (accepted s) c.before.before.before.before.loop-test.true (rw (most-is s) at c.before.score-next.ensures) (points-fits c) s.pre.2)
+    (total-added l.loop-i.inv (accepted s) c.before.before.before.before.loop-i-test.true (rw (most-is s) at c.before.score_next-next.ensures) (points-fits c) s.requires.2)
 
-add-i : tie.Need-overflow-add-i invariant-loop decreases-loop
+add-i : tie.Need-overflow_step-i invariant-loop decreases-loop
 add-i c = search rules
 
-loop-less : tie.Need-loop-smaller invariant-loop decreases-loop
+loop-less : tie.Need-loop-i-smaller invariant-loop decreases-loop
 loop-less c = search rules
 
-loop-again : tie.Need-loop-preserved invariant-loop decreases-loop
+loop-again : tie.Need-loop-i-preserved invariant-loop decreases-loop
 loop-again c =
     let d = c.before in
     let l = turn d in
     let s = start l in
     rw (to_z-of_z (add_total d), to_z-of_z (cast-total d), to_z-of_z (points-fits d))
-    (scoring_more l.loop.inv (accepted s) d.before.before.before.before.loop-test.true (rw (most-is s) at d.before.score-next.ensures) (points-fits d) s.pre.3 s.pre.4)
+    (scoring_more l.loop-i.inv (accepted s) d.before.before.before.before.loop-i-test.true (rw (most-is s) at d.before.score_next-next.ensures) (points-fits d) s.requires.3 s.requires.4)
 
-same_length : tie.Need-same-length invariant-loop decreases-loop
-same_length c = points-length c.before.loop.invariant (start c.before).pre.3
+same_length : tie.Need-shape_of-points invariant-loop decreases-loop
+same_length c = points-length c.before.loop-i.invariant (start c.before).requires.3
 
-same-length_2 : tie.Need-same-length-2 invariant-loop decreases-loop
-same-length_2 c = lengths-length c.before.loop.invariant (start c.before).pre.4
+same-length_2 : tie.Need-shape_of-lengths invariant-loop decreases-loop
+same-length_2 c = lengths-length c.before.loop-i.invariant (start c.before).requires.4
 
 returns : tie.Need-returns invariant-loop decreases-loop
-returns c = scored-all c.before.loop.invariant c.loop-test.false
+returns c = scored-all c.before.loop-i.invariant c.loop-i-test.false
 
-pub score-words-spec : {M : Type 1} → statement M
-score-words-spec =
+pub score_words_spec : {M : Type 1} → statement M
+score_words_spec =
     tie.close
     (tie.spec
     invariant-loop

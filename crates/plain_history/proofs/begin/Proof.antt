@@ -7,13 +7,13 @@ use Rattle.plain_history.proofs.begin.Tie as tie
 smaller-requires : tie.Need-smaller-requires
 smaller-requires c κs = search rules
 
-returns : tie.Need-returns
+returns : tie.Need-returns-then-after_start
 unfolding first_history
-returns c = rw (c.before.if1.true, c.smaller.ensures)
+returns c = rw (c.before.if-after_start.true, c.smaller.ensures)
 
-returns_2 : tie.Need-returns-2
+returns_2 : tie.Need-returns
 unfolding first_history
-returns_2 c = rw c.if1.false
+returns_2 c = rw c.if-after_start.false
 
-pub begin-spec : {M : Type 1} → statement M
-begin-spec = tie.close (tie.spec smaller-requires returns returns_2)
+pub begin_spec : {M : Type 1} → statement M
+begin_spec = tie.close (tie.spec smaller-requires returns returns_2)

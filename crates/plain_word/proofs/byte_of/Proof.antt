@@ -7,30 +7,30 @@ use Rattle.list.proofs.Check.{accepted-good}
 use Rattle.plain_word.proofs.byte_of.Statement.{statement}
 use Rattle.plain_word.proofs.byte_of.Tie as tie
 
-cast-rows-of : tie.Need-overflow-cast-rows-of
+cast-rows-of : tie.Need-overflow_cast-score
 cast-rows-of c = search rules
 
-add-rows-of : tie.Need-overflow-add-rows-of
+add-rows-of : tie.Need-overflow_add-score
 add-rows-of c = search rules
 
-rows-of-requires : tie.Need-rows-of-requires
+rows-of-requires : tie.Need-rows_of-likely-requires
 rows-of-requires c κs = search rules
 
-extended-requires : tie.Need-extended-requires
+extended-requires : tie.Need-extended-extended-requires
 extended-requires c κs =
     let s = c.before.before in
     (row_in _ _ s.requires.1, accepted-good _ s.requires.0)
 
-length-byte-requires : tie.Need-length-byte-requires
+length-byte-requires : tie.Need-length_byte-requires
 length-byte-requires c κs = search rules
 
 returns : tie.Need-returns
 returns c =
     let x = c.before in
-    c.length_byte_lem.ensures ∙ rw (to_z-of_z x.before.before.before.ranges.word, x.extended.ensures)
+    c.length_byte_lem.ensures ∙ rw (to_z-of_z x.before.before.before.ranges.word, x.extended-extended.ensures)
 
-pub byte-of-spec : {M : Type 1} → statement M
-byte-of-spec =
+pub byte_of_spec : {M : Type 1} → statement M
+byte_of_spec =
     tie.close
     (tie.spec
     cast-rows-of

@@ -25,29 +25,29 @@ followed_is h w l p q r s t = rw (p, q, r, s, t) (go h l)
     go (a ∷ b ∷ c ∷ d ∷ []) l = refl
     go (a ∷ b ∷ c ∷ d ∷ e ∷ h) l = absurd (omega arith)
 
-word-at-requires : tie.Need-word-at-requires
+word-at-requires : tie.Need-word_at-a-requires
 word-at-requires c κs = search rules
 
-word-at-requires-2 : tie.Need-word-at-requires-2
+word-at-requires-2 : tie.Need-word_at-b-requires
 word-at-requires-2 c κs = search rules
 
-word-at-requires-3 : tie.Need-word-at-requires-3
+word-at-requires-3 : tie.Need-word_at-c-requires
 word-at-requires-3 c κs = search rules
 
-word-at-requires-4 : tie.Need-word-at-requires-4
+word-at-requires-4 : tie.Need-word_at-requires
 word-at-requires-4 c κs = search rules
 
-a_fits : (c : tie.After-word-at) → SFits w32 c.word_at.result
-a_fits c = sfits_of c.word_at.type-inv
+a_fits : (c : tie.After-word_at-a) → SFits w32 c.word_at-a.result
+a_fits c = sfits_of c.word_at-a.type_inv
 
-b-fits : (c : tie.After-word-at2) → SFits w32 c.word-at2.result
-b-fits c = sfits_of c.word-at2.type-inv
+b-fits : (c : tie.After-word_at-b) → SFits w32 c.word_at-b.result
+b-fits c = sfits_of c.word_at-b.type_inv
 
-c-fits : (c : tie.After-word-at3) → SFits w32 c.word-at3.result
-c-fits c = sfits_of c.word-at3.type-inv
+c-fits : (c : tie.After-word_at-c) → SFits w32 c.word_at-c.result
+c-fits c = sfits_of c.word_at-c.type_inv
 
-d_fits : (c : tie.After-word-at4) → SFits w32 c.word-at4.result
-d_fits c = sfits_of c.word-at4.type-inv
+d_fits : (c : tie.After-word_at) → SFits w32 c.word_at.result
+d_fits c = sfits_of c.word_at.type_inv
 
 returns : tie.Need-returns
 returns c =
@@ -58,13 +58,18 @@ returns c =
     let h = s.args.history.now in
     let w = to_z-of_z s.ranges.word in
     followed_is h s.args.word s.requires
-    (to_z-of_z (a_fits c1) ∙ c1.word_at.ensures ∙ ap (get_or h 0) w)
-    (to_z-of_z (b-fits c2) ∙ c2.word-at2.ensures ∙ ap (get_or h 1) w)
-    (to_z-of_z (c-fits c3) ∙ c3.word-at3.ensures ∙ ap (get_or h 2) w)
-    (to_z-of_z (d_fits c) ∙ c.word-at4.ensures ∙ ap (get_or h 3) w)
+    (to_z-of_z (a_fits c1) ∙ c1.word_at-a.ensures ∙ ap (get_or h 0) w)
+    (to_z-of_z (b-fits c2) ∙ c2.word_at-b.ensures ∙ ap (get_or h 1) w)
+    (to_z-of_z (c-fits c3) ∙ c3.word_at-c.ensures ∙ ap (get_or h 2) w)
+    (to_z-of_z (d_fits c) ∙ c.word_at.ensures ∙ ap (get_or h 3) w)
     w
 
-pub followed-spec : {M : Type 1} → statement M
-followed-spec =
+pub followed_spec : {M : Type 1} → statement M
+followed_spec =
     tie.close
-    (tie.spec word-at-requires word-at-requires-2 word-at-requires-3 word-at-requires-4 returns)
+    (tie.spec
+    word-at-requires
+    word-at-requires-2
+    word-at-requires-3
+    word-at-requires-4
+    returns)

@@ -19,40 +19,40 @@ use Rattle.plain_word.proofs.Words.{word_of-some}
 use Rattle.plain_word.proofs.length_byte.Statement.{statement}
 use Rattle.plain_word.proofs.length_byte.Tie as tie
 
-add-byte : tie.Need-overflow-add-byte
+add-byte : tie.Need-overflow_add-byte
 add-byte c = search rules
 
 -- what an unknown word adds
 mark : tie.Start → ℕ
 mark s = cond (eqb (word_of s.args.word) unknown_word) 8 0
 
-unknown : (c : tie.Then1) → mark c.before ≡ 8
+unknown : (c : tie.Then-word-eq-UNKNOWN_WORD) → mark c.before ≡ 8
 unfolding mark up_to between
-unknown c = let one : SFits w32 (pos 1) = omega zarith in rw (same_bits c.before.ranges.word one c.if1.true)
+unknown c = let one : SFits w32 (pos 1) = omega zarith in rw (same_bits c.before.ranges.word one c.if-word-eq-UNKNOWN_WORD.true)
 
-known : (c : tie.Else1) → mark c.before ≡ 0
+known : (c : tie.Else-word-eq-UNKNOWN_WORD) → mark c.before ≡ 0
 unfolding mark
 known c =
-    rw (ne_eqb (word_of c.before.args.word) 1 (λ e. c.if1.false (ap (of_z w32) (word_of-some c.before.args.word 0 e))))
+    rw (ne_eqb (word_of c.before.args.word) 1 (λ e. c.if-word-eq-UNKNOWN_WORD.false (ap (of_z w32) (word_of-some c.before.args.word 0 e))))
 
-marked : (c : tie.Joined1) → c.if1.byte ≡ c.before.args.matched + mark c.before
+marked : (c : tie.Joined-word-eq-UNKNOWN_WORD) → c.if-word-eq-UNKNOWN_WORD.byte ≡ c.before.args.matched + mark c.before
 marked c =
     ⊎_elim
     (λ w. omega (arith, w.1, unknown (record { before = c.before; if1 = w.0 })))
     (λ w. omega (arith, w.1, known (record { before = c.before; if1 = w.0 })))
-    c.if1.branch
+    c.if-word-eq-UNKNOWN_WORD.branch
 
-add-byte-2 : tie.Need-overflow-add-byte-2
-add-byte-2 c = ⊎_elim (λ w. omega (arith, w.1)) (λ w. omega (arith, w.1)) c.before.before.if1.branch
+add-byte-2 : tie.Need-overflow_add-byte-then-extended
+add-byte-2 c = ⊎_elim (λ w. omega (arith, w.1)) (λ w. omega (arith, w.1)) c.before.before.if-word-eq-UNKNOWN_WORD.branch
 
-returns : tie.Need-returns
+returns : tie.Need-returns-then-extended
 unfolding length_byte mark
 returns c =
-    omega (arith, marked c.before.before, ap {B = ℕ} (λ (e : Bool). cond e 16 0) c.before.if2.true)
+    omega (arith, marked c.before.before, ap {B = ℕ} (λ (e : Bool). cond e 16 0) c.before.if-extended.true)
 
-returns_2 : tie.Need-returns-2
+returns_2 : tie.Need-returns-else-extended
 unfolding length_byte mark
-returns_2 c = omega (arith, marked c.before, ap {B = ℕ} (λ (e : Bool). cond e 16 0) c.if2.false)
+returns_2 c = omega (arith, marked c.before, ap {B = ℕ} (λ (e : Bool). cond e 16 0) c.if-extended.false)
 
-pub length-byte-spec : {M : Type 1} → statement M
-length-byte-spec = tie.close (tie.spec add-byte add-byte-2 returns returns_2)
+pub length_byte_spec : {M : Type 1} → statement M
+length_byte_spec = tie.close (tie.spec add-byte add-byte-2 returns returns_2)

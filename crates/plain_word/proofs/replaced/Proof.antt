@@ -20,35 +20,35 @@ use Rattle.plain_word.proofs.Words.{replaced-known, replaced-unknown, replaced-o
 use Rattle.plain_word.proofs.replaced.Statement.{statement}
 use Rattle.plain_word.proofs.replaced.Tie as tie
 
-returns : tie.Need-returns
+returns : tie.Need-returns-then-word-eq0
 returns c = ap pos (sym (replaced-outside _ _ (accepted-model _ c.before.requires) (λ l h. omega arith)))
 
-cast-if2 : tie.Need-overflow-cast-if2
+cast-if2 : tie.Need-overflow_cast-t-7
 cast-if2 c = search rules
 
-returns_2 : tie.Need-returns-2
+returns_2 : tie.Need-returns-then-word
 returns_2 c = ap pos (sym (replaced-outside _ _ (accepted-model _ c.before.before.requires) (λ l h. omega arith)))
 
-cast-known : tie.Need-overflow-cast-known
+cast-known : tie.Need-overflow_cast-known
 cast-known c = search rules
 
-slice-aggregate-row-of : tie.Need-slice-aggregate-row-of
+slice-aggregate-row-of : tie.Need-slice_bounds-row_of-end
 slice-aggregate-row-of c = search rules
 
-read_back : (c : tie.Else2) → to_z w32 c.before.before.args.word ≡ pos c.before.before.args.word
+read_back : (c : tie.Else-word) → to_z w32 c.before.before.args.word ≡ pos c.before.before.args.word
 read_back c = to_z_pos w32 (omega arith)
 
 -- the word as a sequence of one
-one_word : (c : tie.Else2) → words_of (to_z w32 c.before.before.args.word ∷ []) ≡ c.before.before.args.word ∷ []
+one_word : (c : tie.Else-word) → words_of (to_z w32 c.before.before.args.word ∷ []) ≡ c.before.before.args.word ∷ []
 unfolding words_of
 one_word c = rw (read_back c) (ap (λ (w : ℕ). w ∷ []) (word_of-pos c.before.before.args.word (omega arith)))
 
-row_of_requires : tie.Need-row-of-requires
+row_of_requires : tie.Need-row_of-alone-requires
 row_of_requires c κs =
     let w = c.before.before.before.args.word in
     (c.before.before.before.requires, rw (one_word c.before) (words_more w [] (omega arith) (omega arith) (unfold are_words in refl)))
 
-listed-is : (c : tie.After-row-of) → listed (model_of c.before.before.before.before.args.table.now) (c.before.before.before.before.args.word ∷ []) ≡ c.row_of_lem.result.listed
+listed-is : (c : tie.After-row_of-alone) → listed (model_of c.before.before.before.before.args.table.now) (c.before.before.before.before.args.word ∷ []) ≡ c.row_of_lem.result.listed
 listed-is c =
     let s = c.before.before.before.before in
     sym
@@ -56,14 +56,14 @@ listed-is c =
     ∙ entry_listed s.args.table.now _
     ∙ ap (λ (l : List ℕ). listed (model_of s.args.table.now) (reverse l)) (one_word c.before.before))
 
-returns_3 : tie.Need-returns-3
-returns_3 c = read_back c.before.before.before ∙ ap pos (sym (replaced-known _ _ (listed-is c.before ∙ c.if3.true)))
+returns_3 : tie.Need-returns-then-alone
+returns_3 c = read_back c.before.before.before ∙ ap pos (sym (replaced-known _ _ (listed-is c.before ∙ c.if-alone.true)))
 
-returns-4 : tie.Need-returns-4
-returns-4 c = ap pos (sym (replaced-unknown _ _ (listed-is c.before ∙ c.if3.false)))
+returns-4 : tie.Need-returns
+returns-4 c = ap pos (sym (replaced-unknown _ _ (listed-is c.before ∙ c.if-alone.false)))
 
-pub replaced-spec : {M : Type 1} → statement M
-replaced-spec =
+pub replaced_spec : {M : Type 1} → statement M
+replaced_spec =
     tie.close
     (tie.spec
     returns

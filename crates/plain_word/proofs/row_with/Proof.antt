@@ -1,7 +1,7 @@
 -- `plain_word::row_with` meets its contract. Assumes nothing.
 use mathlib.Core.Path.{◌≡◌, sym, ap, ◌∙◌}
 use mathlib.Core.Bool.{true}
-use mathlib.Core.List.{List, [], ◌∷◌, ◌++◌, map_append}
+use mathlib.Core.List.{List, [], ◌∷◌, ◌++◌, map-append}
 use Prim.Native.Nat.{◌+◌}
 use native.Mathlib.Omega.{arith}
 use lib.IntN.{ℤ}
@@ -20,7 +20,7 @@ use Rattle.plain_word.proofs.row_with.Tie as tie
 module _ (h : List ℤ) (z : ℤ) where
   joined : words_of (h ++ (z ∷ [])) ≡ words_of h ++ (word_of z ∷ [])
   unfolding words_of
-  joined = map_append (λ (z : ℤ). word_of z) h (z ∷ [])
+  joined = map-append (λ (z : ℤ). word_of z) h (z ∷ [])
 
   joined-are_words : are_words (words_of h) ≡ true → are_words (word_of z ∷ []) ≡ true → are_words (words_of (h ++ (z ∷ []))) ≡ true
   joined-are_words e f = rw (joined, are_words_snoc) (words_more (word_of z) (words_of h) (first_some (word_of z) [] f) (first_limit (word_of z) [] f) e)
@@ -28,41 +28,41 @@ module _ (h : List ℤ) (z : ℤ) where
 unlisted-requires : tie.Need-unlisted-requires
 unlisted-requires c κs = search rules
 
-returns : tie.Need-returns
+returns : tie.Need-returns-then-history-ge-LONGEST_ROW
 unfolding words_of found_row
-returns c = c.unlisted.ensures ∙ sym (ap (found_row _) (finds_no_longer _ _ (rw (length-append, length-map) (omega (arith, c.before.if1.true)))))
+returns c = c.unlisted.ensures ∙ sym (ap (found_row _) (finds_no_longer _ _ (rw (length-append, length-map) (omega (arith, c.before.if-history-ge-LONGEST_ROW.true)))))
 
-followed-requires : tie.Need-followed-requires
+followed-requires : tie.Need-followed-words-requires
 followed-requires c κs = search rules
 
-add-end : tie.Need-overflow-add-end
+add-end : tie.Need-overflow_add-end
 add-end c = search rules
 
-array-share-prefix-words : tie.Need-array-share-prefix-words
+array-share-prefix-words : tie.Need-slice_bounds-words-end
 array-share-prefix-words c = search rules
 
-slice-aggregate-row-of : tie.Need-slice-aggregate-row-of
+slice-aggregate-row-of : tie.Need-slice_bounds-row_of-end
 slice-aggregate-row-of c = sym (length-take-le _ _ (search rules))
 
-joined_is : (c : tie.After-followed) → take (length c.before.before.args.history.now + 1) c.followed.result ≡ c.before.before.args.history.now ++ (c.before.before.args.word ∷ [])
+joined_is : (c : tie.After-followed-words) → take (length c.before.before.args.history.now + 1) c.followed-words.result ≡ c.before.before.args.history.now ++ (c.before.before.args.word ∷ [])
 joined_is c =
     let s = c.before.before in
-    c.followed.ensures ∙ ap (λ (z : ℤ). s.args.history.now ++ (z ∷ [])) (to_z-of_z s.ranges.word)
+    c.followed-words.ensures ∙ ap (λ (z : ℤ). s.args.history.now ++ (z ∷ [])) (to_z-of_z s.ranges.word)
 
-row_of_requires : tie.Need-row-of-requires
+row_of_requires : tie.Need-row_of-requires
 row_of_requires c κs =
     let f = c.before in
     let s = f.before.before in
     (s.requires.0, rw (joined_is f) (joined-are_words s.args.history.now s.args.word s.requires.1 s.requires.2))
 
-returns_2 : tie.Need-returns-2
+returns_2 : tie.Need-returns
 returns_2 c =
     let f = c.before.before in
     let s = f.before.before in
     rw (joined_is f, joined s.args.history.now s.args.word) at c.row_of_lem.ensures
 
-pub row-with-spec : {M : Type 1} → statement M
-row-with-spec =
+pub row_with_spec : {M : Type 1} → statement M
+row_with_spec =
     tie.close
     (tie.spec
     unlisted-requires

@@ -12,11 +12,11 @@ use Rattle.row_ends.proofs.end_backoff.Tie as tie
 field-requires : tie.Need-field-requires
 field-requires c κs = (row_in _ _ c.before.requires.within, lit< tt)
 
-returns : tie.Need-returns
-returns c = let e = c.before.if1.true in to_z-of_z (sfits_of c.field.type-inv) ∙ c.field.ensures ∙ own-backoff _ _ _ _ c.before.before.requires (omega arith)
+returns : tie.Need-returns-then-k-m
+returns c = let e = c.before.if-k-m.true in to_z-of_z (sfits_of c.field.type_inv) ∙ c.field.ensures ∙ own-backoff _ _ _ _ c.before.before.requires (omega arith)
 
-returns_2 : tie.Need-returns-2
-returns_2 c = let e = c.before.requires in let n = c.if1.false in added-backoff _ _ _ _ e (let l = e.long in omega arith)
+returns_2 : tie.Need-returns
+returns_2 c = let e = c.before.requires in let n = c.if-k-m.false in added-backoff _ _ _ _ e (let l = e.long in omega arith)
 
-pub end-backoff-spec : {M : Type 1} → statement M
-end-backoff-spec = tie.close (tie.spec field-requires returns returns_2)
+pub end_backoff_spec : {M : Type 1} → statement M
+end_backoff_spec = tie.close (tie.spec field-requires returns returns_2)

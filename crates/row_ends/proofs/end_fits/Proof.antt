@@ -11,13 +11,13 @@ use Rattle.row_ends.proofs.Ends.{addable_by}
 use Rattle.row_ends.proofs.end_fits.Statement.{statement}
 use Rattle.row_ends.proofs.end_fits.Tie as tie
 
-length-of-requires : tie.Need-length-of-requires
+length-of-requires : tie.Need-length_of-k-requires
 length-of-requires c κs = row_in _ _ c.requires.within
 
-end-probability-requires : tie.Need-end-probability-requires
+end-probability-requires : tie.Need-end_probability-requires
 end-probability-requires c κs = rw c.length_of_lem.ensures.0 c.before.requires
 
-in-range-requires : tie.Need-in-range-requires
+in-range-requires : tie.Need-in_range-requires
 in-range-requires c κs = search rules
 
 returns : tie.Need-returns
@@ -26,9 +26,13 @@ returns c =
     let e = c.before in
     let s = e.before.before in
     c.in_range.ensures
-    ∙ ap (λ (z : ℤ). between least_probability (pos 0) z) (to_z-of_z (sfits_of e.end-probability.type-inv) ∙ e.end-probability.ensures)
+    ∙ ap (λ (z : ℤ). between least_probability (pos 0) z) (to_z-of_z (sfits_of e.end_probability.type_inv) ∙ e.end_probability.ensures)
     ∙ addable_by _ s.requires.checked s.args.i s.args.m
 
-pub end-fits-spec : {M : Type 1} → statement M
-end-fits-spec =
-    tie.close (tie.spec length-of-requires end-probability-requires in-range-requires returns)
+pub end_fits_spec : {M : Type 1} → statement M
+end_fits_spec =
+    tie.close (tie.spec
+    length-of-requires
+    end-probability-requires
+    in-range-requires
+    returns)

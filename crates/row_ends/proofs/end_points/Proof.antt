@@ -19,99 +19,99 @@ record Passed (t : List ℤ) (a past : ℕ) (owed : ℤ) (at : ℕ) : Type 0 whe
   sum : Owed t a past owed at
   absent : at < past → is_at (find_in t (words_from t at (past - at))) ≡ false
 
-abbrev invariant-loop : tie.invariant-loop
+abbrev invariant-loop : tie.invariant-loop-at
 invariant-loop table from past owed₀ at₀ owed at = Passed table from past (to_z w32 owed) at
 
-abbrev decreases-loop : tie.decreases-loop
+abbrev decreases-loop : tie.decreases-loop-at
 decreases-loop table from past owed₀ at₀ owed at = past - at
 
-loop-holds : tie.Need-loop-init invariant-loop decreases-loop
+loop-holds : tie.Need-loop-at-init invariant-loop decreases-loop
 loop-holds c = record { sum = owed_none _ _ _ c.requires.1; absent = λ l. c.requires.5 }
 
-sub-row-of : tie.Need-overflow-sub-row-of invariant-loop decreases-loop
+sub-row-of : tie.Need-overflow_sub-past invariant-loop decreases-loop
 sub-row-of c = omega arith
 
-row_of_requires : tie.Need-row-of-requires invariant-loop decreases-loop
+row_of_requires : tie.Need-row_of-owed-requires invariant-loop decreases-loop
 row_of_requires c κs =
     let p = c.before.before.requires in
-    let v = c.before.loop.invariant.sum in
+    let v = c.before.loop-at.invariant.sum in
     let f = v.from in
-    let l = c.loop-test.true in
+    let l = c.loop-at-test.true in
     let q = p.1 in
     (p.0, omega arith, omega (arith, p.2), omega (arith, p.3), inside-words _ _ _ _ _ f (omega arith) p.4)
 
-abbrev at_loop : tie.After-row-of invariant-loop decreases-loop → tie.At-loop invariant-loop decreases-loop
+abbrev at_loop : tie.After-row_of-owed invariant-loop decreases-loop → tie.At-loop-at invariant-loop decreases-loop
 at_loop c = c.before.before
 
-abbrev table : tie.After-row-of invariant-loop decreases-loop → List ℤ
+abbrev table : tie.After-row_of-owed invariant-loop decreases-loop → List ℤ
 table c = (at_loop c).before.args.table.now
 
-abbrev past : tie.After-row-of invariant-loop decreases-loop → ℕ
+abbrev past : tie.After-row_of-owed invariant-loop decreases-loop → ℕ
 past c = (at_loop c).before.args.past
 
-abbrev at : tie.After-row-of invariant-loop decreases-loop → ℕ
-at c = (at_loop c).loop.at
+abbrev at : tie.After-row_of-owed invariant-loop decreases-loop → ℕ
+at c = (at_loop c).loop-at.at
 
 -- what is owed then
-abbrev owed : tie.After-row-of invariant-loop decreases-loop → ℤ
-owed c = to_z w32 (of_z w32 (to_z w32 (at_loop c).loop.owed +ℤ to_z w32 (of_z w32 c.row_of_lem.result.b)))
+abbrev owed : tie.After-row_of-owed invariant-loop decreases-loop → ℤ
+owed c = to_z w32 (of_z w32 (to_z w32 (at_loop c).loop-at.owed +ℤ to_z w32 (of_z w32 c.row_of_lem.result.b)))
 
 -- the back-off owed for the words before the last
-b-summed : (c : tie.After-row-of invariant-loop decreases-loop) → Sum (to_z w32 (at_loop c).loop.owed) c.row_of_lem.result.b (found_row (table c) (find_in (table c) (words_from (table c) (at c) (past c - 1 - at c)))).b
+b-summed : (c : tie.After-row_of-owed invariant-loop decreases-loop) → Sum (to_z w32 (at_loop c).loop-at.owed) c.row_of_lem.result.b (found_row (table c) (find_in (table c) (words_from (table c) (at c) (past c - 1 - at c)))).b
 b-summed c =
     let s = (at_loop c).before in
-    backoff-summed s.pre.0 s.pre.3 (at_loop c).loop.invariant.sum _ c.row_of_lem.ensures
+    backoff-summed s.requires.0 s.requires.3 (at_loop c).loop-at.invariant.sum _ c.row_of_lem.ensures
 
-owed_on : (c : tie.After-row-of invariant-loop decreases-loop) → Owed (table c) (at_loop c).before.args.from (past c) (owed c) (at c + 1)
+owed_on : (c : tie.After-row_of-owed invariant-loop decreases-loop) → Owed (table c) (at_loop c).before.args.from (past c) (owed c) (at c + 1)
 owed_on c =
     let l = at_loop c in
-    let h = c.before.loop-test.true in
-    rw (b-summed c).sum_is (owed_more l.before.pre.0 l.loop.inv.sum h (l.loop.inv.absent h))
+    let h = c.before.loop-at-test.true in
+    rw (b-summed c).sum_is (owed_more l.before.requires.0 l.loop-at.inv.sum h (l.loop-at.inv.absent h))
 
-add-owed : tie.Need-overflow-add-owed invariant-loop decreases-loop
+add-owed : tie.Need-overflow_add-owed invariant-loop decreases-loop
 add-owed c = (b-summed c.before.before).fits
 
-add_at : tie.Need-overflow-add-at invariant-loop decreases-loop
+add_at : tie.Need-overflow_add-at invariant-loop decreases-loop
 add_at c = omega arith
 
-row-of-requires-2 : tie.Need-row-of-requires-2 invariant-loop decreases-loop
+row-of-requires-2 : tie.Need-row_of-row-requires invariant-loop decreases-loop
 row-of-requires-2 c κs =
     let p = c.before.before.before.before.before.requires in
-    let v = c.before.before.before.before.loop.invariant.sum in
+    let v = c.before.before.before.before.loop-at.invariant.sum in
     let f = v.from in
-    let l = c.before.before.before.loop-test.true in
+    let l = c.before.before.before.loop-at-test.true in
     let q = p.1 in
     (p.0, omega arith, p.2, omega (arith, p.3), inside-words _ _ _ _ _ (omega arith) (omega arith) p.4)
 
-abbrev first : tie.After-row-of2 invariant-loop decreases-loop → tie.After-row-of invariant-loop decreases-loop
+abbrev first : tie.After-row_of-row invariant-loop decreases-loop → tie.After-row_of-owed invariant-loop decreases-loop
 first c = c.before.before.before
 
-p-summed : (c : tie.After-row-of2 invariant-loop decreases-loop) → Sum (owed (first c)) c.row-of2.result.p (found_row (table (first c)) (find_in (table (first c)) (words_from (table (first c)) (at (first c) + 1) (past (first c) - (at (first c) + 1))))).p
+p-summed : (c : tie.After-row_of-row invariant-loop decreases-loop) → Sum (owed (first c)) c.row_of-row.result.p (found_row (table (first c)) (find_in (table (first c)) (words_from (table (first c)) (at (first c) + 1) (past (first c) - (at (first c) + 1))))).p
 p-summed c =
     let s = (at_loop (first c)).before in
-    probability-summed s.pre.0 s.pre.3 (owed_on (first c)) _ c.row-of2.ensures
+    probability-summed s.requires.0 s.requires.3 (owed_on (first c)) _ c.row_of-row.ensures
 
-add-result : tie.Need-overflow-add-result invariant-loop decreases-loop
+add-result : tie.Need-overflow_add-result invariant-loop decreases-loop
 add-result c = (p-summed c.before.before.before).fits
 
-returns : tie.Need-returns invariant-loop decreases-loop
+returns : tie.Need-returns-then-row invariant-loop decreases-loop
 returns c =
     let w = c.before.before.before in
     let s = (at_loop (first w)).before in
-    let e = sym (found-listed _ _ w.row-of2.ensures) ∙ c.before.before.if1.true in
-    (p-summed w).sum_is ∙ sym (owed-here (owed_on (first w)) (listed-some _ _ _ (checked-good true _ s.pre.0) e) e)
+    let e = sym (found-listed _ _ w.row_of-row.ensures) ∙ c.before.before.if-row.true in
+    (p-summed w).sum_is ∙ sym (owed-here (owed_on (first w)) (listed-some _ _ _ (checked-good true _ s.requires.0) e) e)
 
-loop-less : tie.Need-loop-smaller invariant-loop decreases-loop
+loop-less : tie.Need-loop-at-smaller invariant-loop decreases-loop
 loop-less c = omega arith
 
-loop-again : tie.Need-loop-preserved invariant-loop decreases-loop
-loop-again c = record { sum = owed_on (first c.before); absent = λ l. sym (found-listed _ _ c.before.row-of2.ensures) ∙ c.if1.false }
+loop-again : tie.Need-loop-at-preserved invariant-loop decreases-loop
+loop-again c = record { sum = owed_on (first c.before); absent = λ l. sym (found-listed _ _ c.before.row_of-row.ensures) ∙ c.if-row.false }
 
-returns_2 : tie.Need-returns-2 invariant-loop decreases-loop
-returns_2 c = owed-end c.before.loop.invariant.sum c.loop-test.false
+returns_2 : tie.Need-returns invariant-loop decreases-loop
+returns_2 c = owed-end c.before.loop-at.invariant.sum c.loop-at-test.false
 
-pub end-points-spec : {M : Type 1} → statement M
-end-points-spec =
+pub end_points_spec : {M : Type 1} → statement M
+end_points_spec =
     tie.close
     (tie.spec
     invariant-loop

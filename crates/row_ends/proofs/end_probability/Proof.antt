@@ -10,34 +10,42 @@ use Rattle.row_ends.proofs.Ends.{own-probability, added-probability, added-absen
 use Rattle.row_ends.proofs.end_probability.Statement.{statement}
 use Rattle.row_ends.proofs.end_probability.Tie as tie
 
-mul-start : tie.Need-overflow-mul-start
+mul-start : tie.Need-overflow_mul-start
 mul-start c = let b = row_in _ _ c.before.requires.within in search rules
 
-add-past : tie.Need-overflow-add-past
+add-past : tie.Need-overflow_add-past
 add-past c = let s = c.before in let n = length_limit s.args.table.now s.args.i in omega (arith, s.requires.size)
 
-add-past-2 : tie.Need-overflow-add-past-2
+add-past-2 : tie.Need-overflow_add-past-then-m-k
 add-past-2 c = let s = c.before in let n = length_limit s.args.table.now s.args.i in let b = row_in _ _ s.requires.within in omega (arith, s.requires.size)
 
-sub-from : tie.Need-overflow-sub-from
+sub-from : tie.Need-overflow_sub-from
 sub-from c = search rules
 
-end-points-requires : tie.Need-end-points-requires
+end-points-requires : tie.Need-end_points-requires
 end-points-requires c κs =
     let e = c.before.requires in
     let q = end-places _ e.checked _ _ _ e.within e.size e.some e.long in
-    (e.checked, q.0, q.1, q.2, q.3, added-absent _ _ _ _ e c.if1.true)
+    (e.checked, q.0, q.1, q.2, q.3, added-absent _ _ _ _ e c.if-m-k.true)
 
-returns : tie.Need-returns
-returns c = to_z-of_z (sfits_of c.end-points.type-inv) ∙ c.end-points.ensures ∙ added-probability _ _ _ _ c.before.before.requires c.before.if1.true
+returns : tie.Need-returns-then-m-k
+returns c = to_z-of_z (sfits_of c.end_points.type_inv) ∙ c.end_points.ensures ∙ added-probability _ _ _ _ c.before.before.requires c.before.if-m-k.true
 
 field-requires : tie.Need-field-requires
 field-requires c κs = (row_in _ _ c.before.requires.within, lit< tt)
 
-returns_2 : tie.Need-returns-2
-returns_2 c = to_z-of_z (sfits_of c.field.type-inv) ∙ c.field.ensures ∙ own-probability _ _ _ _ c.before.before.requires c.before.if1.false
+returns_2 : tie.Need-returns
+returns_2 c = to_z-of_z (sfits_of c.field.type_inv) ∙ c.field.ensures ∙ own-probability _ _ _ _ c.before.before.requires c.before.if-m-k.false
 
-pub end-probability-spec : {M : Type 1} → statement M
-end-probability-spec =
+pub end_probability_spec : {M : Type 1} → statement M
+end_probability_spec =
     tie.close
-    (tie.spec mul-start add-past add-past-2 sub-from end-points-requires returns field-requires returns_2)
+    (tie.spec
+    mul-start
+    add-past
+    add-past-2
+    sub-from
+    end-points-requires
+    returns
+    field-requires
+    returns_2)

@@ -19,44 +19,53 @@ record Passed (t : List ℤ) (i : ℕ) : Type 0 where
 passed-more : (t : List ℤ) (i : ℕ) → i < rows_of t → Passed t i → needed_fault t i ≡ 0 → Passed t (i + 1)
 passed-more t i l p e = record { within = omega arith; none = λ j m. ⊎_elim (λ n. p.none j n) (λ n. let z : j ≡ i = omega arith in rw z e) (lt_or_ge j i) }
 
-abbrev invariant-loop : tie.invariant-loop
+abbrev invariant-loop : tie.invariant-loop-i
 invariant-loop table rows i₀ i = Passed table i
 
-abbrev decreases-loop : tie.decreases-loop
+abbrev decreases-loop : tie.decreases-loop-i
 decreases-loop table rows i₀ i = rows - i
 
-loop-holds : tie.Need-loop-init invariant-loop decreases-loop
+loop-holds : tie.Need-loop-i-init invariant-loop decreases-loop
 loop-holds c = record { within = omega arith; none = λ j l. absurd (omega arith) }
 
-needed-fault-requires : tie.Need-needed-fault-requires invariant-loop decreases-loop
+needed-fault-requires : tie.Need-needed_fault-requires invariant-loop decreases-loop
 unfolding rows_of
-needed-fault-requires c κs = (c.before.before.requires, c.loop-test.true)
+needed-fault-requires c κs = (c.before.before.requires, c.loop-i-test.true)
 
-returns : tie.Need-returns invariant-loop decreases-loop
+returns : tie.Need-returns-then-needed_fault-ne0 invariant-loop decreases-loop
 returns c =
     let d = c.before in
-    let v = d.before.before.loop.invariant in
-    record { within = v.within; none = v.none; one = λ _. fault_five _ _ (λ z. c.if1.true (d.needed-fault.ensures ∙ z)) }
+    let v = d.before.before.loop-i.invariant in
+    record { within = v.within; none = v.none; one = λ _. fault_five _ _ (λ z. c.if-needed_fault-ne0.true (d.needed_fault.ensures ∙ z)) }
 
-add-i : tie.Need-overflow-add-i invariant-loop decreases-loop
+add-i : tie.Need-overflow_add-i invariant-loop decreases-loop
 add-i c = omega arith
 
-loop-less : tie.Need-loop-smaller invariant-loop decreases-loop
+loop-less : tie.Need-loop-i-smaller invariant-loop decreases-loop
 loop-less c = omega arith
 
-loop-again : tie.Need-loop-preserved invariant-loop decreases-loop
+loop-again : tie.Need-loop-i-preserved invariant-loop decreases-loop
 unfolding rows_of
 loop-again c =
     let d = c.before in
-    passed-more _ _ d.before.loop-test.true d.before.before.loop.invariant (sym d.needed-fault.ensures ∙ c.if1.false)
+    passed-more _ _ d.before.loop-i-test.true d.before.before.loop-i.invariant (sym d.needed_fault.ensures ∙ c.if-needed_fault-ne0.false)
 
-returns_2 : tie.Need-returns-2 invariant-loop decreases-loop
+returns_2 : tie.Need-returns invariant-loop decreases-loop
 unfolding rows_of
 returns_2 c =
-    let v = c.before.loop.invariant in
-    record { within = v.within; none = v.none; one = λ l. absurd (let m = c.loop-test.false in omega arith) }
+    let v = c.before.loop-i.invariant in
+    record { within = v.within; none = v.none; one = λ l. absurd (let m = c.loop-i-test.false in omega arith) }
 
-pub first-needing-spec : {M : Type 1} → statement M
-first-needing-spec =
+pub first_needing_spec : {M : Type 1} → statement M
+first_needing_spec =
     tie.close
-    (tie.spec invariant-loop decreases-loop loop-holds needed-fault-requires returns add-i loop-less loop-again returns_2)
+    (tie.spec
+    invariant-loop
+    decreases-loop
+    loop-holds
+    needed-fault-requires
+    returns
+    add-i
+    loop-less
+    loop-again
+    returns_2)

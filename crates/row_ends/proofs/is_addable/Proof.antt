@@ -20,54 +20,54 @@ use Rattle.row_ends.proofs.Points.{end-words_are, end-places, end-points_are}
 use Rattle.row_ends.proofs.is_addable.Statement.{statement}
 use Rattle.row_ends.proofs.is_addable.Tie as tie
 
-mul-start : tie.Need-overflow-mul-start
+mul-start : tie.Need-overflow_mul-start
 mul-start c = let b = row_in _ _ c.requires.1 in search rules
 
-add-past : tie.Need-overflow-add-past
+add-past : tie.Need-overflow_add-past
 add-past c = let n = length_limit c.args.table.now c.args.i in omega (arith, c.requires.2)
 
-add-past-2 : tie.Need-overflow-add-past-2
+add-past-2 : tie.Need-overflow_add-past-2
 add-past-2 c = let n = length_limit c.args.table.now c.args.i in let b = row_in _ _ c.requires.1 in omega (arith, c.requires.2)
 
-sub-from : tie.Need-overflow-sub-from
+sub-from : tie.Need-overflow_sub-from
 sub-from c = search rules
 
-row_of_requires : tie.Need-row-of-requires
+row_of_requires : tie.Need-row_of-row-requires
 row_of_requires c κs = let p = c.requires in let q = end-places _ p.0 _ _ _ p.1 p.2 p.3 p.4 in (p.0, q.0, q.1, q.2, q.3)
 
 -- the row that the last words are
-listed-is : (c : tie.After-row-of) → c.row_of_lem.result.listed ≡ is_at (find_in c.before.args.table.now (last_words c.before.args.table.now c.before.args.i c.before.args.m))
+listed-is : (c : tie.After-row_of-row) → c.row_of_lem.result.listed ≡ is_at (find_in c.before.args.table.now (last_words c.before.args.table.now c.before.args.i c.before.args.m))
 listed-is c =
     let p = c.before.requires in
     found-listed _ _ c.row_of_lem.ensures ∙ ap (λ (ws : List ℕ). is_at (find_in c.before.args.table.now ws)) (end-words_are _ p.0 _ _ _ p.1 p.2 p.3 p.4)
 
-returns : tie.Need-returns
-returns c = sym (addable-listed _ _ (sym (listed-is c.before) ∙ c.if1.true))
+returns : tie.Need-returns-then-row
+returns c = sym (addable-listed _ _ (sym (listed-is c.before) ∙ c.if-row.true))
 
-end-points-requires : tie.Need-end-points-requires
+end-points-requires : tie.Need-end_points-requires
 end-points-requires c κs =
     let p = c.before.before.requires in
     let q = end-places _ p.0 _ _ _ p.1 p.2 p.3 p.4 in
-    (p.0, q.0, q.1, q.2, q.3, sym (found-listed _ _ c.before.row_of_lem.ensures) ∙ c.if1.false)
+    (p.0, q.0, q.1, q.2, q.3, sym (found-listed _ _ c.before.row_of_lem.ensures) ∙ c.if-row.false)
 
-in-range-requires : tie.Need-in-range-requires
+in-range-requires : tie.Need-in_range-requires
 in-range-requires c κs = search rules
 
-fits : (c : tie.After-end-points) → SFits w32 c.end-points.result
-fits c = sfits_of c.end-points.type-inv
+fits : (c : tie.After-end_points) → SFits w32 c.end_points.result
+fits c = sfits_of c.end_points.type_inv
 
-returns_2 : tie.Need-returns-2
+returns_2 : tie.Need-returns
 unfolding in_probability
 returns_2 c =
     let d = c.before in
     let r = d.before.before in
     let p = r.before.requires in
     c.in_range.ensures
-    ∙ ap (λ (z : ℤ). between least_probability (pos 0) z) (to_z-of_z (fits d) ∙ d.end-points.ensures ∙ end-points_are _ p.0 _ _ _ p.1 p.2 p.3 p.4)
-    ∙ sym (addable-unlisted _ _ (sym (listed-is r) ∙ d.before.if1.false))
+    ∙ ap (λ (z : ℤ). between least_probability (pos 0) z) (to_z-of_z (fits d) ∙ d.end_points.ensures ∙ end-points_are _ p.0 _ _ _ p.1 p.2 p.3 p.4)
+    ∙ sym (addable-unlisted _ _ (sym (listed-is r) ∙ d.before.if-row.false))
 
-pub is-addable-spec : {M : Type 1} → statement M
-is-addable-spec =
+pub is_addable_spec : {M : Type 1} → statement M
+is_addable_spec =
     tie.close
     (tie.spec
     mul-start

@@ -18,57 +18,57 @@ record Passed (t : List ℤ) (i k m : ℕ) : Type 0 where
   short : m ≤ length_of t i
   rest : left_fault t i within m ≡ needed_fault t i
 
-abbrev invariant-loop : tie.invariant-loop
+abbrev invariant-loop : tie.invariant-loop-m
 invariant-loop table i k m₀ m = Passed table i k m
 
-abbrev decreases-loop : tie.decreases-loop
+abbrev decreases-loop : tie.decreases-loop-m
 decreases-loop table i k m₀ m = m
 
-length-of-requires : tie.Need-length-of-requires invariant-loop decreases-loop
+length-of-requires : tie.Need-length_of-k-requires invariant-loop decreases-loop
 length-of-requires c κs = row_in _ _ c.requires.1
 
-loop-holds : tie.Need-loop-init invariant-loop decreases-loop
+loop-holds : tie.Need-loop-m-init invariant-loop decreases-loop
 loop-holds c =
     let e = c.length_of_lem.ensures.0 in
     record { within = c.before.requires.1; size = e; short = omega arith; rest = left-all _ _ _ _ e }
 
-sub-m : tie.Need-overflow-sub-m invariant-loop decreases-loop
+sub-m : tie.Need-overflow_sub-m invariant-loop decreases-loop
 sub-m c = omega arith
 
-is-addable-requires : tie.Need-is-addable-requires invariant-loop decreases-loop
+is-addable-requires : tie.Need-is_addable-requires invariant-loop decreases-loop
 is-addable-requires c κs =
-    let v = c.before.loop.invariant in
+    let v = c.before.loop-m.invariant in
     let s = v.short in
     (c.before.before.before.requires.0, v.within, v.size, omega arith, omega (arith, v.size))
 
-returns : tie.Need-returns invariant-loop decreases-loop
+returns : tie.Need-returns-then-not-is_addable invariant-loop decreases-loop
 returns c =
     let a = c.before in
-    let v = a.before.before.loop.invariant in
-    sym (left_fails _ _ v.within _ a.before.loop-test.true v.short (sym a.is-addable.ensures ∙ not-true _ c.if1.true)) ∙ v.rest
+    let v = a.before.before.loop-m.invariant in
+    sym (left_fails _ _ v.within _ a.before.loop-m-test.true v.short (sym a.is_addable.ensures ∙ not-true _ c.if-not-is_addable.true)) ∙ v.rest
 
-loop-less : tie.Need-loop-smaller invariant-loop decreases-loop
+loop-less : tie.Need-loop-m-smaller invariant-loop decreases-loop
 loop-less c = omega arith
 
-loop-again : tie.Need-loop-preserved invariant-loop decreases-loop
+loop-again : tie.Need-loop-m-preserved invariant-loop decreases-loop
 loop-again c =
     let a = c.before in
-    let v = a.before.before.loop.invariant in
+    let v = a.before.before.loop-m.invariant in
     let s = v.short in
     record {
       within = v.within;
       size = v.size;
       short = omega arith;
-      rest = sym (left_passes _ _ v.within _ a.before.loop-test.true v.short (sym a.is-addable.ensures ∙ not-false _ c.if1.false)) ∙ v.rest;
+      rest = sym (left_passes _ _ v.within _ a.before.loop-m-test.true v.short (sym a.is_addable.ensures ∙ not-false _ c.if-not-is_addable.false)) ∙ v.rest;
     }
 
-returns_2 : tie.Need-returns-2 invariant-loop decreases-loop
+returns_2 : tie.Need-returns invariant-loop decreases-loop
 returns_2 c =
-    let v = c.before.loop.invariant in
-    sym (left-none _ _ v.within _ c.loop-test.false v.short) ∙ v.rest
+    let v = c.before.loop-m.invariant in
+    sym (left-none _ _ v.within _ c.loop-m-test.false v.short) ∙ v.rest
 
-pub needed-fault-spec : {M : Type 1} → statement M
-needed-fault-spec =
+pub needed_fault_spec : {M : Type 1} → statement M
+needed_fault_spec =
     tie.close
     (tie.spec
     invariant-loop

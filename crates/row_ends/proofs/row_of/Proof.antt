@@ -11,31 +11,31 @@ use Rattle.row_ends.specs.Points.{words_from}
 use Rattle.row_ends.proofs.row_of.Statement.{statement}
 use Rattle.row_ends.proofs.row_of.Tie as tie
 
-mul-find-row : tie.Need-overflow-mul-find-row
+mul-find-row : tie.Need-offset_bounds-table-from
 mul-find-row c = search rules
 
-sub-find-row : tie.Need-overflow-sub-find-row
+sub-find-row : tie.Need-slice_bounds-find_row-count
 sub-find-row c = search rules
 
-part-find-row-start : tie.Need-slice-bounds-find-row-start
+part-find-row-start : tie.Need-slice_bounds-find_row-start
 part-find-row-start c = search rules
 
-part-find-row-end : tie.Need-slice-bounds-find-row-end
+part-find-row-end : tie.Need-slice_bounds-find_row-end
 part-find-row-end c = search rules
 
-find-row-requires : tie.Need-find-row-requires
+find-row-requires : tie.Need-find_row-found-requires
 unfolding words_from
 find-row-requires c κs = let p = c.before.requires in (checked-good true _ p.0, rw length-take (omega arith), p.4)
 
-found-row-requires : tie.Need-found-row-requires
-found-row-requires c κs = λ i e. (found-words _ _ i (sym c.find-row.ensures ∙ e)).0
+found-row-requires : tie.Need-found_row-requires
+found-row-requires c κs = λ i e. (found-words _ _ i (sym c.find_row-found.ensures ∙ e)).0
 
 returns : tie.Need-returns
 unfolding words_from
-returns c = c.found-row.ensures ∙ ap (found_row _) c.before.find-row.ensures
+returns c = c.found_row.ensures ∙ ap (found_row _) c.before.find_row-found.ensures
 
-pub row-of-spec : {M : Type 1} → statement M
-row-of-spec =
+pub row_of_spec : {M : Type 1} → statement M
+row_of_spec =
     tie.close
     (tie.spec
     mul-find-row

@@ -20,74 +20,74 @@ use Rattle.row_fields.proofs.Fields.{places_fail, places_pass, places-end}
 use Rattle.row_fields.proofs.places_fit.Statement.{statement}
 use Rattle.row_fields.proofs.places_fit.Tie as tie
 
-abbrev invariant-loop : tie.invariant-loop
+abbrev invariant-loop : tie.invariant-loop-j
 invariant-loop t i m j₀ j = (j ≤ order_limit + 1) × (places_fit t i 1 order_limit ≡ places_fit t i j (order_limit + 1 - j))
 
-abbrev decreases-loop : tie.decreases-loop
+abbrev decreases-loop : tie.decreases-loop-j
 decreases-loop t i m j₀ j = order_limit + 1 - j
 
-loop-holds : tie.Need-loop-init invariant-loop decreases-loop
+loop-holds : tie.Need-loop-j-init invariant-loop decreases-loop
 loop-holds c = (omega arith, refl)
 
-field-requires : tie.Need-field-requires invariant-loop decreases-loop
+field-requires : tie.Need-field-word-requires invariant-loop decreases-loop
 field-requires c κs = (c.before.before.requires.0, omega arith)
 
-in-range-requires : tie.Need-in-range-requires invariant-loop decreases-loop
+in-range-requires : tie.Need-in_range-requires invariant-loop decreases-loop
 in-range-requires c κs = tt
 
-fits : (c : tie.After-field invariant-loop decreases-loop) → SFits w32 c.field.result
-fits c = sfits_of c.field.type-inv
+fits : (c : tie.After-field-word invariant-loop decreases-loop) → SFits w32 c.field-word.result
+fits c = sfits_of c.field-word.type_inv
 
-abbrev fitting : tie.After-field invariant-loop decreases-loop → Bool
-fitting c = place_fits c.before.before.before.args.table.now c.before.before.before.args.i c.before.before.loop.j
+abbrev fitting : tie.After-field-word invariant-loop decreases-loop → Bool
+fitting c = place_fits c.before.before.before.args.table.now c.before.before.before.args.i c.before.before.loop-j.j
 
-used : (c : tie.After-in-range invariant-loop decreases-loop) → fitting c.before.before ≡ c.in_range.result
+used : (c : tie.After-in_range invariant-loop decreases-loop) → fitting c.before.before ≡ c.in_range.result
 used c =
     let f = c.before.before in
     let s = f.before.before.before in
-    let j = c.before.if1.true in
+    let j = c.before.if-j-m.true in
     place_used _ _ _ (rw s.requires.1 at j)
-    ∙ sym (c.in_range.ensures ∙ ap (λ (z : ℤ). between (pos 1) (pos word_limit) z) (to_z-of_z (fits f) ∙ f.field.ensures))
+    ∙ sym (c.in_range.ensures ∙ ap (λ (z : ℤ). between (pos 1) (pos word_limit) z) (to_z-of_z (fits f) ∙ f.field-word.ensures))
 
-unused : (c : tie.Else1 invariant-loop decreases-loop) → fitting c.before ≡ eqb (of_z w32 c.before.field.result) 0
+unused : (c : tie.Else-j-m invariant-loop decreases-loop) → fitting c.before ≡ eqb (of_z w32 c.before.field-word.result) 0
 unused c =
     let f = c.before in
     let s = f.before.before.before in
-    let j = c.if1.false in
+    let j = c.if-j-m.false in
     place_unused _ _ _ (rw s.requires.1 at j)
-    ∙ sym (bits_test (fits f) (omega zarith) ∙ ap (λ (z : ℤ). eq_z z (pos 0)) f.field.ensures)
+    ∙ sym (bits_test (fits f) (omega zarith) ∙ ap (λ (z : ℤ). eq_z z (pos 0)) f.field-word.ensures)
 
-fails : (c : tie.After-field invariant-loop decreases-loop) → fitting c ≡ false → false ≡ places_fit c.before.before.before.args.table.now c.before.before.before.args.i 1 order_limit
-fails c e = let j = c.before.loop-test.true in sym (c.before.before.loop.invariant.1 ∙ places_fail _ _ _ (order_limit + 1) (omega arith) e)
+fails : (c : tie.After-field-word invariant-loop decreases-loop) → fitting c ≡ false → false ≡ places_fit c.before.before.before.args.table.now c.before.before.before.args.i 1 order_limit
+fails c e = let j = c.before.loop-j-test.true in sym (c.before.before.loop-j.invariant.1 ∙ places_fail _ _ _ (order_limit + 1) (omega arith) e)
 
-returns : tie.Need-returns invariant-loop decreases-loop
-returns c = fails c.before.before.before (used c.before ∙ not-true _ c.if2.true)
+returns : tie.Need-returns-then-not-in_range invariant-loop decreases-loop
+returns c = fails c.before.before.before (used c.before ∙ not-true _ c.if-not-in_range.true)
 
-returns_2 : tie.Need-returns-2 invariant-loop decreases-loop
-returns_2 c = fails c.before.before (unused c.before ∙ ne_eqb _ _ c.if3.true)
+returns_2 : tie.Need-returns-then-word-ne0 invariant-loop decreases-loop
+returns_2 c = fails c.before.before (unused c.before ∙ ne_eqb _ _ c.if-word-ne0.true)
 
-add-j : tie.Need-overflow-add-j invariant-loop decreases-loop
+add-j : tie.Need-overflow_add-j invariant-loop decreases-loop
 add-j c = omega arith
 
-loop-less : tie.Need-loop-smaller invariant-loop decreases-loop
+loop-less : tie.Need-loop-j-smaller invariant-loop decreases-loop
 loop-less c = omega arith
 
-loop-again : tie.Need-loop-preserved invariant-loop decreases-loop
+loop-again : tie.Need-loop-j-preserved invariant-loop decreases-loop
 loop-again c =
     let f = c.before in
     let fit : fitting f ≡ true =
     ⊎_elim
     (λ w. used (record { before = record { before = f; if1 = w.0 }; in_range = w.1 }) ∙ not-false _ w.2.left)
     (λ w. unused (record { before = f; if1 = w.0 }) ∙ eq-eqb _ _ w.1.left)
-    c.if1.branch
+    c.if-j-m.branch
     in
-    (omega arith, f.before.before.loop.invariant.1 ∙ places_pass _ _ _ (order_limit + 1) (omega arith) fit)
+    (omega arith, f.before.before.loop-j.invariant.1 ∙ places_pass _ _ _ (order_limit + 1) (omega arith) fit)
 
-returns_3 : tie.Need-returns-3 invariant-loop decreases-loop
-returns_3 c = sym (c.before.loop.invariant.1 ∙ places-end _ _ _ (order_limit + 1) c.loop-test.false)
+returns_3 : tie.Need-returns invariant-loop decreases-loop
+returns_3 c = sym (c.before.loop-j.invariant.1 ∙ places-end _ _ _ (order_limit + 1) c.loop-j-test.false)
 
-pub places-fit-spec : {M : Type 1} → statement M
-places-fit-spec =
+pub places_fit_spec : {M : Type 1} → statement M
+places_fit_spec =
     tie.close
     (tie.spec
     invariant-loop

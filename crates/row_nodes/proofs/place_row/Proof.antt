@@ -15,19 +15,19 @@ use Rattle.row_nodes.proofs.Turn.{row_fits, row_settles, row_tried}
 use Rattle.row_nodes.proofs.place_row.Statement.{statement}
 use Rattle.row_nodes.proofs.place_row.Tie as tie
 
-mul-row-node : tie.Need-overflow-mul-row-node
+mul-row-node : tie.Need-offset_bounds-work-i
 mul-row-node c = search rules
 
-shared-slice-read-row-node : tie.Need-shared-slice-read-row-node
+shared-slice-read-row-node : tie.Need-bounds-marks-i
 shared-slice-read-row-node c = let s = c.before.before.before.before in omega (arith, s.requires.0.1, s.requires.0.5.each)
 
-slice-read-row-node : tie.Need-slice-read-row-node
+slice-read-row-node : tie.Need-bounds-work-i
 slice-read-row-node c = let s = c.before.before.before in omega (arith, s.requires.0.1, s.requires.1.each)
 
-row-node-requires : tie.Need-row-node-requires
+row-node-requires : tie.Need-row_node-node-requires
 row-node-requires c κs = let s = c.before.before.before.before in (s.requires.0.0, s.requires.0.1)
 
-abbrev start : tie.After-row-node → tie.Start
+abbrev start : tie.After-row_node-node → tie.Start
 start n = n.before.before.before.before.before
 
 abbrev from : tie.Start → ℕ
@@ -46,65 +46,65 @@ bounds c = let S = c.requires.0.4 in (S.order, omega (arith, S.within))
 rows_are : (c : tie.Start) → take (8 * to c - 8 * from c) (drop (8 * from c) (table c)) ≡ part_rows (table c) (from c) (to c - from c)
 rows_are c = let e : 8 * to c - 8 * from c ≡ 8 * (to c - from c) = omega arith in rw e
 
-mul-first : tie.Need-overflow-mul-first
+mul-first : tie.Need-overflow_mul-first
 mul-first c = omega (arith, bounds (start c))
 
-mul-end : tie.Need-overflow-mul-end
+mul-end : tie.Need-overflow_mul-end
 mul-end c = search rules
 
-mul-place-node : tie.Need-overflow-mul-place-node
+mul-place-node : tie.Need-offset_bounds-table-first
 mul-place-node c = omega (arith, bounds (start c.before.before))
 
-sub-place-node : tie.Need-overflow-sub-place-node
+sub-place-node : tie.Need-slice_bounds-place_node-count
 sub-place-node c = omega (arith, bounds (start c.before.before))
 
-part-place-node-start : tie.Need-slice-bounds-place-node-start
+part-place-node-start : tie.Need-slice_bounds-place_node-start
 part-place-node-start c = omega (arith, bounds (start c.before.before))
 
-part-place-node-end : tie.Need-slice-bounds-place-node-end
+part-place-node-end : tie.Need-slice_bounds-place_node-end
 part-place-node-end c = omega (arith, bounds (start c.before.before))
 
-mul-place-node-2 : tie.Need-overflow-mul-place-node-2
+mul-place-node-2 : tie.Need-offset_bounds-work-from
 mul-place-node-2 c = omega (arith, bounds (start c.before.before.before))
 
-sub-place-node-2 : tie.Need-overflow-sub-place-node-2
+sub-place-node-2 : tie.Need-slice_bounds-place_node-count-2
 sub-place-node-2 c = omega (arith, bounds (start c.before.before.before))
 
-part-place-node-start-2 : tie.Need-slice-bounds-place-node-start-2
+part-place-node-start-2 : tie.Need-slice_bounds-place_node-start-2
 part-place-node-start-2 c = omega (arith, bounds (start c.before.before.before))
 
-part-place-node-end-2 : tie.Need-slice-bounds-place-node-end-2
+part-place-node-end-2 : tie.Need-slice_bounds-place_node-end-2
 part-place-node-end-2 c = search rules
 
 -- the node may be placed
-settles : (n : tie.After-row-node) → let s = start n in let P = placed_nodes (table s) (s.args.i + 1) in
-    Settles (length s.args.check.now) P.base P.check s.args.base.now s.args.check.now (take (8 * to s - 8 * from s) (drop (8 * from s) (table s))) n.row_node.result.slot n.row_node.result.mark
+settles : (n : tie.After-row_node-node) → let s = start n in let P = placed_nodes (table s) (s.args.i + 1) in
+    Settles (length s.args.check.now) P.base-1 P.check-1 s.args.base.now s.args.check.now (take (8 * to s - 8 * from s) (drop (8 * from s) (table s))) n.row_node-node.result.slot n.row_node-node.result.mark
 settles n =
     let s = start n in
-    let e = n.row_node.ensures in
-    rw (rows_are s) (row_settles (table s) s.pre.0.0 s.args.i s.pre.0.1 s.pre.1 (from s) (to s) s.pre.0.4 e.0 e.1)
+    let e = n.row_node-node.ensures in
+    rw (rows_are s) (row_settles (table s) s.requires.0.0 s.args.i s.requires.0.1 s.requires.1 (from s) (to s) s.requires.0.4 e.0 e.1)
 
-place-node-requires : tie.Need-place-node-requires
+place-node-requires : tie.Need-place_node-requires
 place-node-requires c κs =
     let n = c.before.before.before.before in
     let s = start n in
     let t = table s in
-    let S = s.pre.0.4 in
-    let fits = row_fits t s.pre.0.0 s.args.i s.pre.0.1 s.pre.1 (from s) (to s) S in (
+    let S = s.requires.0.4 in
+    let fits = row_fits t s.requires.0.0 s.args.i s.requires.0.1 s.requires.1 (from s) (to s) S in (
       (
-        rw (rows_are s) (child-rows t s.pre.0.0 (from s) (to s - from s) fits),
-        rw (rows_are s, count-rows t (from s) (to s - from s) fits) (length-take-le _ _ (rw length-drop (omega (arith, bounds s, S.within, s.pre.1.each)))),
+        rw (rows_are s) (child-rows t s.requires.0.0 (from s) (to s - from s) fits),
+        rw (rows_are s, count-rows t (from s) (to s - from s) fits) (length-take-le _ _ (rw length-drop (omega (arith, bounds s, S.within, s.requires.1.each)))),
       ),
       (_, _, _, settles n),
     )
 
-same_length : tie.Need-same-length
-same_length c = c.before.before.before.before.place-node.auto.0
+same_length : tie.Need-shape_of-base
+same_length c = c.before.before.before.before.place_node.auto.0
 
-same-length_2 : tie.Need-same-length-2
-same-length_2 c = c.before.before.before.before.place-node.auto.1.0
+same-length_2 : tie.Need-shape_of-check
+same-length_2 c = c.before.before.before.before.place_node.auto.1.0
 
-same-length-3 : tie.Need-same-length-3
+same-length-3 : tie.Need-shape_of-work
 same-length-3 c = search rules
 
 returns : tie.Need-returns
@@ -112,12 +112,12 @@ returns c =
     let p = c.before.before.before.before in
     let r = p.before.before.before.before.before in
     let s = start r in
-    let n = r.row_node.ensures in
-    row_tried (table s) s.pre.0.0 s.args.i s.pre.0.1 s.pre.1 (from s) (to s) s.pre.0.4 s.pre.0.2 s.pre.0.3 n.0 n.1 (s.pre.0.5.mark s.args.i s.pre.0.1) n.2
-    (rw (rows_are s) at (p.place-node.ensures _ _ _ (settles r)))
+    let n = r.row_node-node.ensures in
+    row_tried (table s) s.requires.0.0 s.args.i s.requires.0.1 s.requires.1 (from s) (to s) s.requires.0.4 s.requires.0.2 s.requires.0.3 n.0 n.1 (s.requires.0.5.mark s.args.i s.requires.0.1) n.2
+    (rw (rows_are s) at (p.place_node.ensures _ _ _ (settles r)))
 
-pub place-row-spec : {M : Type 1} → statement M
-place-row-spec =
+pub place_row_spec : {M : Type 1} → statement M
+place_row_spec =
     tie.close
     (tie.spec
     mul-row-node

@@ -19,29 +19,34 @@ field-requires c κs = (row_in _ _ c.requires.1, lit< tt)
 
 -- what is read of the row, as it is handed on
 p-is : (c : tie.After-field) → to_z w32 (of_z w32 c.field.result) ≡ probability_at c.before.args.table.now c.before.args.i
-p-is c = to_z-of_z {w = w32} {z = c.field.result} (sfits_of c.field.type-inv) ∙ c.field.ensures
+p-is c = to_z-of_z {w = w32} {z = c.field.result} (sfits_of c.field.type_inv) ∙ c.field.ensures
 
-b-is : (c : tie.After-field2) → to_z w32 (of_z w32 c.field2.result) ≡ backoff_at c.before.before.before.args.table.now c.before.before.before.args.i
-b-is c = to_z-of_z {w = w32} {z = c.field2.result} (sfits_of c.field2.type-inv) ∙ c.field2.ensures
+b-is : (c : tie.After-field-2) → to_z w32 (of_z w32 c.field-2.result) ≡ backoff_at c.before.before.before.args.table.now c.before.before.before.args.i
+b-is c = to_z-of_z {w = w32} {z = c.field-2.result} (sfits_of c.field-2.type_inv) ∙ c.field-2.ensures
 
-marker-check-requires : tie.Need-marker-check-requires
+marker-check-requires : tie.Need-marker_check-requires
 marker-check-requires c κs = rw (p-is c) (accepted-row _ c.before.requires.0 _ c.before.requires.1).fields.probability
 
 field-requires-2 : tie.Need-field-requires-2
 field-requires-2 c κs = (row_in _ _ c.before.before.requires.1, lit< tt)
 
-marker-base-requires : tie.Need-marker-base-requires
+marker-base-requires : tie.Need-marker_base-requires
 marker-base-requires c κs = let s = c.before.before.before in rw (b-is c) (backoff_in _ _ _ (accepted-row _ s.requires.0 _ s.requires.1).fields.backoff)
 
 returns : tie.Need-returns
 returns c =
     let m = c.before.before in (
       refl,
-      to_z-of_z {w = w32} {z = m.marker_check_lem.result} (sfits_of m.marker_check_lem.type-inv) ∙ m.marker_check_lem.ensures ∙ ap marker_check (p-is m.before),
-      to_z-of_z {w = w32} {z = c.marker_base_lem.result} (sfits_of c.marker_base_lem.type-inv) ∙ c.marker_base_lem.ensures ∙ ap (λ (b : ℤ). marker_base b m.before.before.args.extended m.before.before.args.continued) (b-is c.before),
+      to_z-of_z {w = w32} {z = m.marker_check_lem.result} (sfits_of m.marker_check_lem.type_inv) ∙ m.marker_check_lem.ensures ∙ ap marker_check (p-is m.before),
+      to_z-of_z {w = w32} {z = c.marker_base_lem.result} (sfits_of c.marker_base_lem.type_inv) ∙ c.marker_base_lem.ensures ∙ ap (λ (b : ℤ). marker_base b m.before.before.args.extended m.before.before.args.continued) (b-is c.before),
     )
 
-pub row-node-spec : {M : Type 1} → statement M
-row-node-spec =
+pub row_node_spec : {M : Type 1} → statement M
+row_node_spec =
     tie.close
-    (tie.spec field-requires marker-check-requires field-requires-2 marker-base-requires returns)
+    (tie.spec
+    field-requires
+    marker-check-requires
+    field-requires-2
+    marker-base-requires
+    returns)

@@ -9,43 +9,43 @@ use Rattle.row_nodes.proofs.RowLengths.{rows-below}
 use Rattle.row_nodes.proofs.rows_below.Statement.{statement}
 use Rattle.row_nodes.proofs.rows_below.Tie as tie
 
-abbrev invariant-loop : tie.invariant-loop
+abbrev invariant-loop : tie.invariant-loop-k
 invariant-loop table m count k₀ k = (k ≤ count) × ((j : ℕ) → j < k → length_of table j < m)
 
-abbrev decreases-loop : tie.decreases-loop
+abbrev decreases-loop : tie.decreases-loop-k
 decreases-loop table m count k₀ k = count - k
 
-loop-holds : tie.Need-loop-init invariant-loop decreases-loop
+loop-holds : tie.Need-loop-k-init invariant-loop decreases-loop
 loop-holds c = (omega arith, λ j l. absurd (not-suc-le-zero l))
 
-length-of-requires : tie.Need-length-of-requires invariant-loop decreases-loop
-length-of-requires c κs = omega (arith, c.loop-test.true)
+length-of-requires : tie.Need-length_of-requires invariant-loop decreases-loop
+length-of-requires c κs = omega (arith, c.loop-k-test.true)
 
-returns : tie.Need-returns invariant-loop decreases-loop
+returns : tie.Need-returns-then-m-length_of invariant-loop decreases-loop
 unfolding rows_of
 returns c =
     let l = c.before.before.before in
-    rows-below _ l.before.requires _ _ l.loop.invariant.0 l.loop.invariant.1 (λ h. omega (arith, c.if1.true, c.before.length_of_lem.ensures.0))
+    rows-below _ l.before.requires _ _ l.loop-k.invariant.0 l.loop-k.invariant.1 (λ h. omega (arith, c.if-m-length_of.true, c.before.length_of_lem.ensures.0))
 
-add-k : tie.Need-overflow-add-k invariant-loop decreases-loop
+add-k : tie.Need-overflow_add-k invariant-loop decreases-loop
 add-k c = search rules
 
-loop-less : tie.Need-loop-smaller invariant-loop decreases-loop
+loop-less : tie.Need-loop-k-smaller invariant-loop decreases-loop
 loop-less c = search rules
 
-loop-again : tie.Need-loop-preserved invariant-loop decreases-loop
+loop-again : tie.Need-loop-k-preserved invariant-loop decreases-loop
 loop-again c =
     let l = c.before.before.before in
-    (omega arith, below_more _ _ l.loop.invariant.1 (omega (arith, c.before.length_of_lem.ensures.0, c.if1.false)))
+    (omega arith, below_more _ _ l.loop-k.invariant.1 (omega (arith, c.before.length_of_lem.ensures.0, c.if-m-length_of.false)))
 
-returns_2 : tie.Need-returns-2 invariant-loop decreases-loop
+returns_2 : tie.Need-returns invariant-loop decreases-loop
 unfolding rows_of
 returns_2 c =
     let l = c.before in
-    rows-below _ l.before.requires _ _ l.loop.invariant.0 l.loop.invariant.1 (λ h. absurd (omega (arith, c.loop-test.false)))
+    rows-below _ l.before.requires _ _ l.loop-k.invariant.0 l.loop-k.invariant.1 (λ h. absurd (omega (arith, c.loop-k-test.false)))
 
-pub rows-below-spec : {M : Type 1} → statement M
-rows-below-spec =
+pub rows_below_spec : {M : Type 1} → statement M
+rows_below_spec =
     tie.close
     (tie.spec
     invariant-loop

@@ -10,21 +10,21 @@ use Rattle.row_search.specs.Search.{found_row}
 use Rattle.row_search.proofs.found_row.Statement.{statement}
 use Rattle.row_search.proofs.found_row.Tie as tie
 
-enum-known-found : tie.Need-enum-known-found
+enum-known-found : tie.Need-enum_known-found
 enum-known-found c = search rules
 
-enum_told : tie.Need-enum-told
+enum_told : tie.Need-enum_told-1
 enum_told c = search rules
 
 unlisted-requires : tie.Need-unlisted-requires
 unlisted-requires c κs = search rules
 
-returns : tie.Need-returns
+returns : tie.Need-returns-in_default
 unfolding found_row
-returns c = c.unlisted.ensures ∙ sym (ap (found_row _) c.before.enum_told.given.1)
+returns c = c.unlisted.ensures ∙ sym (ap (found_row _) c.before.enum_told-1.given.1)
 
-inside : (c : tie.After-known-told) → 8 * c.before.found.given.0.0 + 8 ≤ length c.before.before.before.args.table.now
-inside c = row_in _ _ (c.before.before.before.requires _ c.before.found.given.1)
+inside : (c : tie.In-At) → 8 * c.before.found-1.given.0.0 + 8 ≤ length c.before.before.before.args.table.now
+inside c = row_in _ _ (c.before.before.before.requires _ c.before.found-1.given.1)
 
 field-requires : tie.Need-field-requires
 field-requires c κs = (inside c, lit< tt)
@@ -32,15 +32,15 @@ field-requires c κs = (inside c, lit< tt)
 field-requires-2 : tie.Need-field-requires-2
 field-requires-2 c κs = (inside c.before, lit< tt)
 
-returns_2 : tie.Need-returns-2
+returns_2 : tie.Need-returns
 unfolding found_row
 returns_2 c =
     let f = c.before in
-    rw (to_z-of_z (sfits_of f.field.type-inv), to_z-of_z (sfits_of c.field2.type-inv), f.field.ensures, c.field2.ensures)
-    (sym (ap (found_row _) f.before.before.found.given.1))
+    rw (to_z-of_z (sfits_of f.field.type_inv), to_z-of_z (sfits_of c.field-2.type_inv), f.field.ensures, c.field-2.ensures)
+    (sym (ap (found_row _) f.before.before.found-1.given.1))
 
-pub found-row-spec : {M : Type 1} → statement M
-found-row-spec =
+pub found_row_spec : {M : Type 1} → statement M
+found_row_spec =
     tie.close
     (tie.spec
     enum-known-found

@@ -18,64 +18,64 @@ record Inv (t : List ℤ) (k from size : ℕ) : Type 0 where
   some : 0 < size
   window : Window t k from (from + size)
 
-abbrev invariant-loop : tie.invariant-loop
+abbrev invariant-loop : tie.invariant-loop-size
 invariant-loop t k first end from₀ size₀ from size = Inv t (key_of k.high k.low) from size
 
-abbrev decreases-loop : tie.decreases-loop
+abbrev decreases-loop : tie.decreases-loop-size
 decreases-loop t k first end from₀ size₀ from size = size
 
-sub-size : tie.Need-overflow-sub-size invariant-loop decreases-loop
+sub-size : tie.Need-overflow_sub-size invariant-loop decreases-loop
 sub-size c = omega arith
 
-loop-holds : tie.Need-loop-init invariant-loop decreases-loop
+loop-holds : tie.Need-loop-size-init invariant-loop decreases-loop
 loop-holds c =
     let e : c.args.first + (c.args.end - c.args.first) ≡ c.args.end = omega arith in
     record { some = omega arith; window = rw e c.requires.1 }
 
-add-middle : tie.Need-overflow-add-middle invariant-loop decreases-loop
+add-middle : tie.Need-overflow_add-middle invariant-loop decreases-loop
 unfolding rows_of
 add-middle c = omega arith
 
-row-key-requires : tie.Need-row-key-requires invariant-loop decreases-loop
+row-key-requires : tie.Need-row_key-requires invariant-loop decreases-loop
 unfolding rows_of
 row-key-requires c κs =
-    let w = c.before.loop.invariant.window.within in
+    let w = c.before.loop-size.invariant.window.within in
     (omega arith, c.before.before.requires.0.row _ (omega arith))
 
-key-less-requires : tie.Need-key-less-requires invariant-loop decreases-loop
+key-less-requires : tie.Need-key_less-requires invariant-loop decreases-loop
 key-less-requires c κs = tt
 
-sub-size-2 : tie.Need-overflow-sub-size-2 invariant-loop decreases-loop
+sub-size-2 : tie.Need-overflow_sub-size-in-loop-size invariant-loop decreases-loop
 sub-size-2 c = omega arith
 
-loop-less : tie.Need-loop-smaller invariant-loop decreases-loop
+loop-less : tie.Need-loop-size-smaller invariant-loop decreases-loop
 loop-less c = omega arith
 
-loop-again : tie.Need-loop-preserved invariant-loop decreases-loop
+loop-again : tie.Need-loop-size-preserved invariant-loop decreases-loop
 loop-again c =
     let l = c.before.before.before.before in
     let t = l.before.args.table.now in
     let k = key_of l.before.args.k.high l.before.args.k.low in
-    let i = l.loop.invariant in
-    let two = l.loop.size / 2 in
-    let e : ltb k (row_key t (l.loop.from + two)) ≡ c.before.key_less.result = sym (c.before.key_less.ensures ∙ ap (ltb k) c.before.before.row-key.ensures) in
+    let i = l.loop-size.invariant in
+    let two = l.loop-size.size / 2 in
+    let e : ltb k (row_key t (l.loop-size.from + two)) ≡ c.before.key_less.result = sym (c.before.key_less.ensures ∙ ap (ltb k) c.before.before.row_key.ensures) in
     record {
       some = omega arith;
       window =
           ⊎_elim
-          (λ w. subst (λ (f : ℕ). Window t k f (f + (l.loop.size - two))) (sym w.1) (window_up t l.before.requires.0 k l.loop.from l.loop.size two (omega arith) i.some i.window (ltb-false _ _ (e ∙ not-true _ w.0.taken))))
-          (λ w. subst (λ (f : ℕ). Window t k f (f + (l.loop.size - two))) (sym w.1) (window_down t l.before.requires.0 k l.loop.from l.loop.size two (omega arith) i.some i.window (ltb-true _ _ (e ∙ not-false _ w.0.left))))
-          c.if1.branch;
+          (λ w. subst (λ (f : ℕ). Window t k f (f + (l.loop-size.size - two))) (sym w.1) (window_up t l.before.requires.0 k l.loop-size.from l.loop-size.size two (omega arith) i.some i.window (ltb-false _ _ (e ∙ not-true _ w.0.true))))
+          (λ w. subst (λ (f : ℕ). Window t k f (f + (l.loop-size.size - two))) (sym w.1) (window_down t l.before.requires.0 k l.loop-size.from l.loop-size.size two (omega arith) i.some i.window (ltb-true _ _ (e ∙ not-false _ w.0.left))))
+          c.if-not-key_less.branch;
     }
 
 returns : tie.Need-returns invariant-loop decreases-loop
 returns c =
-    let l = c.before.loop in
+    let l = c.before.loop-size in
     let e : l.size ≡ 1 = omega (arith, l.invariant.some) in
     rw e at l.invariant.window
 
-pub last-not-above-spec : {M : Type 1} → statement M
-last-not-above-spec =
+pub last_not_above_spec : {M : Type 1} → statement M
+last_not_above_spec =
     tie.close
     (tie.spec
     invariant-loop

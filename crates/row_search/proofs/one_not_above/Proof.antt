@@ -9,10 +9,10 @@ use Rattle.rows.proofs.Table.{row_in}
 use Rattle.row_search.proofs.one_not_above.Statement.{statement}
 use Rattle.row_search.proofs.one_not_above.Tie as tie
 
-low-key-requires : tie.Need-low-key-requires
+low-key-requires : tie.Need-low_key-requires
 low-key-requires c κs = (row_in _ _ c.requires.1, c.requires.0.row c.args.i c.requires.1)
 
-cast-result : tie.Need-overflow-cast-result
+cast-result : tie.Need-overflow_cast-result
 cast-result c = search rules
 
 bit_small : (b : Bool) → bool_byte b ≤ 1
@@ -20,7 +20,7 @@ bit_small true = omega arith
 bit_small false = omega arith
 
 returns : tie.Need-returns
-returns c = bit_small (leb c.low-key.result c.before.args.k)
+returns c = bit_small (leb c.low_key.result c.before.args.k)
 
-pub one-not-above-spec : {M : Type 1} → statement M
-one-not-above-spec = tie.close (tie.spec low-key-requires cast-result returns)
+pub one_not_above_spec : {M : Type 1} → statement M
+one_not_above_spec = tie.close (tie.spec low-key-requires cast-result returns)

@@ -6,53 +6,53 @@ use Rattle.rows.specs.Table.{rows_of}
 use Rattle.row_search.proofs.quartered.Statement.{statement}
 use Rattle.row_search.proofs.quartered.Tie as tie
 
-abbrev invariant-loop : tie.invariant-loop
+abbrev invariant-loop : tie.invariant-loop-size
 invariant-loop t k first end from₀ size₀ from size = 0 < size → from + size ≤ rows_of t
 
-abbrev decreases-loop : tie.decreases-loop
+abbrev decreases-loop : tie.decreases-loop-size
 decreases-loop t k first end from₀ size₀ from size = size
 
-span-size-requires : tie.Need-span-size-requires invariant-loop decreases-loop
+span-size-requires : tie.Need-span_size-size-requires invariant-loop decreases-loop
 span-size-requires c κs = tt
 
-loop-holds : tie.Need-loop-init invariant-loop decreases-loop
-loop-holds c = c.span-size.ensures
+loop-holds : tie.Need-loop-size-init invariant-loop decreases-loop
+loop-holds c = c.span_size-size.ensures
 
-within : (c : tie.In-loop invariant-loop decreases-loop) → c.before.loop.from + c.before.loop.size ≤ rows_of c.before.before.before.args.part.now
-within c = let l = c.loop-test.true in c.before.loop.invariant (omega arith)
+within : (c : tie.In-loop-size invariant-loop decreases-loop) → c.before.loop-size.from + c.before.loop-size.size ≤ rows_of c.before.before.before.args.part.now
+within c = let l = c.loop-size-test.true in c.before.loop-size.invariant (omega arith)
 
-three-not-above-requires : tie.Need-three-not-above-requires invariant-loop decreases-loop
+three-not-above-requires : tie.Need-three_not_above-requires invariant-loop decreases-loop
 three-not-above-requires c κs = (c.before.before.before.requires, let w = within c in omega arith)
 
-most : (c : tie.After-three-not-above invariant-loop decreases-loop) → (c.before.before.loop.size / 4) * c.three-not-above.result ≤ (c.before.before.loop.size / 4) * 3
-most c = mul-le-mul_left (c.before.before.loop.size / 4) c.three-not-above.ensures
+most : (c : tie.After-three_not_above invariant-loop decreases-loop) → (c.before.before.loop-size.size / 4) * c.three_not_above.result ≤ (c.before.before.loop-size.size / 4) * 3
+most c = mul-le-mul_left (c.before.before.loop-size.size / 4) c.three_not_above.ensures
 
-mul-from : tie.Need-overflow-mul-from invariant-loop decreases-loop
+mul-from : tie.Need-overflow_mul-from invariant-loop decreases-loop
 unfolding rows_of
 mul-from c = let m = most c in let w = within c.before in omega arith
 
-add-from : tie.Need-overflow-add-from invariant-loop decreases-loop
+add-from : tie.Need-overflow_add-from invariant-loop decreases-loop
 unfolding rows_of
 add-from c = let m = most c in let w = within c.before in omega arith
 
-mul-size : tie.Need-overflow-mul-size invariant-loop decreases-loop
+mul-size : tie.Need-overflow_mul-size invariant-loop decreases-loop
 unfolding rows_of
 mul-size c = let w = within c.before in omega arith
 
-sub-size : tie.Need-overflow-sub-size invariant-loop decreases-loop
+sub-size : tie.Need-overflow_sub-size invariant-loop decreases-loop
 sub-size c = omega arith
 
-loop-less : tie.Need-loop-smaller invariant-loop decreases-loop
+loop-less : tie.Need-loop-size-smaller invariant-loop decreases-loop
 loop-less c = omega arith
 
-loop-again : tie.Need-loop-preserved invariant-loop decreases-loop
+loop-again : tie.Need-loop-size-preserved invariant-loop decreases-loop
 loop-again c = let m = most c in let w = within c.before in λ l. omega arith
 
 returns : tie.Need-returns invariant-loop decreases-loop
 returns c = tt
 
-pub quartered-spec : {M : Type 1} → statement M
-quartered-spec =
+pub quartered_spec : {M : Type 1} → statement M
+quartered_spec =
     tie.close
     (tie.spec
     invariant-loop

@@ -10,31 +10,36 @@ use Rattle.row_search.proofs.ByKey.{window_all, window_end}
 use Rattle.row_search.proofs.search_end.Statement.{statement}
 use Rattle.row_search.proofs.search_end.Tie as tie
 
-returns : tie.Need-returns
+returns : tie.Need-returns-then-rows-to
 unfolding rows_of
 returns c = window_all _ _
 
-row-key-requires : tie.Need-row-key-requires
+row-key-requires : tie.Need-row_key-requires
 unfolding rows_of
-row-key-requires c κs = (let l = c.if1.false in omega arith, c.before.requires.row c.before.args.to c.if1.false)
+row-key-requires c κs = (let l = c.if-rows-to.false in omega arith, c.before.requires.row c.before.args.to c.if-rows-to.false)
 
-key-less-requires : tie.Need-key-less-requires
+key-less-requires : tie.Need-key_less-requires
 key-less-requires c κs = search rules
 
-returns_2 : tie.Need-returns-2
+returns_2 : tie.Need-returns-then-key_less
 unfolding rows_of
 returns_2 c =
     let r = c.before.before in
     let s = r.before.before in
     let t = s.args.table.now in
     let k = key_of s.args.k.high s.args.k.low in
-    let e : ltb k (row_key t s.args.to) ≡ c.before.key_less.result = sym (c.before.key_less.ensures ∙ ap (ltb k) r.row-key.ensures) in
-    window_end t s.requires k s.args.to r.before.if1.false (ltb-true _ _ (e ∙ c.if2.true))
+    let e : ltb k (row_key t s.args.to) ≡ c.before.key_less.result = sym (c.before.key_less.ensures ∙ ap (ltb k) r.row_key.ensures) in
+    window_end t s.requires k s.args.to r.before.if-rows-to.false (ltb-true _ _ (e ∙ c.if-key_less.true))
 
-returns_3 : tie.Need-returns-3
+returns_3 : tie.Need-returns
 unfolding rows_of
 returns_3 c = window_all _ _
 
-pub search-end-spec : {M : Type 1} → statement M
-search-end-spec =
-    tie.close (tie.spec returns row-key-requires key-less-requires returns_2 returns_3)
+pub search_end_spec : {M : Type 1} → statement M
+search_end_spec =
+    tie.close (tie.spec
+    returns
+    row-key-requires
+    key-less-requires
+    returns_2
+    returns_3)

@@ -11,38 +11,38 @@ use Rattle.rows.proofs.Table.{word_range}
 use Rattle.row_starts.proofs.likely_rows.Statement.{statement}
 use Rattle.row_starts.proofs.likely_rows.Tie as tie
 
-element-copy-out-rows-near : tie.Need-element-copy-out-rows-near
+element-copy-out-rows-near : tie.Need-bounds-starts-0
 element-copy-out-rows-near c = search rules
 
-element-copy-out-rows-near-2 : tie.Need-element-copy-out-rows-near-2
+element-copy-out-rows-near-2 : tie.Need-bounds-starts-2
 element-copy-out-rows-near-2 c = search rules
 
-shared-slice-copy-out-rows-near : tie.Need-shared-slice-copy-out-rows-near
+shared-slice-copy-out-rows-near : tie.Need-bounds-words-0
 shared-slice-copy-out-rows-near c = search rules
 
-word_fits : (c : tie.After-rows-near-arg3) → SFits w32 (get_or c.before.before.before.before.args.words.now 0 (pos 0))
-word_fits c = sfits_of c.rows-near-arg3.given
+word_fits : (c : tie.After-rows_near-arg-then-words-eq1-2-1) → SFits w32 (get_or c.before.before.before.before.args.words.now 0 (pos 0))
+word_fits c = sfits_of c.rows_near-arg-then-words-eq1-2-1.given
 
-cast-rows-near : tie.Need-overflow-cast-rows-near
+cast-rows-near : tie.Need-overflow_cast-words
 cast-rows-near c =
     let t = c.before.before.before in
     let s = t.before in
-    between_cast (pos word_limit) (word_fits c) (word_range s.args.words.now 0 s.requires.1 (omega (arith, t.if1.true)))
+    between_cast (pos word_limit) (word_fits c) (word_range s.args.words.now 0 s.requires.1 (omega (arith, t.if-words-eq1.true)))
 
-rows-near-requires : tie.Need-rows-near-requires
+rows-near-requires : tie.Need-rows_near-requires
 rows-near-requires c κs = search rules
 
-returns : tie.Need-returns
+returns : tie.Need-returns-then-words-eq1
 returns c = search rules
 
-rows-of-requires : tie.Need-rows-of-requires
+rows-of-requires : tie.Need-rows_of-requires
 rows-of-requires c κs = search rules
 
-returns_2 : tie.Need-returns-2
+returns_2 : tie.Need-returns
 returns_2 c = search rules
 
-pub likely-rows-spec : {M : Type 1} → statement M
-likely-rows-spec =
+pub likely_rows_spec : {M : Type 1} → statement M
+likely_rows_spec =
     tie.close
     (tie.spec
     element-copy-out-rows-near

@@ -15,5 +15,5 @@ returns c =
     let m : b.low < low_limit = omega arith in
     parts_equal a.high a.low b.high b.low l m
 
-pub key-equal-spec : {M : Type 1} → statement M
-key-equal-spec = tie.close (tie.spec returns)
+pub key_equal_spec : {M : Type 1} → statement M
+key_equal_spec = tie.close (tie.spec returns)

@@ -15,5 +15,5 @@ returns c =
     let m : b.low < low_limit = omega arith in
     parts_less a.high a.low b.high b.low l m
 
-pub key-less-spec : {M : Type 1} → statement M
-key-less-spec = tie.close (tie.spec returns)
+pub key_less_spec : {M : Type 1} → statement M
+key_less_spec = tie.close (tie.spec returns)

@@ -5,19 +5,19 @@ use borrow.Author.Rules.{rules}
 use Rattle.rows.proofs.key_of.Statement.{statement}
 use Rattle.rows.proofs.key_of.Tie as tie
 
-word-at-requires : tie.Need-word-at-requires
+word-at-requires : tie.Need-word_at-a-requires
 word-at-requires c κs = search rules
 
-word-at-requires-2 : tie.Need-word-at-requires-2
+word-at-requires-2 : tie.Need-word_at-b-requires
 word-at-requires-2 c κs = search rules
 
-word-at-requires-3 : tie.Need-word-at-requires-3
+word-at-requires-3 : tie.Need-word_at-c-requires
 word-at-requires-3 c κs = search rules
 
-word-at-requires-4 : tie.Need-word-at-requires-4
+word-at-requires-4 : tie.Need-word_at-d-requires
 word-at-requires-4 c κs = search rules
 
-word-at-requires-5 : tie.Need-word-at-requires-5
+word-at-requires-5 : tie.Need-word_at-requires
 word-at-requires-5 c κs = search rules
 
 packed-requires : tie.Need-packed-requires
@@ -32,10 +32,10 @@ returns c =
     let w1 = w2.before in
     let s = w1.before in
     c.packed.ensures
-    ∙ rw (w1.word_at.ensures.0, w2.word-at2.ensures.0, w3.word-at3.ensures.0, w4.word-at4.ensures.0, w5.word-at5.ensures.0) (key-places s.args.words.now s.requires.0)
+    ∙ rw (w1.word_at-a.ensures.0, w2.word_at-b.ensures.0, w3.word_at-c.ensures.0, w4.word_at-d.ensures.0, w5.word_at.ensures.0) (key-places s.args.words.now s.requires.0)
 
-pub key-of-spec : {M : Type 1} → statement M
-key-of-spec =
+pub key_of_spec : {M : Type 1} → statement M
+key_of_spec =
     tie.close
     (tie.spec
     word-at-requires

@@ -5,12 +5,12 @@ use Rattle.backoff.specs.Words.{key}
 use Rattle.rows.proofs.packed.Statement.{statement}
 use Rattle.rows.proofs.packed.Tie as tie
 
-key-of-four-requires : tie.Need-key-of-four-requires
+key-of-four-requires : tie.Need-key_of_four-requires
 key-of-four-requires c κs = search rules
 
 returns : tie.Need-returns
 unfolding key
-returns c = omega (arith, c.key-of-four.ensures)
+returns c = omega (arith, c.key_of_four.ensures)
 
-pub packed-spec : {M : Type 1} → statement M
-packed-spec = tie.close (tie.spec key-of-four-requires returns)
+pub packed_spec : {M : Type 1} → statement M
+packed_spec = tie.close (tie.spec key-of-four-requires returns)

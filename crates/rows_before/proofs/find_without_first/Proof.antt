@@ -12,51 +12,51 @@ use borrow.Author.Rules.{rules}
 use Rattle.rows_before.proofs.find_without_first.Statement.{statement}
 use Rattle.rows_before.proofs.find_without_first.Tie as tie
 
-part : (c : tie.After-first-asked) → words_of (take (8 * c.before.args.i + (c.before.args.m + 1) - (8 * c.before.args.i + c.first-asked.result)) (drop (8 * c.before.args.i + c.first-asked.result) c.before.args.table.now)) ≡ without_firsts c.before.args.filling c.before.args.table.now c.before.args.i
+part : (c : tie.After-first_asked) → words_of (take (8 * c.before.args.i + (c.before.args.m + 1) - (8 * c.before.args.i + c.first_asked.result)) (drop (8 * c.before.args.i + c.first_asked.result) c.before.args.table.now)) ≡ without_firsts c.before.args.filling c.before.args.table.now c.before.args.i
 part c =
     let s = c.before in
-    rw (c.first-asked.ensures.0, s.requires.3) (asked-words _ _ s.requires.2 s.requires.0 s.args.filling)
+    rw (c.first_asked.ensures.0, s.requires.3) (asked-words _ _ s.requires.2 s.requires.0 s.args.filling)
 
-mul-start : tie.Need-overflow-mul-start
+mul-start : tie.Need-overflow_mul-start
 mul-start c = search rules
 
-first-asked-requires : tie.Need-first-asked-requires
+first-asked-requires : tie.Need-first_asked-requires
 first-asked-requires c κs = search rules
 
-add-second : tie.Need-overflow-add-second
+add-second : tie.Need-overflow_add-second
 add-second c = search rules
 
-add-past : tie.Need-overflow-add-past
+add-past : tie.Need-overflow_add-past
 add-past c = search rules
 
-add-past-2 : tie.Need-overflow-add-past-2
+add-past-2 : tie.Need-overflow_add-past-2
 add-past-2 c = search rules
 
-slice-aggregate-find-near : tie.Need-slice-aggregate-find-near
+slice-aggregate-find-near : tie.Need-slice_bounds-find_near-end
 slice-aggregate-find-near c = sym (length-take-le _ _ (omega arith))
 
-mul-find-near : tie.Need-overflow-mul-find-near
+mul-find-near : tie.Need-offset_bounds-table-second
 mul-find-near c = search rules
 
-sub-find-near : tie.Need-overflow-sub-find-near
+sub-find-near : tie.Need-slice_bounds-find_near-count
 sub-find-near c = search rules
 
-part-find-near-start : tie.Need-slice-bounds-find-near-start
+part-find-near-start : tie.Need-slice_bounds-find_near-start
 part-find-near-start c = search rules
 
-part-find-near-end : tie.Need-slice-bounds-find-near-end
+part-find-near-end : tie.Need-slice_bounds-find_near-end-2
 part-find-near-end c = search rules
 
-find-near-requires : tie.Need-find-near-requires
+find-near-requires : tie.Need-find_near-requires
 find-near-requires c κs =
     let s = c.before.before.before in
     (part_good _ _ (omega arith) s.requires.1, rw length-take (omega arith), rw (part c.before.before) (are_words-asked _ _ s.requires.2 s.requires.0 _))
 
 returns : tie.Need-returns
-returns c = rw (part c.before.before.before) at c.find-near.ensures
+returns c = rw (part c.before.before.before) at c.find_near.ensures
 
-pub find-without-first-spec : {M : Type 1} → statement M
-find-without-first-spec =
+pub find_without_first_spec : {M : Type 1} → statement M
+find_without_first_spec =
     tie.close
     (tie.spec
     mul-start

@@ -18,40 +18,40 @@ part s =
     let e : 8 * s.args.i + s.args.m - (8 * s.args.i + 1) ≡ length_of s.args.table.now s.args.i - 1 = omega arith in
     rw e
 
-mul-end : tie.Need-overflow-mul-end
+mul-end : tie.Need-overflow_mul-end
 mul-end c = search rules
 
-add-first : tie.Need-overflow-add-first
+add-first : tie.Need-overflow_add-first
 add-first c = search rules
 
-add-last : tie.Need-overflow-add-last
+add-last : tie.Need-overflow_add-last
 add-last c = search rules
 
-slice-aggregate-find-of-length : tie.Need-slice-aggregate-find-of-length
+slice-aggregate-find-of-length : tie.Need-slice_bounds-find_of_length-end
 slice-aggregate-find-of-length c = sym (length-take-le _ _ (omega arith))
 
-mul-find-of-length : tie.Need-overflow-mul-find-of-length
+mul-find-of-length : tie.Need-offset_bounds-table-first
 mul-find-of-length c = search rules
 
-sub-find-of-length : tie.Need-overflow-sub-find-of-length
+sub-find-of-length : tie.Need-slice_bounds-find_of_length-count
 sub-find-of-length c = search rules
 
-part-find-of-length-start : tie.Need-slice-bounds-find-of-length-start
+part-find-of-length-start : tie.Need-slice_bounds-find_of_length-start
 part-find-of-length-start c = search rules
 
-part-find-of-length-end : tie.Need-slice-bounds-find-of-length-end
+part-find-of-length-end : tie.Need-slice_bounds-find_of_length-end-2
 part-find-of-length-end c = search rules
 
-find-of-length-requires : tie.Need-find-of-length-requires
+find-of-length-requires : tie.Need-find_of_length-requires
 find-of-length-requires c κs =
     let s = c.before.before in
     (part_good _ _ (omega arith) s.requires.1, rw length-take (omega arith), rw (part s) (are_words-without_last _ _ s.requires.2 s.requires.0))
 
 returns : tie.Need-returns
-returns c = rw (part c.before.before.before) at c.find-of-length.ensures
+returns c = rw (part c.before.before.before) at c.find_of_length.ensures
 
-pub find-without-last-spec : {M : Type 1} → statement M
-find-without-last-spec =
+pub find_without_last_spec : {M : Type 1} → statement M
+find_without_last_spec =
     tie.close
     (tie.spec
     mul-end

@@ -11,43 +11,43 @@ use borrow.Author.Rules.{rules}
 use Rattle.rows_before.proofs.order_fault.Statement.{statement}
 use Rattle.rows_before.proofs.order_fault.Tie as tie
 
-is-after-requires : tie.Need-is-after-requires
+is-after-requires : tie.Need-is_after-requires
 is-after-requires c κs = search rules
 
 faulty-requires : tie.Need-faulty-requires
 faulty-requires c κs = search rules
 
-returns : tie.Need-returns
+returns : tie.Need-returns-then-not-is_after
 returns c =
     let e = c.faulty.ensures in
-    (e ∙ sym (fault_order _ _ _ (sym c.before.before.is-after.ensures ∙ not-true _ c.before.if1.true)), λ z. absurd (omega arith))
+    (e ∙ sym (fault_order _ _ _ (sym c.before.before.is_after.ensures ∙ not-true _ c.before.if-not-is_after.true)), λ z. absurd (omega arith))
 
-after : (c : tie.Else1) → is_after c.before.before.args.table.now c.before.before.args.i ≡ true
-after c = sym c.before.is-after.ensures ∙ not-false _ c.if1.false
+after : (c : tie.Else-not-is_after) → is_after c.before.before.args.table.now c.before.before.args.i ≡ true
+after c = sym c.before.is_after.ensures ∙ not-false _ c.if-not-is_after.false
 
-length-of-requires : tie.Need-length-of-requires
+length-of-requires : tie.Need-length_of-m-requires
 length-of-requires c κs = search rules
 
 -- the row has no words but the last
-returns_2 : tie.Need-returns-2
+returns_2 : tie.Need-returns-then-m-lt2
 returns_2 c =
     let d = c.before.before in
     let s = d.before.before in
     let m = c.before.length_of_lem.ensures.0 in
-    let l = c.if2.true in
+    let l = c.if-m-lt2.true in
     (sym (fault_none _ _ _ (after d) (rw m at l)), λ z. not-before s.args.i ∙ sym (single-nothing _ _ _ (part_good _ _ (omega arith) s.requires.1) (omega arith)))
 
-shorter-fault-requires : tie.Need-shorter-fault-requires
+shorter-fault-requires : tie.Need-shorter_fault-requires
 shorter-fault-requires c κs = search rules
 
-returns_3 : tie.Need-returns-3
+returns_3 : tie.Need-returns
 returns_3 c =
     let d = c.before.before.before in
-    let r = c.shorter-fault.ensures in
+    let r = c.shorter_fault.ensures in
     (r.0 ∙ sym (fault_shorter _ _ _ (after d) (omega arith)), r.1)
 
-pub order-fault-spec : {M : Type 1} → statement M
-order-fault-spec =
+pub order_fault_spec : {M : Type 1} → statement M
+order_fault_spec =
     tie.close
     (tie.spec
     is-after-requires

@@ -23,59 +23,59 @@ last s = is_at (find_in (take (8 * s.args.i) s.args.table.now) (without_last s.a
 fault : (s : tie.Start) (b : Bool) → shorter_listed s.args.filling s.args.table.now s.args.i ≡ b → cond (not b) shorter_row 0 ≡ cond (not (shorter_listed s.args.filling s.args.table.now s.args.i)) shorter_row 0
 fault s b e = ap (λ (b : Bool). cond (not b) shorter_row 0) (sym e)
 
-find-shorter-requires : tie.Need-find-shorter-requires
+find-shorter-requires : tie.Need-find_shorter-requires
 find-shorter-requires c κs = search rules
 
-enum-known-last : tie.Need-enum-known-last
+enum-known-last : tie.Need-enum_known-last
 enum-known-last c = search rules
 
-enum_told : tie.Need-enum-told
+enum_told : tie.Need-enum_told-1
 enum_told c = search rules
 
 faulty-requires : tie.Need-faulty-requires
 faulty-requires c κs = search rules
 
-returns : tie.Need-returns
+returns : tie.Need-returns-in_default
 unfolding shorter_listed
 returns c =
     let l = c.before.before.before in
     let s = l.before in
-    let e : last s ≡ false = ap is_at (sym l.find-shorter.ensures ∙ c.before.enum_told.given.1) in
+    let e : last s ≡ false = ap is_at (sym l.find_shorter.ensures ∙ c.before.enum_told-1.given.1) in
     (c.faulty.ensures ∙ fault s false (and_no (first s) (last s) e), λ z. absurd (omega arith))
 
-find-without-first-requires : tie.Need-find-without-first-requires
+find-without-first-requires : tie.Need-find_without_first-requires
 find-without-first-requires c κs = search rules
 
-enum-known-first : tie.Need-enum-known-first
+enum-known-first : tie.Need-enum_known-first
 enum-known-first c = search rules
 
-enum-told-2 : tie.Need-enum-told-2
+enum-told-2 : tie.Need-enum_told-in_default-find_without_first
 enum-told-2 c = search rules
 
-faulty-requires-2 : tie.Need-faulty-requires-2
+faulty-requires-2 : tie.Need-faulty-requires-in_default-find_without_first
 faulty-requires-2 c κs = search rules
 
-returns_2 : tie.Need-returns-2
+returns_2 : tie.Need-returns-in_default-find_without_first
 unfolding shorter_listed
 returns_2 c =
     let f = c.before.before.before in
     let s = f.before.before.before.before.before in
-    let e : first s ≡ false = ap is_at (sym f.find-without-first.ensures ∙ c.before.enum-told2.given.1) in
-    (c.faulty2.ensures ∙ fault s false (rw e), λ z. absurd (omega arith))
+    let e : first s ≡ false = ap is_at (sym f.find_without_first.ensures ∙ c.before.enum_told-in_default-find_without_first-1.given.1) in
+    (c.faulty-in_default-find_without_first.ensures ∙ fault s false (rw e), λ z. absurd (omega arith))
 
-returns_3 : tie.Need-returns-3
+returns_3 : tie.Need-returns
 unfolding shorter_listed
 returns_3 c =
     let f = c.before.before.before in
     let k = f.before.before in
     let s = k.before.before.before in
-    let found = sym k.before.before.find-shorter.ensures ∙ k.last.given.1 in
-    let e : first s ≡ true = ap is_at (sym f.find-without-first.ensures ∙ c.before.first.given.1) in
+    let found = sym k.before.before.find_shorter.ensures ∙ k.last-1.given.1 in
+    let e : first s ≡ true = ap is_at (sym f.find_without_first.ensures ∙ c.before.first-1.given.1) in
     let l : last s ≡ true = ap is_at found in
     (fault s true (rw (e, l)), λ z. found_before _ _ _ _ (omega arith) found)
 
-pub shorter-fault-spec : {M : Type 1} → statement M
-shorter-fault-spec =
+pub shorter_fault_spec : {M : Type 1} → statement M
+shorter_fault_spec =
     tie.close
     (tie.spec
     find-shorter-requires

@@ -18,35 +18,35 @@ record Cleared (points₀ : List ℤ) (lengths₀ : List ℕ) (count : ℕ) (poi
   points-long : length points ≡ length points₀
   lengths-long : length lengths ≡ length lengths₀
 
-abbrev invariant-loop : tie.invariant-loop
+abbrev invariant-loop : tie.invariant-loop-i
 invariant-loop points₀ lengths₀ count i₀ points lengths i = Cleared points₀ lengths₀ count points lengths i
 
-abbrev decreases-loop : tie.decreases-loop
+abbrev decreases-loop : tie.decreases-loop-i
 decreases-loop points₀ lengths₀ count i₀ points lengths i = count - i
 
-loop-holds : tie.Need-loop-init invariant-loop decreases-loop
+loop-holds : tie.Need-loop-i-init invariant-loop decreases-loop
 loop-holds c = record { at = omega arith; points_are = refl; lengths_are = refl; points-long = refl; lengths-long = refl }
 
-mul-points : tie.Need-overflow-mul-points invariant-loop decreases-loop
+mul-points : tie.Need-offset_bounds-points-i invariant-loop decreases-loop
 mul-points c = search rules
 
-slice-set-of-points : tie.Need-slice-set-of-points invariant-loop decreases-loop
+slice-set-of-points : tie.Need-slice_set_of-points invariant-loop decreases-loop
 slice-set-of-points c = search rules
 
-slice-write-lengths : tie.Need-slice-write-lengths invariant-loop decreases-loop
+slice-write-lengths : tie.Need-bounds-lengths-i invariant-loop decreases-loop
 slice-write-lengths c = search rules
 
-add-i : tie.Need-overflow-add-i invariant-loop decreases-loop
+add-i : tie.Need-overflow_add-i invariant-loop decreases-loop
 add-i c = search rules
 
-loop-less : tie.Need-loop-smaller invariant-loop decreases-loop
+loop-less : tie.Need-loop-i-smaller invariant-loop decreases-loop
 loop-less c = search rules
 
-loop-again : tie.Need-loop-preserved invariant-loop decreases-loop
+loop-again : tie.Need-loop-i-preserved invariant-loop decreases-loop
 loop-again c =
     let s = c.before.before in
-    let v = c.before.loop.invariant in
-    let i = c.before.loop.i in
+    let v = c.before.loop-i.invariant in
+    let i = c.before.loop-i.i in
     record {
       at = omega arith;
       points_are = rw v.points_are (fill_more i (pos 0) s.args.points.now (omega arith));
@@ -55,18 +55,18 @@ loop-again c =
       lengths-long = simp length-set v.lengths-long;
     }
 
-same_length : tie.Need-same-length invariant-loop decreases-loop
+same_length : tie.Need-shape_of-points invariant-loop decreases-loop
 same_length c = search rules
 
-same-length_2 : tie.Need-same-length-2 invariant-loop decreases-loop
+same-length_2 : tie.Need-shape_of-lengths invariant-loop decreases-loop
 same-length_2 c = search rules
 
 returns : tie.Need-returns invariant-loop decreases-loop
 unfolding written
 returns c =
     let s = c.before.before in
-    let v = c.before.loop.invariant in
-    let e : c.before.loop.i ≡ s.args.count = omega arith in
+    let v = c.before.loop-i.invariant in
+    let e : c.before.loop-i.i ≡ s.args.count = omega arith in
     (v.points_are ∙ rw (e, length-replicate s.args.count (pos 0)), v.lengths_are ∙ rw (e, length-replicate {A = ℕ} s.args.count 0))
 
 pub clear_spec : {M : Type 1} → statement M

@@ -8,21 +8,26 @@ use borrow.Author.Rules.{rules}
 use Rattle.run_answer.proofs.kind_byte.Statement.{statement}
 use Rattle.run_answer.proofs.kind_byte.Tie as tie
 
-enum-known-kind : tie.Need-enum-known-kind
+enum-known-kind : tie.Need-enum_known-kind
 enum-known-kind c = search rules
 
-enum-known-kind-2 : tie.Need-enum-known-kind-2
+enum-known-kind-2 : tie.Need-enum_known-kind-in-Unknown-1
 enum-known-kind-2 c = search rules
 
-add-result : tie.Need-overflow-add-result
-add-result c = omega (arith, subst (λ (k : Kind). kind_byte k < 256) c.before.kind2.given.1 c.before.before.before.requires)
+add-result : tie.Need-overflow_add-result
+add-result c = omega (arith, subst (λ (k : Kind). kind_byte k < 256) c.before.kind-in-Unknown-1.given.1 c.before.before.before.requires)
 
-returns : tie.Need-returns
+returns : tie.Need-returns-in-Known
 returns c = search rules
 
-returns_2 : tie.Need-returns-2
-returns_2 c = sym (ap kind_byte c.before.kind2.given.1)
+returns_2 : tie.Need-returns-in-Unknown
+returns_2 c = sym (ap kind_byte c.before.kind-in-Unknown-1.given.1)
 
-pub kind-byte-spec : {M : Type 1} → statement M
-kind-byte-spec =
-    tie.close (tie.spec enum-known-kind enum-known-kind-2 add-result returns returns_2)
+pub kind_byte_spec : {M : Type 1} → statement M
+kind_byte_spec =
+    tie.close (tie.spec
+    enum-known-kind
+    enum-known-kind-2
+    add-result
+    returns
+    returns_2)

@@ -8,32 +8,32 @@ use mir.Facts.{to_z-of_z}
 use Rattle.run_answer.proofs.write_word.Statement.{statement}
 use Rattle.run_answer.proofs.write_word.Tie as tie
 
-write-points-requires : tie.Need-write-points-requires
+write-points-requires : tie.Need-write_points-requires
 write-points-requires c κs = search rules
 
-length-byte-requires : tie.Need-length-byte-requires
+length-byte-requires : tie.Need-length_byte-requires
 length-byte-requires c κs = search rules
 
-slice-write-lengths : tie.Need-slice-write-lengths
+slice-write-lengths : tie.Need-bounds-lengths-i
 slice-write-lengths c = search rules
 
-same_length : tie.Need-same-length
+same_length : tie.Need-shape_of-points
 same_length c = search rules
 
-same-length_2 : tie.Need-same-length-2
+same-length_2 : tie.Need-shape_of-lengths
 same-length_2 c = search rules
 
-points-fits : (s : tie.Start) → SFits w32 s.args.score.points
+points-fits : (s : tie.Start) → SFits w32 s.args.score.points-1
 points-fits s = search rules
 
 returns : tie.Need-returns
 returns c =
     let w = c.before.before in
     let s = w.before.before.before.before in
-    (w.write-points.ensures ∙ ap (set s.args.points.now s.args.i) (to_z-of_z (points-fits s)), ap (set s.args.lengths.now s.args.i) c.length_byte_lem.ensures)
+    (w.write_points.ensures ∙ ap (set s.args.points.now s.args.i) (to_z-of_z (points-fits s)), ap (set s.args.lengths.now s.args.i) c.length_byte_lem.ensures)
 
-pub write-word-spec : {M : Type 1} → statement M
-write-word-spec =
+pub write_word_spec : {M : Type 1} → statement M
+write_word_spec =
     tie.close
     (tie.spec
     write-points-requires

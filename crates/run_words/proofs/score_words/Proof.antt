@@ -43,11 +43,11 @@ record Loop (check : List ℤ) (S : Store) (s : Carried) (ws : List ℕ) (points
   carries : Carries S.order carried backoffs
   ahead-is : i < length ws → ahead ≡ replaced check (get_or ws i 0)
 
-abbrev invariant-loop : tie.invariant-loop
+abbrev invariant-loop : tie.invariant-loop-i
 invariant-loop base check order state words points₀ lengths₀ carried₀ backoffs₀ total₀ ahead₀ i₀ points lengths carried backoffs total ahead i =
     Loop check (store_in base check) (state_in (numbers_of state)) words points₀ lengths₀ carried backoffs (to_z w64 total) ahead i points lengths
 
-abbrev decreases-loop : tie.decreases-loop
+abbrev decreases-loop : tie.decreases-loop-i
 decreases-loop base check order state words points₀ lengths₀ carried₀ backoffs₀ total₀ ahead₀ i₀ points lengths carried backoffs total ahead i =
     length words - i
 
@@ -62,10 +62,10 @@ limit s = omega (arith, order_is s)
 arrays : (s : tie.Start invariant-loop decreases-loop) → Four s.args.state
 arrays s = record { words = search rules; backoffs = search rules }
 
-pack-requires : tie.Need-pack-requires invariant-loop decreases-loop
+pack-requires : tie.Need-pack-carried-requires invariant-loop decreases-loop
 pack-requires c κs = let s = c.before.before in packable s.args.order s.args.state (arrays s) (limit s) s.requires.1.1.0
 
-lent-requires : tie.Need-lent-requires invariant-loop decreases-loop
+lent-requires : tie.Need-lent-backoffs-requires invariant-loop decreases-loop
 lent-requires c κs = search rules
 
 begins : {check : List ℤ} {S : Store} {s : Carried} {ws : List ℕ} {points : List ℤ} {lengths : List ℕ} {packed carried : Packed} {lent backoffs : List ℤ} {ahead : ℕ} → carried ≡ packed → backoffs ≡ lent → held_in packed lent ≡ s → Carries S.order packed lent → (0 < length ws → ahead ≡ replaced check (get_or ws 0 0)) → Loop check S s ws points lengths carried backoffs (to_z w64 0) ahead 0 points lengths
@@ -75,212 +75,212 @@ begins d e f h a = rw (d, e) (record { running = running_begins _ _ _ _ _ _ f; c
 root-check : (s : tie.Start invariant-loop decreases-loop) → get_or s.args.check.now 1 free_check ≡ negsuc 0
 root-check s = (opened-head s.args.base.now s.args.check.now s.requires.0).root-check
 
-next-word-requires : tie.Need-next-word-requires invariant-loop decreases-loop
+next-word-requires : tie.Need-next_word-ahead-requires invariant-loop decreases-loop
 next-word-requires c κs = root-check c.before.before.before.before
 
-loop-holds : tie.Need-loop-init invariant-loop decreases-loop
+loop-holds : tie.Need-loop-i-init invariant-loop decreases-loop
 loop-holds c =
     let p = c.before.before in
     let s = p.before.before.before in
     let n = s.args.order in
-    begins p.pack.ensures c.before.lent.ensures (packed-held n s.args.state (arrays s) (limit s) s.requires.1.1.0) (rw (order_is s).0 (packed-carries n s.args.state (arrays s) (limit s) s.requires.1.1.0)) c.next_word.ensures
+    begins p.pack-carried.ensures c.before.lent-backoffs.ensures (packed-held n s.args.state (arrays s) (limit s) s.requires.1.1.0) (rw (order_is s).0 (packed-carries n s.args.state (arrays s) (limit s) s.requires.1.1.0)) c.next_word-ahead.ensures
 
 -- the function's entry
-abbrev entry : tie.At-loop invariant-loop decreases-loop → tie.Start invariant-loop decreases-loop
+abbrev entry : tie.At-loop-i invariant-loop decreases-loop → tie.Start invariant-loop decreases-loop
 entry l = l.before.before.before.before.before.before
 
-add-next-word : tie.Need-overflow-add-next-word invariant-loop decreases-loop
+add-next-word : tie.Need-overflow_add-i invariant-loop decreases-loop
 add-next-word c = search rules
 
-next-word-requires-2 : tie.Need-next-word-requires-2 invariant-loop decreases-loop
+next-word-requires-2 : tie.Need-next_word-ahead-requires-in-loop-i invariant-loop decreases-loop
 next-word-requires-2 c κs = root-check (entry c.before)
 
-step-requires : tie.Need-step-requires invariant-loop decreases-loop
+step-requires : tie.Need-step-stepped-requires invariant-loop decreases-loop
 step-requires c κs =
     let l = c.before.before.before in
     let s = entry l in
-    (s.pre.0, (s.pre.1.0, rw (order_is s).0 at l.loop.invariant.carries))
+    (s.requires.0, (s.requires.1.0, rw (order_is s).0 at l.loop-i.invariant.carries))
 
 -- the loop's turn
-abbrev turn : tie.After-step invariant-loop decreases-loop → tie.At-loop invariant-loop decreases-loop
+abbrev turn : tie.After-step-stepped invariant-loop decreases-loop → tie.At-loop-i invariant-loop decreases-loop
 turn c = c.before.before.before.before
 
-more : (c : tie.After-step invariant-loop decreases-loop) → (turn c).loop.i < length (entry (turn c)).args.words.now
-more c = c.before.before.before.loop-test.true
+more : (c : tie.After-step-stepped invariant-loop decreases-loop) → (turn c).loop-i.i < length (entry (turn c)).args.words.now
+more c = c.before.before.before.loop-i-test.true
 
 -- the lent back-offs as `step` left them
-abbrev backoffs : tie.After-step invariant-loop decreases-loop → List ℤ
-backoffs c = c.step.new.1.1.1.1.0
+abbrev backoffs : tie.After-step-stepped invariant-loop decreases-loop → List ℤ
+backoffs c = c.step-stepped.new.1.1.1.1.0
 
 -- the next word, and the state that it is scored from
-abbrev w : tie.After-step invariant-loop decreases-loop → ℕ
-w c = get_or (entry (turn c)).args.words.now (turn c).loop.i 0
+abbrev w : tie.After-step-stepped invariant-loop decreases-loop → ℕ
+w c = get_or (entry (turn c)).args.words.now (turn c).loop-i.i 0
 
-abbrev S : tie.After-step invariant-loop decreases-loop → Store
+abbrev S : tie.After-step-stepped invariant-loop decreases-loop → Store
 S c = store_in (entry (turn c)).args.base.now (entry (turn c)).args.check.now
 
-abbrev held : tie.After-step invariant-loop decreases-loop → Carried
-held c = held_in (turn c).loop.carried (turn c).loop.backoffs
+abbrev held : tie.After-step-stepped invariant-loop decreases-loop → Carried
+held c = held_in (turn c).loop-i.carried (turn c).loop-i.backoffs
 
-step_is : (c : tie.After-step invariant-loop decreases-loop) → SteppedTo (entry (turn c)).args.order (word_step (S c) (held c) (w c)) c.step.result (backoffs c)
-step_is c = c.step.ensures (w c) ((turn c).loop.invariant.ahead-is (more c))
+step_is : (c : tie.After-step-stepped invariant-loop decreases-loop) → SteppedTo (entry (turn c)).args.order (word_step (S c) (held c) (w c)) c.step-stepped.result (backoffs c)
+step_is c = c.step-stepped.ensures (w c) ((turn c).loop-i.invariant.ahead-is (more c))
 
-enum-known-stepped : tie.Need-enum-known-stepped invariant-loop decreases-loop
+enum-known-stepped : tie.Need-enum_known-stepped invariant-loop decreases-loop
 enum-known-stepped c = search rules
 
-enum_told : tie.Need-enum-told invariant-loop decreases-loop
+enum_told : tie.Need-enum_told-1 invariant-loop decreases-loop
 enum_told c = search rules
 
-refuse-word-requires : tie.Need-refuse-word-requires invariant-loop decreases-loop
+refuse-word-requires : tie.Need-refuse_word-requires invariant-loop decreases-loop
 refuse-word-requires c κs =
     let d = c.before.before.before.before in
     let l = turn d in
     let s = entry l in
-    ((omega (arith, l.loop.inv.running.points-long, s.pre), omega (arith, l.loop.inv.running.lengths-long, s.pre)), omega (arith, more d, s.pre.1.1.1.0))
+    ((omega (arith, l.loop-i.inv.running.points-long, s.requires), omega (arith, l.loop-i.inv.running.lengths-long, s.requires)), omega (arith, more d, s.requires.1.1.1.0))
 
-same_length : tie.Need-same-length invariant-loop decreases-loop
+same_length : tie.Need-shape_of-points-in_default invariant-loop decreases-loop
 same_length c = search rules
 
-same-length_2 : tie.Need-same-length-2 invariant-loop decreases-loop
+same-length_2 : tie.Need-shape_of-lengths-in_default invariant-loop decreases-loop
 same-length_2 c = search rules
 
-returns : tie.Need-returns invariant-loop decreases-loop
+returns : tie.Need-returns-in_default invariant-loop decreases-loop
 returns c =
     let k = c.before.before.before in
     let e = k.before.before.before in
     let d = e.before.before in
     let l = turn d in
     let s = entry l in
-    rw k.refuse-word.ensures.0
-    (running_refused (S d) (state_in (numbers_of s.args.state)) s.args.words.now s.args.points.now s.args.lengths.now (held d) (to_z w64 l.loop.total) l.loop.i l.loop.points l.loop.lengths l.loop.inv.running (more d) (step-refused (S d) (held d) (w d) (step_told (step_is d) Refused e.enum_told.given.1)) (numbers_of s.args.state) k.refuse-word.new.0 k.refuse-word.new.1.0 k.refuse-word.ensures.1.0 k.refuse-word.ensures.1.1)
+    rw k.refuse_word.ensures.0
+    (running_refused (S d) (state_in (numbers_of s.args.state)) s.args.words.now s.args.points.now s.args.lengths.now (held d) (to_z w64 l.loop-i.total) l.loop-i.i l.loop-i.points l.loop-i.lengths l.loop-i.inv.running (more d) (step-refused (S d) (held d) (w d) (step_told (step_is d) Refused e.enum_told-1.given.1)) (numbers_of s.args.state) k.refuse_word.new.0 k.refuse_word.new.1.0 k.refuse_word.ensures.1.0 k.refuse_word.ensures.1.1)
 
 -- what the word scored, and the state that it leaves
-abbrev score : tie.After-stepped invariant-loop decreases-loop → Score
-score c = c.stepped.given.0.0
+abbrev score : tie.In-Scored-2 invariant-loop decreases-loop → Score
+score c = c.stepped-1.given.0.0
 
-abbrev left : tie.After-stepped invariant-loop decreases-loop → Packed
-left c = c.stepped.given.0.1.0
+abbrev left : tie.In-Scored-2 invariant-loop decreases-loop → Packed
+left c = c.stepped-1.given.0.1.0
 
-abbrev byte : tie.After-stepped invariant-loop decreases-loop → ℕ
+abbrev byte : tie.In-Scored-2 invariant-loop decreases-loop → ℕ
 byte c = byte_of (score c).kind (score c).extended
 
 -- as the code has taken it out
-abbrev scored-word : tie.After-struct-told invariant-loop decreases-loop → tie.After-stepped invariant-loop decreases-loop
+abbrev scored-word : tie.After-struct_told-1 invariant-loop decreases-loop → tie.In-Scored-2 invariant-loop decreases-loop
 scored-word c = c.before.before.before
 
-x_fits : (c : tie.After-struct-told invariant-loop decreases-loop) → SFits w32 (score (scored-word c)).points
+x_fits : (c : tie.After-struct_told-1 invariant-loop decreases-loop) → SFits w32 (score (scored-word c)).points-1
 x_fits c = search rules
 
-word-is : (c : tie.After-stepped invariant-loop decreases-loop) → word_step (S c.before.before) (held c.before.before) (w c.before.before) ≡ scored (score c).points (byte c) (held_in (left c) (backoffs c.before.before))
-word-is c = step_told (step_is c.before.before) _ c.stepped.given.1
+word-is : (c : tie.In-Scored-2 invariant-loop decreases-loop) → word_step (S c.before.before) (held c.before.before) (w c.before.before) ≡ scored (score c).points-1 (byte c) (held_in (left c) (backoffs c.before.before))
+word-is c = step_told (step_is c.before.before) _ c.stepped-1.given.1
 
-sizes : (c : tie.After-stepped invariant-loop decreases-loop) → (nat_abs (score c).points ≤ order_limit * largest_backoff) × (byte c < 256)
+sizes : (c : tie.In-Scored-2 invariant-loop decreases-loop) → (nat_abs (score c).points-1 ≤ order_limit * largest_backoff) × (byte c < 256)
 sizes c =
     let d = c.before.before in
     let l = turn d in
     let s = entry l in
     let o = (order_is s).1 in
-    scored-sizes (S d) (rows-in_probability s.args.base.now s.args.check.now) ((S d).order - 1) (omega arith) (held d) (carries_bounded (S d).order o l.loop.carried l.loop.backoffs l.loop.inv.carries) (w d) (score c).points (byte c) (held_in (left c) (backoffs d)) (word-is c)
+    scored-sizes (S d) (rows-in_probability s.args.base.now s.args.check.now) ((S d).order - 1) (omega arith) (held d) (carries_bounded (S d).order o l.loop-i.carried l.loop-i.backoffs l.loop-i.inv.carries) (w d) (score c).points-1 (byte c) (held_in (left c) (backoffs d)) (word-is c)
 
-cast-total : tie.Need-overflow-cast-total invariant-loop decreases-loop
+cast-total : tie.Need-overflow_cast-total invariant-loop decreases-loop
 cast-total c = to-wide tt (x_fits c)
 
 -- as the cast left them
-x_wide : (c : tie.After-struct-told invariant-loop decreases-loop) → to_z w64 (of_z w64 (to_z w32 (of_z w32 (score (scored-word c)).points))) ≡ (score (scored-word c)).points
+x_wide : (c : tie.After-struct_told-1 invariant-loop decreases-loop) → to_z w64 (of_z w64 (to_z w32 (of_z w32 (score (scored-word c)).points-1))) ≡ (score (scored-word c)).points-1
 x_wide c = to_z-of_z (cast-total c) ∙ to_z-of_z (x_fits c)
 
-add_total : tie.Need-overflow-add-total invariant-loop decreases-loop
+add_total : tie.Need-overflow_add-total invariant-loop decreases-loop
 add_total c =
     let m = scored-word c in
     let l = turn m.before.before in
-    omega (zarith, x_wide c, (sizes m).0, l.loop.inv.running.total_small, abs (score m).points, abs (to_z w64 l.loop.total), l.loop.inv.running.at, (entry l).pre.1.1.1.0)
+    omega (zarith, x_wide c, (sizes m).0, l.loop-i.inv.running.total_small, abs (score m).points-1, abs (to_z w64 l.loop-i.total), l.loop-i.inv.running.at, (entry l).requires.1.1.1.0)
 
-write-word-requires : tie.Need-write-word-requires invariant-loop decreases-loop
+write-word-requires : tie.Need-write_word-requires invariant-loop decreases-loop
 write-word-requires c κs =
     let m = scored-word c.before.before in
     let d = m.before.before in
     let l = turn d in
     let s = entry l in
-    ((omega (arith, more d, l.loop.inv.running.points-long, s.pre), omega (arith, more d, l.loop.inv.running.lengths-long, s.pre)), (sizes m).1)
+    ((omega (arith, more d, l.loop-i.inv.running.points-long, s.requires), omega (arith, more d, l.loop-i.inv.running.lengths-long, s.requires)), (sizes m).1)
 
 -- the word that is written
-abbrev read : tie.After-slice-known3 invariant-loop decreases-loop → tie.After-struct-told invariant-loop decreases-loop
+abbrev read : tie.After-slice_known-in-loop-i-1 invariant-loop decreases-loop → tie.After-struct_told-1 invariant-loop decreases-loop
 read c = c.before.before.before.before.before.before
 
-abbrev word : tie.After-slice-known3 invariant-loop decreases-loop → tie.After-stepped invariant-loop decreases-loop
+abbrev word : tie.After-slice_known-in-loop-i-1 invariant-loop decreases-loop → tie.In-Scored-2 invariant-loop decreases-loop
 word c = scored-word (read c)
 
-abbrev stepped : tie.After-slice-known3 invariant-loop decreases-loop → tie.After-step invariant-loop decreases-loop
+abbrev stepped : tie.After-slice_known-in-loop-i-1 invariant-loop decreases-loop → tie.After-step-stepped invariant-loop decreases-loop
 stepped c = (word c).before.before
 
 -- the slices with the word
-points_now : (c : tie.After-slice-known3 invariant-loop decreases-loop) → c.before.before.before.write_word.new.0 ≡ set (turn (stepped c)).loop.points (turn (stepped c)).loop.i (score (word c)).points
+points_now : (c : tie.After-slice_known-in-loop-i-1 invariant-loop decreases-loop) → c.before.before.before.write_word.new.0 ≡ set (turn (stepped c)).loop-i.points (turn (stepped c)).loop-i.i (score (word c)).points-1
 points_now c = c.before.before.before.write_word.ensures.0
 
-lengths_now : (c : tie.After-slice-known3 invariant-loop decreases-loop) → c.before.before.before.write_word.new.1.0 ≡ set (turn (stepped c)).loop.lengths (turn (stepped c)).loop.i (byte (word c))
+lengths_now : (c : tie.After-slice_known-in-loop-i-1 invariant-loop decreases-loop) → c.before.before.before.write_word.new.1.0 ≡ set (turn (stepped c)).loop-i.lengths (turn (stepped c)).loop-i.i (byte (word c))
 lengths_now c = c.before.before.before.write_word.ensures.1
 
-points-long : (c : tie.After-slice-known3 invariant-loop decreases-loop) → length c.before.before.before.write_word.new.0 ≡ length (entry (turn (stepped c))).args.points.now
-points-long c = c.before.before.before.write_word.auto.0 ∙ (turn (stepped c)).loop.inv.running.points-long
+points-long : (c : tie.After-slice_known-in-loop-i-1 invariant-loop decreases-loop) → length c.before.before.before.write_word.new.0 ≡ length (entry (turn (stepped c))).args.points.now
+points-long c = c.before.before.before.write_word.auto.0 ∙ (turn (stepped c)).loop-i.inv.running.points-long
 
-lengths-long : (c : tie.After-slice-known3 invariant-loop decreases-loop) → length c.before.before.before.write_word.new.1.0 ≡ length (entry (turn (stepped c))).args.lengths.now
-lengths-long c = c.before.before.before.write_word.auto.1.0 ∙ (turn (stepped c)).loop.inv.running.lengths-long
+lengths-long : (c : tie.After-slice_known-in-loop-i-1 invariant-loop decreases-loop) → length c.before.before.before.write_word.new.1.0 ≡ length (entry (turn (stepped c))).args.lengths.now
+lengths-long c = c.before.before.before.write_word.auto.1.0 ∙ (turn (stepped c)).loop-i.inv.running.lengths-long
 
-mul-next-state : tie.Need-overflow-mul-next-state invariant-loop decreases-loop
-mul-next-state c = let d = stepped c in omega (arith, more d, (entry (turn d)).pre.1.1.1.0)
+mul-next-state : tie.Need-offset_bounds-words-i invariant-loop decreases-loop
+mul-next-state c = let d = stepped c in omega (arith, more d, (entry (turn d)).requires.1.1.1.0)
 
-shared-slice-read-next-state : tie.Need-shared-slice-read-next-state invariant-loop decreases-loop
+shared-slice-read-next-state : tie.Need-bounds-words-i invariant-loop decreases-loop
 shared-slice-read-next-state c = more (stepped c.before)
 
-next-state-requires : tie.Need-next-state-requires invariant-loop decreases-loop
+next-state-requires : tie.Need-next_state-onward-requires invariant-loop decreases-loop
 next-state-requires c κs =
     let d = c.before.before in
     let m = word d in
     let s = entry (turn (stepped d)) in
-    (s.pre.0, (s.pre.1.0, (step_is (stepped d)).carries (score m) (left m) m.stepped.given.1))
+    (s.requires.0, (s.requires.1.0, (step_is (stepped d)).carries (score m) (left m) m.stepped-1.given.1))
 
 -- the state that the next word is scored from, as `next_state` told it
-abbrev written-word : tie.After-next-state invariant-loop decreases-loop → tie.After-slice-known3 invariant-loop decreases-loop
+abbrev written-word : tie.After-next_state-onward invariant-loop decreases-loop → tie.After-slice_known-in-loop-i-1 invariant-loop decreases-loop
 written-word c = c.before.before.before
 
-abbrev backoffs_on : tie.After-next-state invariant-loop decreases-loop → List ℤ
-backoffs_on c = c.next-state.new.1.1.1.1.1.0
+abbrev backoffs_on : tie.After-next_state-onward invariant-loop decreases-loop → List ℤ
+backoffs_on c = c.next_state-onward.new.1.1.1.1.1.0
 
-next-is : (c : tie.After-next-state invariant-loop decreases-loop) (r : NextState) → c.next-state.result ≡ r → NextIs (entry (turn (stepped (written-word c)))).args.order (next_state (S (stepped (written-word c))) (w (stepped (written-word c))) (held_in (left (word (written-word c))) (backoffs (stepped (written-word c))))) r (backoffs_on c)
+next-is : (c : tie.After-next_state-onward invariant-loop decreases-loop) (r : NextState) → c.next_state-onward.result ≡ r → NextIs (entry (turn (stepped (written-word c)))).args.order (next_state (S (stepped (written-word c))) (w (stepped (written-word c))) (held_in (left (word (written-word c))) (backoffs (stepped (written-word c))))) r (backoffs_on c)
 next-is c r e =
     let d = stepped (written-word c) in
-    subst (λ (k : NextState). NextIs (entry (turn d)).args.order (next_state (S d) (w d) (held_in (left (word (written-word c))) (backoffs d))) k (backoffs_on c)) e c.next-state.ensures
+    subst (λ (k : NextState). NextIs (entry (turn d)).args.order (next_state (S d) (w d) (held_in (left (word (written-word c))) (backoffs d))) k (backoffs_on c)) e c.next_state-onward.ensures
 
 -- the word's step, with that state
-stepped_to : (c : tie.After-slice-known3 invariant-loop decreases-loop) (next : Option Carried) → next_state (S (stepped c)) (w (stepped c)) (held_in (left (word c)) (backoffs (stepped c))) ≡ next → step (S (stepped c)) (held (stepped c)) (w (stepped c)) ≡ step_to (score (word c)).points (byte (word c)) next
+stepped_to : (c : tie.After-slice_known-in-loop-i-1 invariant-loop decreases-loop) (next : Option Carried) → next_state (S (stepped c)) (w (stepped c)) (held_in (left (word c)) (backoffs (stepped c))) ≡ next → step (S (stepped c)) (held (stepped c)) (w (stepped c)) ≡ step_to (score (word c)).points-1 (byte (word c)) next
 stepped_to c next e =
     let d = stepped c in
     let m = word c in
-    step-next (S d) (held d) (w d) (score m).points (byte m) (held_in (left m) (backoffs d)) (word-is m) ∙ ap (step_to (score m).points (byte m)) e
+    step-next (S d) (held d) (w d) (score m).points-1 (byte m) (held_in (left m) (backoffs d)) (word-is m) ∙ ap (step_to (score m).points-1 (byte m)) e
 
-enum-known-onward : tie.Need-enum-known-onward invariant-loop decreases-loop
+enum-known-onward : tie.Need-enum_known-onward invariant-loop decreases-loop
 enum-known-onward c = search rules
 
-enum-told-2 : tie.Need-enum-told-2 invariant-loop decreases-loop
+enum-told-2 : tie.Need-enum_told-in_default-onward invariant-loop decreases-loop
 enum-told-2 c = search rules
 
-refuse-word-requires-2 : tie.Need-refuse-word-requires-2 invariant-loop decreases-loop
+refuse-word-requires-2 : tie.Need-refuse_word-requires-in_default-onward invariant-loop decreases-loop
 refuse-word-requires-2 c κs =
     let d = written-word c.before.before.before.before in
     let s = entry (turn (stepped d)) in
-    ((omega (arith, points-long d, s.pre), omega (arith, lengths-long d, s.pre)), omega (arith, more (stepped d), s.pre.1.1.1.0))
+    ((omega (arith, points-long d, s.requires), omega (arith, lengths-long d, s.requires)), omega (arith, more (stepped d), s.requires.1.1.1.0))
 
-same-length-3 : tie.Need-same-length-3 invariant-loop decreases-loop
+same-length-3 : tie.Need-shape_of-points-in_default-onward invariant-loop decreases-loop
 same-length-3 c =
     let k = c.before.before.before in
-    k.refuse-word2.auto.0 ∙ points-long (written-word k.before.before.before.before.before)
+    k.refuse_word-in_default-onward.auto.0 ∙ points-long (written-word k.before.before.before.before.before)
 
-same-length-4 : tie.Need-same-length-4 invariant-loop decreases-loop
+same-length-4 : tie.Need-shape_of-lengths-in_default-onward invariant-loop decreases-loop
 same-length-4 c =
     let k = c.before.before.before in
-    k.refuse-word2.auto.1.0 ∙ lengths-long (written-word k.before.before.before.before.before)
+    k.refuse_word-in_default-onward.auto.1.0 ∙ lengths-long (written-word k.before.before.before.before.before)
 
-returns_2 : tie.Need-returns-2 invariant-loop decreases-loop
+returns_2 : tie.Need-returns-in_default-onward invariant-loop decreases-loop
 returns_2 c =
     let k = c.before.before.before in
     let g = k.before.before.before in
@@ -291,28 +291,28 @@ returns_2 c =
     let l = turn d in
     let s = entry l in
     let n = length s.args.words.now in
-    rw k.refuse-word2.ensures.0
-    (running_refused (S d) (state_in (numbers_of s.args.state)) s.args.words.now s.args.points.now s.args.lengths.now (held d) (to_z w64 l.loop.total) l.loop.i l.loop.points l.loop.lengths l.loop.inv.running (more d) (stepped_to v none (next-is b NotBegun g.enum-told2.given.1))
-    (numbers_of s.args.state) k.refuse-word2.new.0 k.refuse-word2.new.1.0
-    (k.refuse-word2.ensures.1.0 ∙ ap (written (replicate n (pos 0))) (points_now v) ∙ written-set (replicate n (pos 0)) l.loop.points l.loop.i (score m).points (omega (arith, more d, length-replicate n (pos 0))))
-    (k.refuse-word2.ensures.1.1 ∙ ap (written (replicate n 0)) (lengths_now v) ∙ written-set (replicate n 0) l.loop.lengths l.loop.i (byte m) (omega (arith, more d, length-replicate {A = ℕ} n 0))))
+    rw k.refuse_word-in_default-onward.ensures.0
+    (running_refused (S d) (state_in (numbers_of s.args.state)) s.args.words.now s.args.points.now s.args.lengths.now (held d) (to_z w64 l.loop-i.total) l.loop-i.i l.loop-i.points l.loop-i.lengths l.loop-i.inv.running (more d) (stepped_to v none (next-is b NotBegun g.enum_told-in_default-onward-1.given.1))
+    (numbers_of s.args.state) k.refuse_word-in_default-onward.new.0 k.refuse_word-in_default-onward.new.1.0
+    (k.refuse_word-in_default-onward.ensures.1.0 ∙ ap (written (replicate n (pos 0))) (points_now v) ∙ written-set (replicate n (pos 0)) l.loop-i.points l.loop-i.i (score m).points-1 (omega (arith, more d, length-replicate n (pos 0))))
+    (k.refuse_word-in_default-onward.ensures.1.1 ∙ ap (written (replicate n 0)) (lengths_now v) ∙ written-set (replicate n 0) l.loop-i.lengths l.loop-i.i (byte m) (omega (arith, more d, length-replicate {A = ℕ} n 0))))
 
 -- the turn's word
-abbrev done : tie.After-onward invariant-loop decreases-loop → tie.After-slice-known3 invariant-loop decreases-loop
+abbrev done : tie.In-Carried-2 invariant-loop decreases-loop → tie.After-slice_known-in-loop-i-1 invariant-loop decreases-loop
 done c = written-word c.before.before
 
-add-i : tie.Need-overflow-add-i invariant-loop decreases-loop
+add-i : tie.Need-overflow_add-i-in-loop-i invariant-loop decreases-loop
 add-i c =
     let d = stepped (done c.before) in
-    omega (arith, more d, (entry (turn d)).pre.1.1.1.0)
+    omega (arith, more d, (entry (turn d)).requires.1.1.1.0)
 
-loop-less : tie.Need-loop-smaller invariant-loop decreases-loop
+loop-less : tie.Need-loop-i-smaller invariant-loop decreases-loop
 loop-less c = let d = stepped (done c.before) in omega (arith, more d)
 
 again : {check : List ℤ} {S : Store} {s : Carried} {ws : List ℕ} {points₀ ps qs : List ℤ} {lengths₀ bs cs : List ℕ} {carried : Packed} {backoffs : List ℤ} {total sum : ℤ} {ahead i : ℕ} → sum ≡ total → qs ≡ ps → cs ≡ bs → Carries S.order carried backoffs → Running S s ws points₀ lengths₀ (held_in carried backoffs) total i ps bs → (i < length ws → ahead ≡ replaced check (get_or ws i 0)) → Loop check S s ws points₀ lengths₀ carried backoffs sum ahead i qs cs
 again d e f k r a = rw (d, e, f) (record { running = r; carries = k; ahead-is = a })
 
-loop-again : tie.Need-loop-preserved invariant-loop decreases-loop
+loop-again : tie.Need-loop-i-preserved invariant-loop decreases-loop
 loop-again c =
     let u = c.before in
     let v = done u in
@@ -320,29 +320,29 @@ loop-again c =
     let d = stepped v in
     let l = turn d in
     let s = entry l in
-    let o = next-is u.before.before (Onward u.onward.given.0.0) u.onward.given.1 in
-    again (to_z-of_z (add_total (read v)) ∙ ap (λ (z : ℤ). to_z w64 l.loop.total +ℤ z) (x_wide (read v))) (points_now v) (lengths_now v) (rw (order_is s).0 o.1)
-    (running_on (S d) (state_in (numbers_of s.args.state)) s.args.words.now s.args.points.now s.args.lengths.now (held d) (to_z w64 l.loop.total) l.loop.i l.loop.points l.loop.lengths l.loop.inv.running (score m).points (byte m) (held_in u.onward.given.0.0 (backoffs_on u.before.before)) (more d) s.pre.1.1.1.1.0 s.pre.1.1.1.1.1 (sizes m).0 (stepped_to v _ o.0)) d.before.before.next-word2.ensures
+    let o = next-is u.before.before (Onward u.onward-1.given.0.0) u.onward-1.given.1 in
+    again (to_z-of_z (add_total (read v)) ∙ ap (λ (z : ℤ). to_z w64 l.loop-i.total +ℤ z) (x_wide (read v))) (points_now v) (lengths_now v) (rw (order_is s).0 o.1)
+    (running_on (S d) (state_in (numbers_of s.args.state)) s.args.words.now s.args.points.now s.args.lengths.now (held d) (to_z w64 l.loop-i.total) l.loop-i.i l.loop-i.points l.loop-i.lengths l.loop-i.inv.running (score m).points-1 (byte m) (held_in u.onward-1.given.0.0 (backoffs_on u.before.before)) (more d) s.requires.1.1.1.1.0 s.requires.1.1.1.1.1 (sizes m).0 (stepped_to v _ o.0)) d.before.before.next_word-ahead-in-loop-i.ensures
 
-all-scored-requires : tie.Need-all-scored-requires invariant-loop decreases-loop
-all-scored-requires c κs = let l = c.before in omega (arith, l.loop.invariant.carries.few, order_is (entry l))
+all-scored-requires : tie.Need-all_scored-requires invariant-loop decreases-loop
+all-scored-requires c κs = let l = c.before in omega (arith, l.loop-i.invariant.carries.few, order_is (entry l))
 
-same-length-5 : tie.Need-same-length-5 invariant-loop decreases-loop
+same-length-5 : tie.Need-shape_of-points invariant-loop decreases-loop
 same-length-5 c = search rules
 
-same-length-6 : tie.Need-same-length-6 invariant-loop decreases-loop
+same-length-6 : tie.Need-shape_of-lengths invariant-loop decreases-loop
 same-length-6 c = search rules
 
-returns_3 : tie.Need-returns-3 invariant-loop decreases-loop
+returns_3 : tie.Need-returns invariant-loop decreases-loop
 returns_3 c =
     let n = c.before in
     let l = n.before in
     let s = entry l in
-    c.all-scored.ensures _ _
-    ∙ running_ends (store_in s.args.base.now s.args.check.now) (state_in (numbers_of s.args.state)) s.args.words.now s.args.points.now s.args.lengths.now (held_in l.loop.carried l.loop.backoffs) (to_z w64 l.loop.total) l.loop.i l.loop.points l.loop.lengths l.loop.invariant.running n.loop-test.false s.pre.1.1.1.1.0 s.pre.1.1.1.1.1 (numbers_of s.args.state)
+    c.all_scored.ensures _ _
+    ∙ running_ends (store_in s.args.base.now s.args.check.now) (state_in (numbers_of s.args.state)) s.args.words.now s.args.points.now s.args.lengths.now (held_in l.loop-i.carried l.loop-i.backoffs) (to_z w64 l.loop-i.total) l.loop-i.i l.loop-i.points l.loop-i.lengths l.loop-i.invariant.running n.loop-i-test.false s.requires.1.1.1.1.0 s.requires.1.1.1.1.1 (numbers_of s.args.state)
 
-pub score-words-spec : {M : Type 1} → statement M
-score-words-spec =
+pub score_words_spec : {M : Type 1} → statement M
+score_words_spec =
     tie.close
     (tie.spec
     invariant-loop

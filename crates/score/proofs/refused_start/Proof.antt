@@ -6,11 +6,11 @@ use lib.IntN.{ℤ}
 use Rattle.score.proofs.refused_start.Statement.{statement}
 use Rattle.score.proofs.refused_start.Tie as tie
 
-empty-requires : tie.Need-empty-requires
+empty-requires : tie.Need-empty-state-requires
 empty-requires c κs = search rules
 
 returns : tie.Need-returns
-returns c = ap (λ (l : List ℤ). record { number = c.before.args.number; place = 0; state = l }) c.empty.ensures
+returns c = ap (λ (l : List ℤ). record { number = c.before.args.number; place = 0; state = l }) c.empty-state.ensures
 
-pub refused-start-spec : {M : Type 1} → statement M
-refused-start-spec = tie.close (tie.spec empty-requires returns)
+pub refused_start_spec : {M : Type 1} → statement M
+refused_start_spec = tie.close (tie.spec empty-requires returns)

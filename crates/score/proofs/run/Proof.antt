@@ -24,36 +24,36 @@ asked s = record { words = s.args.words.now; points = s.args.points.now; lengths
 answers : (s : tie.Start) (a : Answer (List ℤ)) → a ≡ run_outcome (opened s.args.base.now s.args.check.now) (numbers_of s.args.state) (asked s) → (a ≡ run_outcome (opened s.args.base.now s.args.check.now) (numbers_of s.args.state) (asked s)) × RunMeans s.args.base.now s.args.check.now (numbers_of s.args.state) (asked s) a
 answers s a e = (e, rw e (run_means s.args.base.now s.args.check.now (numbers_of s.args.state) (asked s)))
 
-early-refusal-requires : tie.Need-early-refusal-requires
+early-refusal-requires : tie.Need-early_refusal-number-requires
 early-refusal-requires c κs = search rules
 
-returns : tie.Need-returns
+returns : tie.Need-returns-then-number-ne0
 unfolding refused_run
 returns c =
     let k = c.before in
     let s = k.before.before.before in
-    answers s _ (sym (refused_early (numbers_of s.args.state) (length-numbers s.args.state (arrays s)) (asked s) (opened s.args.base.now s.args.check.now) k.early-refusal.result k.early-refusal.ensures c.if1.true))
+    answers s _ (sym (refused_early (numbers_of s.args.state) (length-numbers s.args.state (arrays s)) (asked s) (opened s.args.base.now s.args.check.now) k.early_refusal-number.result k.early_refusal-number.ensures c.if-number-ne0.true))
 
 -- nothing refuses the run before its words
-passed : (c : tie.Else1) → Passed c.before.before.before.before.args.base.now c.before.before.before.before.args.check.now (numbers_of c.before.before.before.before.args.state) (asked c.before.before.before.before)
+passed : (c : tie.Else-number-ne0) → Passed c.before.before.before.before.args.base.now c.before.before.before.before.args.check.now (numbers_of c.before.before.before.before.args.state) (asked c.before.before.before.before)
 passed c =
     let s = c.before.before.before.before in
-    passed-all s.args.base.now s.args.check.now (numbers_of s.args.state) (asked s) (sym c.before.early-refusal.ensures ∙ c.if1.false)
+    passed-all s.args.base.now s.args.check.now (numbers_of s.args.state) (asked s) (sym c.before.early_refusal-number.ensures ∙ c.if-number-ne0.false)
 
-run-passed-requires : tie.Need-run-passed-requires
-run-passed-requires c κs = let p = passed c.before.before in (p.array, (p.state, (p.sizes.few, (p.sizes.points, p.sizes.lengths))))
+run-passed-requires : tie.Need-run_passed-requires
+run-passed-requires c κs = let p = passed c.before.before in (p.array, (p.state, (p.sizes.few, (p.sizes.points-1, p.sizes.lengths-1))))
 
-same_length : tie.Need-same-length
+same_length : tie.Need-shape_of-points
 same_length c = search rules
 
-same-length_2 : tie.Need-same-length-2
+same-length_2 : tie.Need-shape_of-lengths
 same-length_2 c = search rules
 
-returns_2 : tie.Need-returns-2
+returns_2 : tie.Need-returns
 returns_2 c =
     let k = c.before.before.before in
     let e = k.before.before.before in
-    answers e.before.before.before.before _ k.run-passed.ensures
+    answers e.before.before.before.before _ k.run_passed.ensures
 
 pub run_spec : {M : Type 1} → statement M
 run_spec =

@@ -17,31 +17,36 @@ use Rattle.score.proofs.start.Tie as tie
 answers : (base check : List ℤ) (a : Started) → a ≡ start_outcome (opened base check) nine_zeros → (a ≡ start_outcome (opened base check) nine_zeros) × StartMeans base check nine_zeros a.number a.place a.state
 answers base check a e = (e, rw e (start_means base check nine_zeros))
 
-is-array-requires : tie.Need-is-array-requires
+is-array-requires : tie.Need-is_array-requires
 is-array-requires c κs = search rules
 
-refused-start-requires : tie.Need-refused-start-requires
+refused-start-requires : tie.Need-refused_start-requires
 refused-start-requires c κs = search rules
 
-returns : tie.Need-returns
+returns : tie.Need-returns-then-not-is_array
 returns c =
     let b = c.before in
     let s = b.before.before in
-    answers s.args.base.now s.args.check.now _ (c.refused-start.ensures ∙ sym (start-refused s.args.base.now s.args.check.now (sym b.before.is-array.ensures ∙ not-true b.before.is-array.result b.if1.true)))
+    answers s.args.base.now s.args.check.now _ (c.refused_start.ensures ∙ sym (start-refused s.args.base.now s.args.check.now (sym b.before.is_array.ensures ∙ not-true b.before.is_array.result b.if-not-is_array.true)))
 
-array : (c : tie.Else1) → is_array c.before.before.args.base.now c.before.before.args.check.now ≡ true
-array c = sym c.before.is-array.ensures ∙ not-false c.before.is-array.result c.if1.false
+array : (c : tie.Else-not-is_array) → is_array c.before.before.args.base.now c.before.before.args.check.now ≡ true
+array c = sym c.before.is_array.ensures ∙ not-false c.before.is_array.result c.if-not-is_array.false
 
-start-in-requires : tie.Need-start-in-requires
+start-in-requires : tie.Need-start_in-requires
 start-in-requires c κs = array c
 
-returns_2 : tie.Need-returns-2
+returns_2 : tie.Need-returns
 returns_2 c =
     let b = c.before in
     let s = b.before.before in
-    answers s.args.base.now s.args.check.now _ (c.start-in.ensures ∙ sym (start_steps s.args.base.now s.args.check.now (array b)))
+    answers s.args.base.now s.args.check.now _ (c.start_in.ensures ∙ sym (start_steps s.args.base.now s.args.check.now (array b)))
 
 pub start_spec : {M : Type 1} → statement M
 start_spec =
     tie.close
-    (tie.spec is-array-requires refused-start-requires returns start-in-requires returns_2)
+    (tie.spec
+    is-array-requires
+    refused-start-requires
+    returns
+    start-in-requires
+    returns_2)

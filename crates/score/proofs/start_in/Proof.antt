@@ -11,39 +11,39 @@ use Rattle.word_step.proofs.Stepping.{step_told}
 use Rattle.score.proofs.start_in.Statement.{statement}
 use Rattle.score.proofs.start_in.Tie as tie
 
-order-of-requires : tie.Need-order-of-requires
+order-of-requires : tie.Need-order_of-order-requires
 order-of-requires c κs = (opened-head c.args.base.now c.args.check.now c.requires).order
 
-begin-requires : tie.Need-begin-requires
+begin-requires : tie.Need-begin-begun-requires
 begin-requires c κs = search rules
 
-enum-known-begun : tie.Need-enum-known-begun
+enum-known-begun : tie.Need-enum_known-begun
 enum-known-begun c = search rules
 
-enum_told : tie.Need-enum-told
+enum_told : tie.Need-enum_told-1
 enum_told c = search rules
 
-refused-start-requires : tie.Need-refused-start-requires
+refused-start-requires : tie.Need-refused_start-requires
 refused-start-requires c κs = search rules
 
-returns : tie.Need-returns
+returns : tie.Need-returns-in_default
 returns c =
     let t = c.before in
-    c.refused-start.ensures ∙ ap start_step (sym (step_told t.before.before.begin.ensures Refused t.enum_told.given.1))
+    c.refused_start.ensures ∙ ap start_step (sym (step_told t.before.before.begin-begun.ensures Refused t.enum_told-1.given.1))
 
-unpack-requires : tie.Need-unpack-requires
+unpack-requires : tie.Need-unpack-state-requires
 unpack-requires c κs =
     let b = c.before.before.before in
     let s = b.before.before.before in
-    omega (arith, (b.begin.ensures.carries _ _ c.before.begun.given.1).few, b.before.before.order-of.ensures, opened-order s.args.base.now s.args.check.now s.requires)
+    omega (arith, (b.begin-begun.ensures.carries _ _ c.before.begun-1.given.1).few, b.before.before.order_of-order.ensures, opened-order s.args.base.now s.args.check.now s.requires)
 
-returns_2 : tie.Need-returns-2
+returns_2 : tie.Need-returns
 returns_2 c =
     let t = c.before.before in
-    ap (λ (l : List ℤ). record { number = 0; place = 0; state = l }) c.unpack.ensures ∙ ap start_step (sym (step_told t.before.before.begin.ensures _ t.begun.given.1))
+    ap (λ (l : List ℤ). record { number = 0; place = 0; state = l }) c.unpack-state.ensures ∙ ap start_step (sym (step_told t.before.before.begin-begun.ensures _ t.begun-1.given.1))
 
-pub start-in-spec : {M : Type 1} → statement M
-start-in-spec =
+pub start_in_spec : {M : Type 1} → statement M
+start_in_spec =
     tie.close
     (tie.spec
     order-of-requires

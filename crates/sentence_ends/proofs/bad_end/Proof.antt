@@ -12,60 +12,60 @@ use Rattle.sentence_ends.proofs.Ends.{bad_end-next, bad_end-none}
 use Rattle.sentence_ends.proofs.bad_end.Statement.{statement}
 use Rattle.sentence_ends.proofs.bad_end.Tie as tie
 
-abbrev invariant-loop : tie.invariant-loop
+abbrev invariant-loop : tie.invariant-loop-i
 invariant-loop ends words before₀ i₀ before i = (i ≤ length ends) × (bad_end words 1 0 ends ≡ bad_end words (i + 1) before (drop i ends))
 
-abbrev decreases-loop : tie.decreases-loop
+abbrev decreases-loop : tie.decreases-loop-i
 decreases-loop ends words before₀ i₀ before i = length ends - i
 
-loop-holds : tie.Need-loop-init invariant-loop decreases-loop
+loop-holds : tie.Need-loop-i-init invariant-loop decreases-loop
 loop-holds c = (omega arith, refl)
 
-mul-words-before : tie.Need-overflow-mul-words-before invariant-loop decreases-loop
+mul-words-before : tie.Need-offset_bounds-ends-i invariant-loop decreases-loop
 mul-words-before c = search rules
 
-shared-slice-read-words-before : tie.Need-shared-slice-read-words-before invariant-loop decreases-loop
+shared-slice-read-words-before : tie.Need-bounds-ends-i invariant-loop decreases-loop
 shared-slice-read-words-before c = search rules
 
-words-before-requires : tie.Need-words-before-requires invariant-loop decreases-loop
+words-before-requires : tie.Need-words_before-end-requires invariant-loop decreases-loop
 words-before-requires c κs = search rules
 
 -- the search from the i-th end on, by what that end is
-next : (w : tie.After-words-before invariant-loop decreases-loop) → bad_end w.before.before.before.before.before.args.words 1 0 w.before.before.before.before.before.args.ends.now ≡ cond (ltb w.words-before.result w.before.before.before.loop.before || ltb w.before.before.before.before.before.args.words w.words-before.result) (w.before.before.before.loop.i + 1) (bad_end w.before.before.before.before.before.args.words (w.before.before.before.loop.i + 1 + 1) w.words-before.result (drop (w.before.before.before.loop.i + 1) w.before.before.before.before.before.args.ends.now))
+next : (w : tie.After-words_before-end invariant-loop decreases-loop) → bad_end w.before.before.before.before.before.args.words 1 0 w.before.before.before.before.before.args.ends.now ≡ cond (ltb w.words_before-end.result w.before.before.before.loop-i.before || ltb w.before.before.before.before.before.args.words w.words_before-end.result) (w.before.before.before.loop-i.i + 1) (bad_end w.before.before.before.before.before.args.words (w.before.before.before.loop-i.i + 1 + 1) w.words_before-end.result (drop (w.before.before.before.loop-i.i + 1) w.before.before.before.before.before.args.ends.now))
 next w =
     let l = w.before.before.before in
     let s = l.before.before in
-    l.loop.invariant.1 ∙ bad_end-next s.args.words (l.loop.i + 1) l.loop.before s.args.ends.now l.loop.i (search rules) ∙ rw w.words-before.ensures
+    l.loop-i.invariant.1 ∙ bad_end-next s.args.words (l.loop-i.i + 1) l.loop-i.before s.args.ends.now l.loop-i.i (search rules) ∙ rw w.words_before-end.ensures
 
-add-result : tie.Need-overflow-add-result invariant-loop decreases-loop
+add-result : tie.Need-overflow_add-result invariant-loop decreases-loop
 add-result c = search rules
 
-returns : tie.Need-returns invariant-loop decreases-loop
-returns c = sym (next c.before ∙ rw (lt-ltb _ _ c.if1.true))
+returns : tie.Need-returns-then-end-before invariant-loop decreases-loop
+returns c = sym (next c.before ∙ rw (lt-ltb _ _ c.if-end-before.true))
 
-add-result-2 : tie.Need-overflow-add-result-2 invariant-loop decreases-loop
+add-result-2 : tie.Need-overflow_add-result-then-words-end invariant-loop decreases-loop
 add-result-2 c = search rules
 
-returns_2 : tie.Need-returns-2 invariant-loop decreases-loop
-returns_2 c = sym (next c.before.before ∙ rw (le-ltb _ _ c.before.if1.false, lt-ltb _ _ c.if2.true))
+returns_2 : tie.Need-returns-then-words-end invariant-loop decreases-loop
+returns_2 c = sym (next c.before.before ∙ rw (le-ltb _ _ c.before.if-end-before.false, lt-ltb _ _ c.if-words-end.true))
 
-add-i : tie.Need-overflow-add-i invariant-loop decreases-loop
+add-i : tie.Need-overflow_add-i invariant-loop decreases-loop
 add-i c = search rules
 
-loop-less : tie.Need-loop-smaller invariant-loop decreases-loop
+loop-less : tie.Need-loop-i-smaller invariant-loop decreases-loop
 loop-less c = search rules
 
-loop-again : tie.Need-loop-preserved invariant-loop decreases-loop
-loop-again c = (search rules, next c.before.before ∙ rw (le-ltb _ _ c.before.if1.false, le-ltb _ _ c.if2.false))
+loop-again : tie.Need-loop-i-preserved invariant-loop decreases-loop
+loop-again c = (search rules, next c.before.before ∙ rw (le-ltb _ _ c.before.if-end-before.false, le-ltb _ _ c.if-words-end.false))
 
-returns_3 : tie.Need-returns-3 invariant-loop decreases-loop
+returns_3 : tie.Need-returns invariant-loop decreases-loop
 returns_3 c =
     let l = c.before in
     let s = l.before.before in
-    sym (l.loop.invariant.1 ∙ bad_end-none s.args.words (l.loop.i + 1) l.loop.before s.args.ends.now l.loop.i (search rules))
+    sym (l.loop-i.invariant.1 ∙ bad_end-none s.args.words (l.loop-i.i + 1) l.loop-i.before s.args.ends.now l.loop-i.i (search rules))
 
-pub bad-end-spec : {M : Type 1} → statement M
-bad-end-spec =
+pub bad_end_spec : {M : Type 1} → statement M
+bad_end_spec =
     tie.close
     (tie.spec
     invariant-loop

@@ -4,25 +4,25 @@ use Rattle.sentence_ends.specs.Ends.{sheet_size}
 use Rattle.sentence_ends.proofs.size_fault.Statement.{statement}
 use Rattle.sentence_ends.proofs.size_fault.Tie as tie
 
-returns : tie.Need-returns
+returns : tie.Need-returns-then-words-gt-RUN_LIMIT
 unfolding sheet_size
-returns c = rw (lt-ltb _ _ c.if1.true)
+returns c = rw (lt-ltb _ _ c.if-words-gt-RUN_LIMIT.true)
 
-returns_2 : tie.Need-returns-2
+returns_2 : tie.Need-returns-then-ends-gt-RUN_LIMIT
 unfolding sheet_size
-returns_2 c = rw (le-ltb _ _ c.before.if1.false, lt-ltb _ _ c.if2.true)
+returns_2 c = rw (le-ltb _ _ c.before.if-words-gt-RUN_LIMIT.false, lt-ltb _ _ c.if-ends-gt-RUN_LIMIT.true)
 
-returns_3 : tie.Need-returns-3
+returns_3 : tie.Need-returns-then-points-last
 unfolding sheet_size
-returns_3 c = rw (le-ltb _ _ c.before.before.if1.false, le-ltb _ _ c.before.if2.false, lt-ltb _ _ c.if3.true)
+returns_3 c = rw (le-ltb _ _ c.before.before.if-words-gt-RUN_LIMIT.false, le-ltb _ _ c.before.if-ends-gt-RUN_LIMIT.false, lt-ltb _ _ c.if-points-last.true)
 
-returns-4 : tie.Need-returns-4
+returns-4 : tie.Need-returns-then-lengths-last
 unfolding sheet_size
-returns-4 c = rw (le-ltb _ _ c.before.before.before.if1.false, le-ltb _ _ c.before.before.if2.false, le-ltb _ _ c.before.if3.false, lt-ltb _ _ c.if4.true)
+returns-4 c = rw (le-ltb _ _ c.before.before.before.if-words-gt-RUN_LIMIT.false, le-ltb _ _ c.before.before.if-ends-gt-RUN_LIMIT.false, le-ltb _ _ c.before.if-points-last.false, lt-ltb _ _ c.if-lengths-last.true)
 
-returns-5 : tie.Need-returns-5
+returns-5 : tie.Need-returns
 unfolding sheet_size
-returns-5 c = rw (le-ltb _ _ c.before.before.before.if1.false, le-ltb _ _ c.before.before.if2.false, le-ltb _ _ c.before.if3.false, le-ltb _ _ c.if4.false)
+returns-5 c = rw (le-ltb _ _ c.before.before.before.if-words-gt-RUN_LIMIT.false, le-ltb _ _ c.before.before.if-ends-gt-RUN_LIMIT.false, le-ltb _ _ c.before.if-points-last.false, le-ltb _ _ c.if-lengths-last.false)
 
-pub size-fault-spec : {M : Type 1} → statement M
-size-fault-spec = tie.close (tie.spec returns returns_2 returns_3 returns-4 returns-5)
+pub size_fault_spec : {M : Type 1} → statement M
+size_fault_spec = tie.close (tie.spec returns returns_2 returns_3 returns-4 returns-5)

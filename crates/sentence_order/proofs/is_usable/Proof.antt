@@ -5,24 +5,30 @@ use Rattle.sentence_order.proofs.UsableWords.{reserved_unusable, other-usable}
 use Rattle.sentence_order.proofs.is_usable.Statement.{statement}
 use Rattle.sentence_order.proofs.is_usable.Tie as tie
 
-returns : tie.Need-returns
-returns c = sym (reserved_unusable _ _ c.if1.true)
+returns : tie.Need-returns-then-w
+returns c = sym (reserved_unusable _ _ c.if-w.true)
 
-root-child-requires : tie.Need-root-child-requires
+root-child-requires : tie.Need-root_child-requires
 root-child-requires c κs = search rules
 
-enum_told : tie.Need-enum-told
+enum_told : tie.Need-enum_told-1
 enum_told c = search rules
 
-returns_2 : tie.Need-returns-2
-returns_2 c = let a = c.before.before in sym (other-usable _ _ a.before.if1.false _ (sym a.root-child.ensures ∙ c.enum_told.given.1))
+returns_2 : tie.Need-returns-in-At
+returns_2 c = let a = c.before.before in sym (other-usable _ _ a.before.if-w.false _ (sym a.root_child.ensures ∙ c.enum_told-1.given.1))
 
-enum-told-2 : tie.Need-enum-told-2
+enum-told-2 : tie.Need-enum_told-in_default
 enum-told-2 c = search rules
 
-returns_3 : tie.Need-returns-3
-returns_3 c = let a = c.before.before in sym (other-usable _ _ a.before.if1.false _ (sym a.root-child.ensures ∙ c.enum-told2.given.1))
+returns_3 : tie.Need-returns
+returns_3 c = let a = c.before.before in sym (other-usable _ _ a.before.if-w.false _ (sym a.root_child.ensures ∙ c.enum_told-in_default-1.given.1))
 
-pub is-usable-spec : {M : Type 1} → statement M
-is-usable-spec =
-    tie.close (tie.spec returns root-child-requires enum_told returns_2 enum-told-2 returns_3)
+pub is_usable_spec : {M : Type 1} → statement M
+is_usable_spec =
+    tie.close (tie.spec
+    returns
+    root-child-requires
+    enum_told
+    returns_2
+    enum-told-2
+    returns_3)

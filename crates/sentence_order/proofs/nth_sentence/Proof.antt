@@ -9,55 +9,55 @@ use Rattle.sentence_order.proofs.NthSentence.{Filling, filling-none, filling-nex
 use Rattle.sentence_order.proofs.nth_sentence.Statement.{statement}
 use Rattle.sentence_order.proofs.nth_sentence.Tie as tie
 
-abbrev invariant-loop : tie.invariant-loop
+abbrev invariant-loop : tie.invariant-loop-j
 invariant-loop count k i usable sentence₀ rest₀ j₀ sentence rest j = Filling (take count usable) k i sentence rest j
 
-abbrev decreases-loop : tie.decreases-loop
+abbrev decreases-loop : tie.decreases-loop-j
 decreases-loop count k i usable sentence₀ rest₀ j₀ sentence rest j = j
 
 sixteen : (c : tie.Start invariant-loop decreases-loop) → length c.args.t1 ≡ 16
 sixteen c = search rules
 
-loop-holds : tie.Need-loop-init invariant-loop decreases-loop
+loop-holds : tie.Need-loop-j-init invariant-loop decreases-loop
 loop-holds c = filling-none _ _ _
 
-sub-j : tie.Need-overflow-sub-j invariant-loop decreases-loop
+sub-j : tie.Need-overflow_sub-j invariant-loop decreases-loop
 sub-j c = omega arith
 
-rem-sentence : tie.Need-nonzero-rem-sentence invariant-loop decreases-loop
+rem-sentence : tie.Need-nonzero_rem-sentence invariant-loop decreases-loop
 rem-sentence c = omega arith
 
-mul-sentence : tie.Need-overflow-mul-sentence invariant-loop decreases-loop
-mul-sentence c = omega (arith, mod-lt c.before.loop.rest c.before.before.requires.0.0)
+mul-sentence : tie.Need-offset_bounds-usable-rest invariant-loop decreases-loop
+mul-sentence c = omega (arith, mod-lt c.before.loop-j.rest c.before.before.requires.0.0)
 
-array-read-sentence : tie.Need-array-read-sentence invariant-loop decreases-loop
-array-read-sentence c = omega (arith, mod-lt c.before.loop.rest c.before.before.requires.0.0)
+array-read-sentence : tie.Need-bounds-usable-rest invariant-loop decreases-loop
+array-read-sentence c = omega (arith, mod-lt c.before.loop-j.rest c.before.before.requires.0.0)
 
-mul-sentence-2 : tie.Need-overflow-mul-sentence-2 invariant-loop decreases-loop
+mul-sentence-2 : tie.Need-offset_bounds-sentence-j invariant-loop decreases-loop
 mul-sentence-2 c = omega arith
 
-array-write-sentence : tie.Need-array-write-sentence invariant-loop decreases-loop
+array-write-sentence : tie.Need-bounds-sentence-j invariant-loop decreases-loop
 array-write-sentence c = omega arith
 
-div-rest : tie.Need-nonzero-div-rest invariant-loop decreases-loop
+div-rest : tie.Need-nonzero_div-rest invariant-loop decreases-loop
 div-rest c = omega arith
 
-loop-less : tie.Need-loop-smaller invariant-loop decreases-loop
+loop-less : tie.Need-loop-j-smaller invariant-loop decreases-loop
 loop-less c = omega arith
 
-loop-again : tie.Need-loop-preserved invariant-loop decreases-loop
+loop-again : tie.Need-loop-j-preserved invariant-loop decreases-loop
 loop-again c =
     let l = c.before in
     let a = l.before.args in
     let n = front_long a.t1 (sixteen l.before) a.count (omega arith) in
-    subst (λ m. Filling (take a.count a.t1) a.k a.i (set l.loop.sentence (l.loop.j - 1) (get_or a.t1 (l.loop.rest % a.count) 0)) (l.loop.rest / m) (l.loop.j - 1)) n
-    (filling-next (take a.count a.t1) a.k a.i (omega arith) l.loop.sentence l.loop.rest l.loop.j _ (omega arith) (front-word a.t1 (sixteen l.before) a.count (omega arith) l.loop.rest (omega arith)) l.loop.invariant)
+    subst (λ m. Filling (take a.count a.t1) a.k a.i (set l.loop-j.sentence (l.loop-j.j - 1) (get_or a.t1 (l.loop-j.rest % a.count) 0)) (l.loop-j.rest / m) (l.loop-j.j - 1)) n
+    (filling-next (take a.count a.t1) a.k a.i (omega arith) l.loop-j.sentence l.loop-j.rest l.loop-j.j _ (omega arith) (front-word a.t1 (sixteen l.before) a.count (omega arith) l.loop-j.rest (omega arith)) l.loop-j.invariant)
 
 returns : tie.Need-returns invariant-loop decreases-loop
-returns c = let l = c.before in filling-done _ _ _ (omega arith) _ _ l.loop.j (omega arith) l.loop.invariant
+returns c = let l = c.before in filling-done _ _ _ (omega arith) _ _ l.loop-j.j (omega arith) l.loop-j.invariant
 
-pub nth-sentence-spec : {M : Type 1} → statement M
-nth-sentence-spec =
+pub nth_sentence_spec : {M : Type 1} → statement M
+nth_sentence_spec =
     tie.close
     (tie.spec
     invariant-loop

@@ -23,11 +23,11 @@ use Rattle.sentence_totals.proofs.Groups.{in_groups, all-words-long, all-totals-
 use Rattle.sentence_totals.proofs.write_all.Statement.{statement}
 use Rattle.sentence_totals.proofs.write_all.Tie as tie
 
-abbrev invariant-loop : tie.invariant-loop
+abbrev invariant-loop : tie.invariant-loop-g
 invariant-loop base check usable count k words₀ totals₀ state groups g₀ words totals g =
     (g ≤ count ^ (k - 1)) × AllWritten (opened base check) (in_groups (take count usable) k g) words₀ totals₀ words totals
 
-abbrev decreases-loop : tie.decreases-loop
+abbrev decreases-loop : tie.decreases-loop-g
 decreases-loop base check usable count k words₀ totals₀ state groups g₀ words totals g = count ^ (k - 1) - g
 
 -- what is lent, and the words
@@ -49,186 +49,186 @@ words_fit s = rw (counted s) s.requires.1.1.1.0
 totals_fit : (s : tie.Start invariant-loop decreases-loop) → length (us s) ^ s.args.k ≤ length s.args.totals.now
 totals_fit s = rw (counted s) s.requires.1.1.1.1
 
-returns : tie.Need-returns invariant-loop decreases-loop
+returns : tie.Need-returns-then-count-eq0 invariant-loop decreases-loop
 returns c =
     let s = c.before.before in
-    no_words_lem (array s) (us s) s.args.k s.requires.1.1.0.0 s.args.words.now s.args.totals.now (words_fit s) (totals_fit s) (counted s ∙ c.if1.true)
+    no_words_lem (array s) (us s) s.args.k s.requires.1.1.0.0 s.args.words.now s.args.totals.now (words_fit s) (totals_fit s) (counted s ∙ c.if-count-eq0.true)
 
-start-requires : tie.Need-start-requires invariant-loop decreases-loop
+start-requires : tie.Need-start-started-requires invariant-loop decreases-loop
 start-requires c κs = search rules
 
-returns_2 : tie.Need-returns-2 invariant-loop decreases-loop
+returns_2 : tie.Need-returns-then-started-ne0 invariant-loop decreases-loop
 returns_2 c =
     let a = c.before.before in
     let s = a.before.before.before in
-    none-scored (array s) (us s) s.args.k s.requires.1.1.0.0 s.args.words.now s.args.totals.now (words_fit s) (totals_fit s) (omega (arith, counted s, a.before.if1.false))
-    (start_unscored (array s) _ a.start.ensures.0 c.if2.true)
+    none-scored (array s) (us s) s.args.k s.requires.1.1.0.0 s.args.words.now s.args.totals.now (words_fit s) (totals_fit s) (omega (arith, counted s, a.before.if-count-eq0.false))
+    (start_unscored (array s) _ a.start-started.ensures.0 c.if-started-ne0.true)
 
-sub-power : tie.Need-overflow-sub-power invariant-loop decreases-loop
+sub-power : tie.Need-overflow_sub-k invariant-loop decreases-loop
 sub-power c = c.before.before.before.before.before.before.requires.1.1.0.0
 
-power-requires : tie.Need-power-requires invariant-loop decreases-loop
+power-requires : tie.Need-power-groups-requires invariant-loop decreases-loop
 power-requires c κs = let s = c.before.before.before.before.before.before in (s.requires.1.0.0, omega (arith, s.requires.1.1.0.1))
 
-loop-holds : tie.Need-loop-init invariant-loop decreases-loop
+loop-holds : tie.Need-loop-g-init invariant-loop decreases-loop
 loop-holds c =
     let s = c.before.before.before.before.before.before.before in
     (omega arith, unfold flat in written_none (array s) s.args.words.now s.args.totals.now)
 
 -- the function's entry, and what start answered
-abbrev entry : tie.At-loop invariant-loop decreases-loop → tie.Start invariant-loop decreases-loop
+abbrev entry : tie.At-loop-g invariant-loop decreases-loop → tie.Start invariant-loop decreases-loop
 entry l = l.before.before.before.before.before.before.before.before
 
-abbrev started : tie.At-loop invariant-loop decreases-loop → tie.After-start invariant-loop decreases-loop
+abbrev started : tie.At-loop-g invariant-loop decreases-loop → tie.After-start-started invariant-loop decreases-loop
 started l = l.before.before.before.before.before
 
 -- as many groups as the code counts
 groups : (s : tie.Start invariant-loop decreases-loop) → length (us s) ^ (s.args.k - 1) ≡ s.args.count ^ (s.args.k - 1)
 groups s = ap (λ (v : ℕ). v ^ (s.args.k - 1)) (counted s)
 
-within : (l : tie.At-loop invariant-loop decreases-loop) → l.loop.g ≤ length (us (entry l)) ^ ((entry l).args.k - 1)
-within l = omega (arith, groups (entry l), l.loop.invariant.0)
+within : (l : tie.At-loop-g invariant-loop decreases-loop) → l.loop-g.g ≤ length (us (entry l)) ^ ((entry l).args.k - 1)
+within l = omega (arith, groups (entry l), l.loop-g.invariant.0)
 
-more : (i : tie.In-loop invariant-loop decreases-loop) → i.before.loop.g < length (us (entry i.before)) ^ ((entry i.before).args.k - 1)
-more i = omega (arith, groups (entry i.before), i.loop-test.true, i.before.before.power.ensures.0)
+more : (i : tie.In-loop-g invariant-loop decreases-loop) → i.before.loop-g.g < length (us (entry i.before)) ^ ((entry i.before).args.k - 1)
+more i = omega (arith, groups (entry i.before), i.loop-g-test.true, i.before.before.power-groups.ensures.0)
 
-words_long : (l : tie.At-loop invariant-loop decreases-loop) → length l.loop.words ≡ length (entry l).args.words.now
-words_long l = let s = entry l in all-words-long (array s) (us s) s.args.k s.pre.1.1.0.0 s.args.words.now s.args.totals.now (words_fit s) (totals_fit s) l.loop.g (within l) l.loop.words l.loop.totals l.loop.invariant.1
+words_long : (l : tie.At-loop-g invariant-loop decreases-loop) → length l.loop-g.words ≡ length (entry l).args.words.now
+words_long l = let s = entry l in all-words-long (array s) (us s) s.args.k s.requires.1.1.0.0 s.args.words.now s.args.totals.now (words_fit s) (totals_fit s) l.loop-g.g (within l) l.loop-g.words l.loop-g.totals l.loop-g.invariant.1
 
-totals-long : (l : tie.At-loop invariant-loop decreases-loop) → length l.loop.totals ≡ length (entry l).args.totals.now
-totals-long l = let s = entry l in all-totals-long (array s) (us s) s.args.k s.pre.1.1.0.0 s.args.words.now s.args.totals.now (words_fit s) (totals_fit s) l.loop.g (within l) l.loop.words l.loop.totals l.loop.invariant.1
+totals-long : (l : tie.At-loop-g invariant-loop decreases-loop) → length l.loop-g.totals ≡ length (entry l).args.totals.now
+totals-long l = let s = entry l in all-totals-long (array s) (us s) s.args.k s.requires.1.1.0.0 s.args.words.now s.args.totals.now (words_fit s) (totals_fit s) l.loop-g.g (within l) l.loop-g.words l.loop-g.totals l.loop-g.invariant.1
 
 -- the slices have room for the next group
-room : (i : tie.In-loop invariant-loop decreases-loop) → ((entry i.before).args.k * (i.before.loop.g * (entry i.before).args.count) + (entry i.before).args.k * (entry i.before).args.count ≤ length i.before.loop.words) × (i.before.loop.g * (entry i.before).args.count + (entry i.before).args.count ≤ length i.before.loop.totals)
+room : (i : tie.In-loop-g invariant-loop decreases-loop) → ((entry i.before).args.k * (i.before.loop-g.g * (entry i.before).args.count) + (entry i.before).args.k * (entry i.before).args.count ≤ length i.before.loop-g.words) × (i.before.loop-g.g * (entry i.before).args.count + (entry i.before).args.count ≤ length i.before.loop-g.totals)
 room i =
     let l = i.before in
     let s = entry l in
-    subst (λ (v : ℕ). (s.args.k * (l.loop.g * v) + s.args.k * v ≤ length l.loop.words) × (l.loop.g * v + v ≤ length l.loop.totals)) (counted s)
-    (all_room (array s) (us s) s.args.k s.pre.1.1.0.0 s.args.words.now s.args.totals.now (words_fit s) (totals_fit s) l.loop.g (within l) l.loop.words l.loop.totals l.loop.invariant.1 (more i))
+    subst (λ (v : ℕ). (s.args.k * (l.loop-g.g * v) + s.args.k * v ≤ length l.loop-g.words) × (l.loop-g.g * v + v ≤ length l.loop-g.totals)) (counted s)
+    (all_room (array s) (us s) s.args.k s.requires.1.1.0.0 s.args.words.now s.args.totals.now (words_fit s) (totals_fit s) l.loop-g.g (within l) l.loop-g.words l.loop-g.totals l.loop-g.invariant.1 (more i))
 
 -- how far the group begins
-near : (i : tie.In-loop invariant-loop decreases-loop) → (i.before.loop.g * (entry i.before).args.count ≤ 65536 * 16) × ((entry i.before).args.k * (i.before.loop.g * (entry i.before).args.count) ≤ 4 * (65536 * 16))
+near : (i : tie.In-loop-g invariant-loop decreases-loop) → (i.before.loop-g.g * (entry i.before).args.count ≤ 65536 * 16) × ((entry i.before).args.k * (i.before.loop-g.g * (entry i.before).args.count) ≤ 4 * (65536 * 16))
 near i =
     let s = entry i.before in
-    let few : i.before.loop.g ≤ 65536 = omega (arith, i.loop-test.true, i.before.before.power.ensures.1) in
-    let from : i.before.loop.g * s.args.count ≤ 65536 * 16 = mul-le-mul few s.pre.1.0.0 in
-    (from, mul-le-mul s.pre.1.1.0.1 from)
+    let few : i.before.loop-g.g ≤ 65536 = omega (arith, i.loop-g-test.true, i.before.before.power-groups.ensures.1) in
+    let from : i.before.loop-g.g * s.args.count ≤ 65536 * 16 = mul-le-mul few s.requires.1.0.0 in
+    (from, mul-le-mul s.requires.1.1.0.1 from)
 
-mul-from : tie.Need-overflow-mul-from invariant-loop decreases-loop
+mul-from : tie.Need-overflow_mul-from invariant-loop decreases-loop
 mul-from c = omega (arith, near c)
 
-mul_at : tie.Need-overflow-mul-at invariant-loop decreases-loop
+mul_at : tie.Need-overflow_mul-at invariant-loop decreases-loop
 mul_at c = omega (arith, near c)
 
-mul-write-group : tie.Need-overflow-mul-write-group invariant-loop decreases-loop
+mul-write-group : tie.Need-offset_bounds-words-at invariant-loop decreases-loop
 mul-write-group c = omega (arith, near c)
 
-sub-write-group : tie.Need-overflow-sub-write-group invariant-loop decreases-loop
+sub-write-group : tie.Need-slice_bounds-write_group-count invariant-loop decreases-loop
 sub-write-group c = omega (arith, room c)
 
-part-write-group-start : tie.Need-slice-bounds-write-group-start invariant-loop decreases-loop
+part-write-group-start : tie.Need-slice_bounds-write_group-start invariant-loop decreases-loop
 part-write-group-start c = omega (arith, room c)
 
-part-write-group-end : tie.Need-slice-bounds-write-group-end invariant-loop decreases-loop
+part-write-group-end : tie.Need-slice_bounds-write_group-end invariant-loop decreases-loop
 part-write-group-end c = omega (arith, room c)
 
-mul-write-group-2 : tie.Need-overflow-mul-write-group-2 invariant-loop decreases-loop
+mul-write-group-2 : tie.Need-offset_bounds-totals-from invariant-loop decreases-loop
 mul-write-group-2 c = omega (arith, near c.before)
 
-sub-write-group-2 : tie.Need-overflow-sub-write-group-2 invariant-loop decreases-loop
+sub-write-group-2 : tie.Need-slice_bounds-write_group-count-in-loop-g invariant-loop decreases-loop
 sub-write-group-2 c = omega (arith, room c.before)
 
-part-write-group-start-2 : tie.Need-slice-bounds-write-group-start-2 invariant-loop decreases-loop
+part-write-group-start-2 : tie.Need-slice_bounds-write_group-start-in-loop-g invariant-loop decreases-loop
 part-write-group-start-2 c = omega (arith, room c.before)
 
-part-write-group-end-2 : tie.Need-slice-bounds-write-group-end-2 invariant-loop decreases-loop
+part-write-group-end-2 : tie.Need-slice_bounds-write_group-end-in-loop-g invariant-loop decreases-loop
 part-write-group-end-2 c = omega (arith, room c.before)
 
-write-group-requires : tie.Need-write-group-requires invariant-loop decreases-loop
+write-group-requires : tie.Need-write_group-requires invariant-loop decreases-loop
 write-group-requires c κs =
     let i = c.before.before in
     let l = i.before in
     let s = entry l in
     let a = started l in
-    let begins = a.start.ensures.0 in (
+    let begins = a.start-started.ensures.0 in (
       record {
-        array = s.pre.0;
-        started = sym (ap (λ (x : Started). x.number) begins) ∙ l.before.before.before.if2.false;
-        numbers = ap (λ (x : Started). x.state) begins;
+        array = s.requires.0;
+        started = sym (ap (λ (x : Started). x.number) begins) ∙ l.before.before.before.if-started-ne0.false;
+        numbers = ap (λ (x : Started). x.state-1) begins;
       },
-      (((omega (arith, a.before.if1.left), s.pre.1.0.0), s.pre.1.0.1), (s.pre.1.1.0, (rw rest-lent (omega (arith, room i, length-drop (s.args.k * (l.loop.g * s.args.count)) l.loop.words)), rw rest-lent (omega (arith, room i, length-drop (l.loop.g * s.args.count) l.loop.totals))))),
+      (((omega (arith, a.before.if-count-eq0.false), s.requires.1.0.0), s.requires.1.0.1), (s.requires.1.1.0, (rw rest-lent (omega (arith, room i, length-drop (s.args.k * (l.loop-g.g * s.args.count)) l.loop-g.words)), rw rest-lent (omega (arith, room i, length-drop (l.loop-g.g * s.args.count) l.loop-g.totals))))),
     )
 
 -- the loop's turn, and what the group's call left
-abbrev turn : tie.After-write-group invariant-loop decreases-loop → tie.In-loop invariant-loop decreases-loop
+abbrev turn : tie.After-write_group invariant-loop decreases-loop → tie.In-loop-g invariant-loop decreases-loop
 turn d = d.before.before.before
 
-abbrev words_left : tie.After-write-group invariant-loop decreases-loop → List ℕ
-words_left d = d.write-group.new.1.1.1.1.1.1.1.0
+abbrev words_left : tie.After-write_group invariant-loop decreases-loop → List ℕ
+words_left d = d.write_group.new.1.1.1.1.1.1.1.0
 
-abbrev totals-left : tie.After-write-group invariant-loop decreases-loop → List ℤ
-totals-left d = d.write-group.new.1.1.1.1.1.1.1.1.0
+abbrev totals-left : tie.After-write_group invariant-loop decreases-loop → List ℤ
+totals-left d = d.write_group.new.1.1.1.1.1.1.1.1.0
 
-same_length : tie.Need-same-length invariant-loop decreases-loop
+same_length : tie.Need-shape_of-words-then-not-write_group invariant-loop decreases-loop
 same_length c =
     let d = c.before.before.before.before in
     let l = (turn d).before in
-    let at = (entry l).args.k * (l.loop.g * (entry l).args.count) in
-    same_len_mid at (length l.loop.words - at) l.loop.words (words_left d) d.write-group.auto.1.1.1.1.1.1.1.0 ∙ words_long l
+    let at = (entry l).args.k * (l.loop-g.g * (entry l).args.count) in
+    same_len_mid at (length l.loop-g.words - at) l.loop-g.words (words_left d) d.write_group.auto.1.1.1.1.1.1.1.0 ∙ words_long l
 
-same-length_2 : tie.Need-same-length-2 invariant-loop decreases-loop
+same-length_2 : tie.Need-shape_of-totals-then-not-write_group invariant-loop decreases-loop
 same-length_2 c =
     let d = c.before.before.before.before in
     let l = (turn d).before in
-    let from = l.loop.g * (entry l).args.count in
-    same_len_mid from (length l.loop.totals - from) l.loop.totals (totals-left d) d.write-group.auto.1.1.1.1.1.1.1.1.0 ∙ totals-long l
+    let from = l.loop-g.g * (entry l).args.count in
+    same_len_mid from (length l.loop-g.totals - from) l.loop-g.totals (totals-left d) d.write_group.auto.1.1.1.1.1.1.1.1.0 ∙ totals-long l
 
-returns_3 : tie.Need-returns-3 invariant-loop decreases-loop
+returns_3 : tie.Need-returns-then-not-write_group invariant-loop decreases-loop
 returns_3 c =
     let d = c.before.before.before.before in
     let i = turn d in
     let l = i.before in
     let s = entry l in
     let a = s.args in
-    let g = l.loop.g in
-    subst (λ (v : ℕ). WrittenOver (array s) (ended_by (us s) (sentence_at (us s) (a.k - 1) g)) (mid_of (a.k * (g * v)) (length l.loop.words - a.k * (g * v)) l.loop.words) (mid_of (g * v) (length l.loop.totals - g * v) l.loop.totals) d.write-group.result (words_left d) (totals-left d) → OneRefused (array s) (sentences_of a.k (us s)) a.words.now a.totals.now (put_mid (a.k * (g * v)) (length l.loop.words - a.k * (g * v)) l.loop.words (words_left d)) (put_mid (g * v) (length l.loop.totals - g * v) l.loop.totals (totals-left d))) (counted s)
-    (all-refused (array s) (us s) a.k s.pre.1.1.0.0 a.words.now a.totals.now (words_fit s) (totals_fit s) g (within l) l.loop.words l.loop.totals l.loop.inv.1 (more i) (words_left d) (totals-left d) d.write-group.result (not-true d.write-group.result c.if3.true))
-    d.write-group.ensures
+    let g = l.loop-g.g in
+    subst (λ (v : ℕ). WrittenOver (array s) (ended_by (us s) (sentence_at (us s) (a.k - 1) g)) (mid_of (a.k * (g * v)) (length l.loop-g.words - a.k * (g * v)) l.loop-g.words) (mid_of (g * v) (length l.loop-g.totals - g * v) l.loop-g.totals) d.write_group.result (words_left d) (totals-left d) → OneRefused (array s) (sentences_of a.k (us s)) a.words-1.now a.totals-1.now (put_mid (a.k * (g * v)) (length l.loop-g.words - a.k * (g * v)) l.loop-g.words (words_left d)) (put_mid (g * v) (length l.loop-g.totals - g * v) l.loop-g.totals (totals-left d))) (counted s)
+    (all-refused (array s) (us s) a.k s.requires.1.1.0.0 a.words-1.now a.totals-1.now (words_fit s) (totals_fit s) g (within l) l.loop-g.words l.loop-g.totals l.loop-g.inv.1 (more i) (words_left d) (totals-left d) d.write_group.result (not-true d.write_group.result c.if-not-write_group.true))
+    d.write_group.ensures
 
-add-g : tie.Need-overflow-add-g invariant-loop decreases-loop
-add-g c = let i = turn c.before.before.before.before in omega (arith, i.loop-test.taken, i.before.before.power.ensures.1)
+add-g : tie.Need-overflow_add-g invariant-loop decreases-loop
+add-g c = let i = turn c.before.before.before.before in omega (arith, i.loop-g-test.true, i.before.before.power-groups.ensures.1)
 
-loop-less : tie.Need-loop-smaller invariant-loop decreases-loop
-loop-less c = let i = turn c.before.before.before.before in omega (arith, i.loop-test.taken, i.before.before.power.ensures.0)
+loop-less : tie.Need-loop-g-smaller invariant-loop decreases-loop
+loop-less c = let i = turn c.before.before.before.before in omega (arith, i.loop-g-test.true, i.before.before.power-groups.ensures.0)
 
-loop-again : tie.Need-loop-preserved invariant-loop decreases-loop
+loop-again : tie.Need-loop-g-preserved invariant-loop decreases-loop
 loop-again c =
     let d = c.before.before.before.before in
     let i = turn d in
     let l = i.before in
     let s = entry l in
     let a = s.args in
-    let g = l.loop.g in (
-      omega (arith, i.loop-test.taken, l.before.power.ensures.0),
-      subst (λ (v : ℕ). WrittenOver (array s) (ended_by (us s) (sentence_at (us s) (a.k - 1) g)) (mid_of (a.k * (g * v)) (length l.loop.words - a.k * (g * v)) l.loop.words) (mid_of (g * v) (length l.loop.totals - g * v) l.loop.totals) d.write-group.result (words_left d) (totals-left d) → AllWritten (array s) (in_groups (us s) a.k (g + 1)) a.words.now a.totals.now (put_mid (a.k * (g * v)) (length l.loop.words - a.k * (g * v)) l.loop.words (words_left d)) (put_mid (g * v) (length l.loop.totals - g * v) l.loop.totals (totals-left d))) (counted s)
-          (all-next (array s) (us s) a.k s.pre.1.1.0.0 a.words.now a.totals.now (words_fit s) (totals_fit s) g (within l) l.loop.words l.loop.totals l.loop.inv.1 (more i) (words_left d) (totals-left d) d.write-group.result (not-false d.write-group.result c.if3.false))
-          d.write-group.ensures,
+    let g = l.loop-g.g in (
+      omega (arith, i.loop-g-test.true, l.before.power-groups.ensures.0),
+      subst (λ (v : ℕ). WrittenOver (array s) (ended_by (us s) (sentence_at (us s) (a.k - 1) g)) (mid_of (a.k * (g * v)) (length l.loop-g.words - a.k * (g * v)) l.loop-g.words) (mid_of (g * v) (length l.loop-g.totals - g * v) l.loop-g.totals) d.write_group.result (words_left d) (totals-left d) → AllWritten (array s) (in_groups (us s) a.k (g + 1)) a.words-1.now a.totals-1.now (put_mid (a.k * (g * v)) (length l.loop-g.words - a.k * (g * v)) l.loop-g.words (words_left d)) (put_mid (g * v) (length l.loop-g.totals - g * v) l.loop-g.totals (totals-left d))) (counted s)
+          (all-next (array s) (us s) a.k s.requires.1.1.0.0 a.words-1.now a.totals-1.now (words_fit s) (totals_fit s) g (within l) l.loop-g.words l.loop-g.totals l.loop-g.inv.1 (more i) (words_left d) (totals-left d) d.write_group.result (not-false d.write_group.result c.if-not-write_group.false))
+          d.write_group.ensures,
     )
 
-same-length-3 : tie.Need-same-length-3 invariant-loop decreases-loop
+same-length-3 : tie.Need-shape_of-words invariant-loop decreases-loop
 same-length-3 c = words_long c.before
 
-same-length-4 : tie.Need-same-length-4 invariant-loop decreases-loop
+same-length-4 : tie.Need-shape_of-totals invariant-loop decreases-loop
 same-length-4 c = totals-long c.before
 
-returns-4 : tie.Need-returns-4 invariant-loop decreases-loop
+returns-4 : tie.Need-returns invariant-loop decreases-loop
 returns-4 c =
     let l = c.before in
     let s = entry l in
-    all_done (array s) (us s) s.args.k s.pre.1.1.0.0 s.args.words.now s.args.totals.now (words_fit s) (totals_fit s) l.loop.g (within l) l.loop.words l.loop.totals l.loop.invariant.1 (omega (arith, groups s, c.loop-test.false, l.before.power.ensures.0))
+    all_done (array s) (us s) s.args.k s.requires.1.1.0.0 s.args.words.now s.args.totals.now (words_fit s) (totals_fit s) l.loop-g.g (within l) l.loop-g.words l.loop-g.totals l.loop-g.invariant.1 (omega (arith, groups s, c.loop-g-test.false, l.before.power-groups.ensures.0))
 
-pub write-all-spec : {M : Type 1} → statement M
-write-all-spec =
+pub write_all_spec : {M : Type 1} → statement M
+write_all_spec =
     tie.close
     (tie.spec
     invariant-loop

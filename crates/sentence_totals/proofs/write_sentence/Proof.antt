@@ -10,62 +10,62 @@ use lib.Seq.{paste, paste-zero, paste-suc, length-paste, length_paste_head, drop
 use Rattle.sentence_totals.proofs.write_sentence.Statement.{statement}
 use Rattle.sentence_totals.proofs.write_sentence.Tie as tie
 
-abbrev invariant-loop : tie.invariant-loop
+abbrev invariant-loop : tie.invariant-loop-j
 invariant-loop words₀ at count last first j₀ words j = (j ≤ count) × (words ≡ paste words₀ at first j)
 
-abbrev decreases-loop : tie.decreases-loop
+abbrev decreases-loop : tie.decreases-loop-j
 decreases-loop words₀ at count last first j₀ words j = count - j
 
 four : (s : tie.Start invariant-loop decreases-loop) → length s.args.t3 ≡ 4
 four s = search rules
 
 -- the slice is as long as it was
-long : (l : tie.At-loop invariant-loop decreases-loop) → length l.loop.words ≡ length l.before.args.words.now
+long : (l : tie.At-loop-j invariant-loop decreases-loop) → length l.loop-j.words ≡ length l.before.args.words.now
 long l =
     let a = l.before.args in
-    ap length l.loop.invariant.1 ∙ length-paste a.words.now a.at a.t3 l.loop.j (omega arith) (omega (arith, four l.before))
+    ap length l.loop-j.invariant.1 ∙ length-paste a.words.now a.at a.t3 l.loop-j.j (omega arith) (omega (arith, four l.before))
 
-loop-holds : tie.Need-loop-init invariant-loop decreases-loop
+loop-holds : tie.Need-loop-j-init invariant-loop decreases-loop
 loop-holds c = (omega arith, paste-zero c.args.words.now c.args.at c.args.t3)
 
-mul_words : tie.Need-overflow-mul-words invariant-loop decreases-loop
+mul_words : tie.Need-offset_bounds-first-j invariant-loop decreases-loop
 mul_words c = omega arith
 
-array-read-words : tie.Need-array-read-words invariant-loop decreases-loop
+array-read-words : tie.Need-bounds-first-j invariant-loop decreases-loop
 array-read-words c = omega arith
 
-add_words : tie.Need-overflow-add-words invariant-loop decreases-loop
+add_words : tie.Need-overflow_add-words invariant-loop decreases-loop
 add_words c = omega (arith, long c.before)
 
-mul-words-2 : tie.Need-overflow-mul-words-2 invariant-loop decreases-loop
+mul-words-2 : tie.Need-offset_bounds-words-at invariant-loop decreases-loop
 mul-words-2 c = omega (arith, long c.before)
 
-slice-write-words : tie.Need-slice-write-words invariant-loop decreases-loop
+slice-write-words : tie.Need-bounds-words-at invariant-loop decreases-loop
 slice-write-words c = omega (arith, long c.before)
 
-add-j : tie.Need-overflow-add-j invariant-loop decreases-loop
+add-j : tie.Need-overflow_add-j invariant-loop decreases-loop
 add-j c = omega arith
 
-loop-less : tie.Need-loop-smaller invariant-loop decreases-loop
+loop-less : tie.Need-loop-j-smaller invariant-loop decreases-loop
 loop-less c = omega arith
 
-loop-again : tie.Need-loop-preserved invariant-loop decreases-loop
+loop-again : tie.Need-loop-j-preserved invariant-loop decreases-loop
 loop-again c =
     let l = c.before in
     let a = l.before.args in
-    (omega arith, rw (add-one, l.loop.invariant.1) (paste-suc a.words.now a.at a.t3 l.loop.j 0 (omega (arith, long l)) (omega (arith, four l.before))))
+    (omega arith, rw (add-one, l.loop-j.invariant.1) (paste-suc a.words.now a.at a.t3 l.loop-j.j 0 (omega (arith, long l)) (omega (arith, four l.before))))
 
-add-words-2 : tie.Need-overflow-add-words-2 invariant-loop decreases-loop
+add-words-2 : tie.Need-overflow_add-words-2 invariant-loop decreases-loop
 add-words-2 c = omega (arith, long c.before)
 
-mul-words-3 : tie.Need-overflow-mul-words-3 invariant-loop decreases-loop
+mul-words-3 : tie.Need-offset_bounds-words-at-2 invariant-loop decreases-loop
 mul-words-3 c = omega (arith, long c.before)
 
-slice-write-words-2 : tie.Need-slice-write-words-2 invariant-loop decreases-loop
+slice-write-words-2 : tie.Need-bounds-words-at-2 invariant-loop decreases-loop
 slice-write-words-2 c = omega (arith, long c.before)
 
-same_length : tie.Need-same-length invariant-loop decreases-loop
-same_length c = let a = c.before.before.args in length-set c.before.loop.words (a.at + a.count) a.last ∙ long c.before
+same_length : tie.Need-shape_of-words invariant-loop decreases-loop
+same_length c = let a = c.before.before.args in length-set c.before.loop-j.words (a.at + a.count) a.last ∙ long c.before
 
 -- the last word behind the others
 last-behind : (d : List ℕ) (at : ℕ) (s : List ℕ) (n x : ℕ) → at + n < length d → n ≤ length s → set (paste d at s n) (at + n) x ≡ (take at d ++ (take n s ++ (x ∷ []))) ++ drop (at + n + 1) d
@@ -79,12 +79,12 @@ returns : tie.Need-returns invariant-loop decreases-loop
 returns c =
     let l = c.before in
     let a = l.before.args in
-    let e : l.loop.j ≡ a.count = omega arith in
-    ap (λ (w : List ℕ). set w (a.at + a.count) a.last) (l.loop.invariant.1 ∙ ap (paste a.words.now a.at a.t3) e)
+    let e : l.loop-j.j ≡ a.count = omega arith in
+    ap (λ (w : List ℕ). set w (a.at + a.count) a.last) (l.loop-j.invariant.1 ∙ ap (paste a.words.now a.at a.t3) e)
     ∙ last-behind a.words.now a.at a.t3 a.count a.last l.before.requires.0 (omega (arith, four l.before))
 
-pub write-sentence-spec : {M : Type 1} → statement M
-write-sentence-spec =
+pub write_sentence_spec : {M : Type 1} → statement M
+write_sentence_spec =
     tie.close
     (tie.spec
     invariant-loop

@@ -9,38 +9,38 @@ use Rattle.integer.proofs.Each.{Written, written_none, written_next, written_all
 use Rattle.sentence_totals.proofs.zero_totals.Statement.{statement}
 use Rattle.sentence_totals.proofs.zero_totals.Tie as tie
 
-abbrev invariant-loop : tie.invariant-loop
+abbrev invariant-loop : tie.invariant-loop-i
 invariant-loop totals₀ i₀ totals i = Written (λ (x : ℤ). pos 0) totals₀ totals i
 
-abbrev decreases-loop : tie.decreases-loop
+abbrev decreases-loop : tie.decreases-loop-i
 decreases-loop totals₀ i₀ totals i = length totals₀ - i
 
-loop-holds : tie.Need-loop-init invariant-loop decreases-loop
+loop-holds : tie.Need-loop-i-init invariant-loop decreases-loop
 loop-holds c = written_none _ _
 
-mul-totals : tie.Need-overflow-mul-totals invariant-loop decreases-loop
+mul-totals : tie.Need-offset_bounds-totals-i invariant-loop decreases-loop
 mul-totals c = search rules
 
-slice-set-of-totals : tie.Need-slice-set-of-totals invariant-loop decreases-loop
+slice-set-of-totals : tie.Need-slice_set_of-totals invariant-loop decreases-loop
 slice-set-of-totals c = search rules
 
-add-i : tie.Need-overflow-add-i invariant-loop decreases-loop
+add-i : tie.Need-overflow_add-i invariant-loop decreases-loop
 add-i c = search rules
 
-loop-less : tie.Need-loop-smaller invariant-loop decreases-loop
-loop-less c = omega (arith, c.loop-test.true, c.before.loop.invariant.same_length)
+loop-less : tie.Need-loop-i-smaller invariant-loop decreases-loop
+loop-less c = omega (arith, c.loop-i-test.true, c.before.loop-i.invariant.same_length)
 
-loop-again : tie.Need-loop-preserved invariant-loop decreases-loop
-loop-again c = written_next _ _ _ _ _ (pos 0) c.before.loop.invariant c.loop-test.true refl
+loop-again : tie.Need-loop-i-preserved invariant-loop decreases-loop
+loop-again c = written_next _ _ _ _ _ (pos 0) c.before.loop-i.invariant c.loop-i-test.true refl
 
-same_length : tie.Need-same-length invariant-loop decreases-loop
-same_length c = c.before.loop.invariant.same_length
+same_length : tie.Need-shape_of-totals invariant-loop decreases-loop
+same_length c = c.before.loop-i.invariant.same_length
 
 returns : tie.Need-returns invariant-loop decreases-loop
-returns c = written_all _ _ _ _ c.before.loop.invariant c.loop-test.false ∙ map_same (pos 0) c.before.before.args.totals.now
+returns c = written_all _ _ _ _ c.before.loop-i.invariant c.loop-i-test.false ∙ map_same (pos 0) c.before.before.args.totals.now
 
-pub zero-totals-spec : {M : Type 1} → statement M
-zero-totals-spec =
+pub zero_totals_spec : {M : Type 1} → statement M
+zero_totals_spec =
     tie.close
     (tie.spec
     invariant-loop

@@ -15,17 +15,17 @@ use Rattle.sentences.proofs.list_sentences.Tie as tie
 answers : (base check : List ℤ) (k : ℕ) (words : List ℕ) (totals : List ℤ) (x : Outcome) → x ≡ listing_outcome (opened base check) k words totals → (x ≡ listing_outcome (opened base check) k words totals) × ListingMeans base check k words totals x
 answers base check k words totals x e = (e, rw e (listing_means base check k words totals))
 
-list-counted-requires : tie.Need-list-counted-requires
+list-counted-requires : tie.Need-list_counted-counted-requires
 list-counted-requires c κs = search rules
 
-same_length : tie.Need-same-length
+same_length : tie.Need-shape_of-words
 same_length c = search rules
 
-same-length_2 : tie.Need-same-length-2
+same-length_2 : tie.Need-shape_of-totals
 same-length_2 c = search rules
 
 returns : tie.Need-returns
-returns c = answers _ _ _ _ _ _ c.before.before.before.before.list_counted.ensures.0
+returns c = answers _ _ _ _ _ _ c.before.before.before.before.list_counted-counted.ensures.0
 
-pub list-sentences-spec : {M : Type 1} → statement M
-list-sentences-spec = tie.close (tie.spec list-counted-requires same_length same-length_2 returns)
+pub list_sentences_spec : {M : Type 1} → statement M
+list_sentences_spec = tie.close (tie.spec list-counted-requires same_length same-length_2 returns)

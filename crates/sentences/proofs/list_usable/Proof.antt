@@ -24,38 +24,38 @@ sixteen : (s : tie.Start) → length s.args.usable ≡ 16
 sixteen s = search rules
 
 -- how many sentences there are
-counted : (p : tie.After-power) → p.power.result ≡ length (us p.before.before) ^ p.before.before.args.k
+counted : (p : tie.After-power-sentences) → p.power-sentences.result ≡ length (us p.before.before) ^ p.before.before.args.k
 counted p =
     let s = p.before.before in
-    p.power.ensures.0 ∙ ap (λ v. v ^ s.args.k) (sym (front_long s.args.usable (sixteen s) s.args.count s.requires.1.0.0))
+    p.power-sentences.ensures.0 ∙ ap (λ v. v ^ s.args.k) (sym (front_long s.args.usable (sixteen s) s.args.count s.requires.1.0.0))
 
-power-requires : tie.Need-power-requires
+power-requires : tie.Need-power-sentences-requires
 power-requires c κs = search rules
 
-write-all-requires : tie.Need-write-all-requires
+write-all-requires : tie.Need-write_all-requires
 write-all-requires c κs = search rules
 
-cast-t14 : tie.Need-overflow-cast-t14
+cast-t14 : tie.Need-overflow_cast-result
 cast-t14 c = search rules
 
-same_length : tie.Need-same-length
+same_length : tie.Need-shape_of-words-then-write_all
 same_length c = search rules
 
-same-length_2 : tie.Need-same-length-2
+same-length_2 : tie.Need-shape_of-totals-then-write_all
 same-length_2 c = search rules
 
-returns : tie.Need-returns
+returns : tie.Need-returns-then-write_all
 returns c =
     let w = c.before.before.before.before in
     let p = w.before.before.before in
     let s = p.before.before in
-    full_outcome (array s) (us s) s.args.k s.args.words.now s.args.totals.now _ _ w.write-all.result c.if1.true w.write-all.ensures p.power.result (counted p)
+    full_outcome (array s) (us s) s.args.k s.args.words.now s.args.totals.now _ _ w.write_all.result c.if-write_all.true w.write_all.ensures p.power-sentences.result (counted p)
 
-mul-clear : tie.Need-overflow-mul-clear
+mul-clear : tie.Need-overflow_mul-k
 mul-clear c =
     let p = c.before.before.before.before.before.before.before.before.before in
     let s = p.before.before in
-    let h : s.args.k * p.power.result ≤ 4 * 65536 = mul-le-mul s.requires.1.1.0.1 p.power.ensures.1 in
+    let h : s.args.k * p.power-sentences.result ≤ 4 * 65536 = mul-le-mul s.requires.1.1.0.1 p.power-sentences.ensures.1 in
     omega arith
 
 clear-requires : tie.Need-clear-requires
@@ -64,19 +64,19 @@ clear-requires c κs =
     let w = e.before.before.before.before in
     let p = w.before.before.before in
     let s = p.before.before in
-    let f = clear_fits (array s) (us s) s.args.k s.args.words.now s.args.totals.now _ _ w.write-all.result e.if1.false w.write-all.ensures in
-    (rw (f.0, p.power.ensures.0) s.requires.1.1.1.0, rw (f.1, p.power.ensures.0) s.requires.1.1.1.1)
+    let f = clear_fits (array s) (us s) s.args.k s.args.words.now s.args.totals.now _ _ w.write_all.result e.if-write_all.false w.write_all.ensures in
+    (rw (f.0, p.power-sentences.ensures.0) s.requires.1.1.1.0, rw (f.1, p.power-sentences.ensures.0) s.requires.1.1.1.1)
 
 refused-requires : tie.Need-refused-requires
 refused-requires c κs = search rules
 
-same-length-3 : tie.Need-same-length-3
+same-length-3 : tie.Need-shape_of-words
 same-length-3 c = search rules
 
-same-length-4 : tie.Need-same-length-4
+same-length-4 : tie.Need-shape_of-totals
 same-length-4 c = search rules
 
-returns_2 : tie.Need-returns-2
+returns_2 : tie.Need-returns
 returns_2 c =
     let d = c.before.before.before.before in
     let e = d.before.before.before in
@@ -84,10 +84,10 @@ returns_2 c =
     let p = w.before.before.before in
     let s = p.before.before in
     rw c.refused.ensures
-    (broken_outcome (array s) (us s) s.args.k s.args.words.now s.args.totals.now _ _ w.write-all.result e.if1.false w.write-all.ensures _ _ (ap (λ n. s.args.k * n) (counted p)) (counted p) _ _ d.clear.ensures.0 d.clear.ensures.1)
+    (broken_outcome (array s) (us s) s.args.k s.args.words.now s.args.totals.now _ _ w.write_all.result e.if-write_all.false w.write_all.ensures _ _ (ap (λ n. s.args.k * n) (counted p)) (counted p) _ _ d.clear.ensures.0 d.clear.ensures.1)
 
-pub list-usable-spec : {M : Type 1} → statement M
-list-usable-spec =
+pub list_usable_spec : {M : Type 1} → statement M
+list_usable_spec =
     tie.close
     (tie.spec
     power-requires

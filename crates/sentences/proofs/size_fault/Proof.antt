@@ -11,9 +11,9 @@ use Rattle.sentences.specs.Listing.{size_refusal}
 use Rattle.sentences.proofs.size_fault.Statement.{statement}
 use Rattle.sentences.proofs.size_fault.Tie as tie
 
-returns : tie.Need-returns
+returns : tie.Need-returns-then-k-usable
 unfolding size_refusal
-returns c = rw c.if1.true
+returns c = rw c.if-k-usable.true
 
 -- what 22 lets pass
 small : (k usable : ℕ) → ((ltb k 1 || ltb sentence_limit k) || ltb usable_limit usable) ≡ false → (usable ≤ usable_limit) × (k ≤ sentence_limit)
@@ -25,28 +25,28 @@ small k usable = go (ltb k 1) (ltb sentence_limit k) (ltb usable_limit usable) r
     go false false true f g z = absurd (true≢false z)
     go false false false f g z = (ltb-false _ _ g, ltb-false _ _ f)
 
-power-requires : tie.Need-power-requires
-power-requires c κs = small c.before.args.k c.before.args.usable c.if1.false
+power-requires : tie.Need-power-sentences-requires
+power-requires c κs = small c.before.args.k c.before.args.usable c.if-k-usable.false
 
-mul-if2 : tie.Need-overflow-mul-if2
+mul-if2 : tie.Need-overflow_mul-k
 mul-if2 c =
     let s = c.before.before in
-    let h : s.args.k * c.power.result ≤ 4 * 65536 = mul-le-mul (small s.args.k s.args.usable c.before.if1.false).1 c.power.ensures.1 in
+    let h : s.args.k * c.power-sentences.result ≤ 4 * 65536 = mul-le-mul (small s.args.k s.args.usable c.before.if-k-usable.false).1 c.power-sentences.ensures.1 in
     omega arith
 
 -- the second test, by the number of sentences
-room : (p : tie.After-power) (b : Bool) → (ltb p.before.before.args.words (p.before.before.args.k * p.power.result) || ltb p.before.before.args.totals p.power.result) ≡ b → (ltb p.before.before.args.words (p.before.before.args.k * p.before.before.args.usable ^ p.before.before.args.k) || ltb p.before.before.args.totals (p.before.before.args.usable ^ p.before.before.args.k)) ≡ b
+room : (p : tie.After-power-sentences) (b : Bool) → (ltb p.before.before.args.words (p.before.before.args.k * p.power-sentences.result) || ltb p.before.before.args.totals p.power-sentences.result) ≡ b → (ltb p.before.before.args.words (p.before.before.args.k * p.before.before.args.usable ^ p.before.before.args.k) || ltb p.before.before.args.totals (p.before.before.args.usable ^ p.before.before.args.k)) ≡ b
 room p b e =
     let a = p.before.before.args in
-    ap (λ (n : ℕ). ltb a.words (a.k * n) || ltb a.totals n) (sym p.power.ensures.0) ∙ e
+    ap (λ (n : ℕ). ltb a.words (a.k * n) || ltb a.totals n) (sym p.power-sentences.ensures.0) ∙ e
 
-returns_2 : tie.Need-returns-2
+returns_2 : tie.Need-returns-then-words-k
 unfolding size_refusal
-returns_2 c = rw (c.before.before.if1.false, room c.before true c.if2.true)
+returns_2 c = rw (c.before.before.if-k-usable.false, room c.before true c.if-words-k.true)
 
-returns_3 : tie.Need-returns-3
+returns_3 : tie.Need-returns
 unfolding size_refusal
-returns_3 c = rw (c.before.before.if1.false, room c.before false c.if2.false)
+returns_3 c = rw (c.before.before.if-k-usable.false, room c.before false c.if-words-k.false)
 
-pub size-fault-spec : {M : Type 1} → statement M
-size-fault-spec = tie.close (tie.spec returns power-requires mul-if2 returns_2 returns_3)
+pub size_fault_spec : {M : Type 1} → statement M
+size_fault_spec = tie.close (tie.spec returns power-requires mul-if2 returns_2 returns_3)

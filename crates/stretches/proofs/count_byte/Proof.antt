@@ -11,38 +11,38 @@ use Rattle.stretches.proofs.count_byte.Tie as tie
 ninth : (s : tie.Start) → get_or (set s.args.counts.now (s.args.byte % 8) (get_or s.args.counts.now (s.args.byte % 8) 0 + 1)) 8 0 ≡ get_or s.args.counts.now 8 0
 ninth s = get_or-set_other s.args.counts.now (s.args.byte % 8) 8 (get_or s.args.counts.now (s.args.byte % 8) 0 + 1) 0 (λ e. omega arith)
 
-cast-matched : tie.Need-overflow-cast-matched
+cast-matched : tie.Need-overflow_cast-matched
 cast-matched c = search rules
 
-mul-counts : tie.Need-overflow-mul-counts
+mul-counts : tie.Need-offset_bounds-counts-matched
 mul-counts c = search rules
 
-element-copy-out-counts : tie.Need-element-copy-out-counts
+element-copy-out-counts : tie.Need-bounds-counts-matched
 element-copy-out-counts c = search rules
 
-add-counts : tie.Need-overflow-add-counts
+add-counts : tie.Need-overflow_add-counts
 add-counts c = search rules
 
-element-write-counts : tie.Need-element-write-counts
+element-write-counts : tie.Need-bounds-counts-matched-2
 element-write-counts c = search rules
 
-cast-counts : tie.Need-overflow-cast-counts
+cast-counts : tie.Need-overflow_cast-counts
 cast-counts c = search rules
 
-element-copy-out-counts-2 : tie.Need-element-copy-out-counts-2
+element-copy-out-counts-2 : tie.Need-bounds-counts-8
 element-copy-out-counts-2 c = search rules
 
-add-counts-2 : tie.Need-overflow-add-counts-2
+add-counts-2 : tie.Need-overflow_add-counts-2
 add-counts-2 c = let s = c.before.before in omega (arith, ninth s, s.requires)
 
-element-write-counts-2 : tie.Need-element-write-counts-2
+element-write-counts-2 : tie.Need-bounds-counts-8-2
 element-write-counts-2 c = search rules
 
 returns : tie.Need-returns
 returns c = rw (ninth c.before.before)
 
-pub count-byte-spec : {M : Type 1} → statement M
-count-byte-spec =
+pub count_byte_spec : {M : Type 1} → statement M
+count_byte_spec =
     tie.close
     (tie.spec
     cast-matched

@@ -12,48 +12,48 @@ use Rattle.stretches.proofs.Turn.{Turn, Answered, next-within, next-room, next-c
 use Rattle.stretches.proofs.score_sentences.Statement.{statement}
 use Rattle.stretches.proofs.score_sentences.Tie as tie
 
-abbrev invariant-loop : tie.invariant-loop
+abbrev invariant-loop : tie.invariant-loop-i
 invariant-loop base check words ends points₀ lengths₀ counts₀ started sum₀ a₀ i₀ points lengths counts sum a i =
     Batching (opened base check) ends (record { words = words; points = points₀; lengths = lengths₀ }) a i (to_z w64 sum) points lengths counts
 
-abbrev decreases-loop : tie.decreases-loop
+abbrev decreases-loop : tie.decreases-loop-i
 decreases-loop base check words ends points₀ lengths₀ counts₀ started sum₀ a₀ i₀ points lengths counts sum a i = length ends - i
 
-start-requires : tie.Need-start-requires invariant-loop decreases-loop
+start-requires : tie.Need-start-started-requires invariant-loop decreases-loop
 start-requires c κs = search rules
 
 -- the sheet that is asked for
 abbrev asked : tie.Start invariant-loop decreases-loop → Run
 asked s = record { words = s.args.words.now; points = s.args.points.now; lengths = s.args.lengths.now }
 
-loop-holds : tie.Need-loop-init invariant-loop decreases-loop
+loop-holds : tie.Need-loop-i-init invariant-loop decreases-loop
 loop-holds c =
     let s = c.before.before.before.before in
     batching_begins (opened s.args.base.now s.args.check.now) s.args.ends.now (asked s) s.args.counts.now s.requires.1.1.1.1
 
-mul-words-before : tie.Need-overflow-mul-words-before invariant-loop decreases-loop
+mul-words-before : tie.Need-offset_bounds-ends-i invariant-loop decreases-loop
 mul-words-before c = search rules
 
-shared-slice-read-words-before : tie.Need-shared-slice-read-words-before invariant-loop decreases-loop
+shared-slice-read-words-before : tie.Need-bounds-ends-i invariant-loop decreases-loop
 shared-slice-read-words-before c = search rules
 
-words-before-requires : tie.Need-words-before-requires invariant-loop decreases-loop
+words-before-requires : tie.Need-words_before-e-requires invariant-loop decreases-loop
 words-before-requires c κs = search rules
 
 -- the loop at a turn whose sentence's end is known, and the function's start from there
-abbrev loop : tie.After-words-before invariant-loop decreases-loop → tie.At-loop invariant-loop decreases-loop
+abbrev loop : tie.After-words_before-e invariant-loop decreases-loop → tie.At-loop-i invariant-loop decreases-loop
 loop w = w.before.before.before
 
-abbrev start : tie.At-loop invariant-loop decreases-loop → tie.Start invariant-loop decreases-loop
+abbrev start : tie.At-loop-i invariant-loop decreases-loop → tie.Start invariant-loop decreases-loop
 start l = l.before.before.before.before.before
 
-turn : (w : tie.After-words-before invariant-loop decreases-loop) → Turn (start (loop w)).args.base.now (start (loop w)).args.check.now (start (loop w)).args.ends.now (asked (start (loop w))) (loop w).loop.a (loop w).loop.i (to_z w64 (loop w).loop.sum) (loop w).loop.points (loop w).loop.lengths (loop w).loop.counts w.words-before.result
+turn : (w : tie.After-words_before-e invariant-loop decreases-loop) → Turn (start (loop w)).args.base.now (start (loop w)).args.check.now (start (loop w)).args.ends.now (asked (start (loop w))) (loop w).loop-i.a (loop w).loop-i.i (to_z w64 (loop w).loop-i.sum) (loop w).loop-i.points (loop w).loop-i.lengths (loop w).loop-i.counts w.words_before-e.result
 turn w =
-    let p = (start (loop w)).pre in
+    let p = (start (loop w)).requires in
     record {
-      so_far = (loop w).loop.invariant;
-      inside = w.before.before.loop-test.true;
-      end_is = w.words-before.ensures;
+      so_far = (loop w).loop-i.invariant;
+      inside = w.before.before.loop-i-test.true;
+      end_is = w.words_before-e.ensures;
       good = p.1.0;
       few_words = p.1.1.0;
       few-ends = p.1.1.1.0.0;
@@ -61,107 +61,107 @@ turn w =
       in_lengths = p.1.1.1.0.1.1;
     }
 
-mul-score-sentence : tie.Need-overflow-mul-score-sentence invariant-loop decreases-loop
+mul-score-sentence : tie.Need-offset_bounds-words-a invariant-loop decreases-loop
 mul-score-sentence c = omega (arith, next-within (turn c))
 
-sub-score-sentence : tie.Need-overflow-sub-score-sentence invariant-loop decreases-loop
+sub-score-sentence : tie.Need-slice_bounds-score_sentence-count invariant-loop decreases-loop
 sub-score-sentence c = (next-within (turn c)).below
 
-part-score-sentence-start : tie.Need-slice-bounds-score-sentence-start invariant-loop decreases-loop
+part-score-sentence-start : tie.Need-slice_bounds-score_sentence-start invariant-loop decreases-loop
 part-score-sentence-start c = (next-within (turn c)).below
 
-part-score-sentence-end : tie.Need-slice-bounds-score-sentence-end invariant-loop decreases-loop
+part-score-sentence-end : tie.Need-slice_bounds-score_sentence-end invariant-loop decreases-loop
 part-score-sentence-end c = (next-within (turn c)).in_words
 
-mul-score-sentence-2 : tie.Need-overflow-mul-score-sentence-2 invariant-loop decreases-loop
+mul-score-sentence-2 : tie.Need-offset_bounds-points-a invariant-loop decreases-loop
 mul-score-sentence-2 c = omega (arith, next-within (turn c.before))
 
-sub-score-sentence-2 : tie.Need-overflow-sub-score-sentence-2 invariant-loop decreases-loop
+sub-score-sentence-2 : tie.Need-slice_bounds-score_sentence-count-in-loop-i invariant-loop decreases-loop
 sub-score-sentence-2 c = (next-within (turn c.before)).below
 
-part-score-sentence-start-2 : tie.Need-slice-bounds-score-sentence-start-2 invariant-loop decreases-loop
+part-score-sentence-start-2 : tie.Need-slice_bounds-score_sentence-start-in-loop-i invariant-loop decreases-loop
 part-score-sentence-start-2 c = (next-within (turn c.before)).below
 
-part-score-sentence-end-2 : tie.Need-slice-bounds-score-sentence-end-2 invariant-loop decreases-loop
+part-score-sentence-end-2 : tie.Need-slice_bounds-score_sentence-end-in-loop-i invariant-loop decreases-loop
 part-score-sentence-end-2 c = (next-within (turn c.before)).in_points
 
-sub-score-sentence-3 : tie.Need-overflow-sub-score-sentence-3 invariant-loop decreases-loop
+sub-score-sentence-3 : tie.Need-slice_bounds-score_sentence-count-in-loop-i-2 invariant-loop decreases-loop
 sub-score-sentence-3 c = (next-within (turn c.before.before)).below
 
-part-score-sentence-start-3 : tie.Need-slice-bounds-score-sentence-start-3 invariant-loop decreases-loop
+part-score-sentence-start-3 : tie.Need-slice_bounds-score_sentence-start-in-loop-i-2 invariant-loop decreases-loop
 part-score-sentence-start-3 c = (next-within (turn c.before.before)).below
 
-part-score-sentence-end-3 : tie.Need-slice-bounds-score-sentence-end-3 invariant-loop decreases-loop
+part-score-sentence-end-3 : tie.Need-slice_bounds-score_sentence-end-in-loop-i-2 invariant-loop decreases-loop
 part-score-sentence-end-3 c = (next-within (turn c.before.before)).in_lengths
 
-score-sentence-requires : tie.Need-score-sentence-requires invariant-loop decreases-loop
+score-sentence-requires : tie.Need-score_sentence-scored-requires invariant-loop decreases-loop
 score-sentence-requires c κs =
     let w = c.before.before.before in
-    ((start (loop w)).pre.0, ((loop w).before.start.ensures.0, next-room (turn w)))
+    ((start (loop w)).requires.0, ((loop w).before.start-started.ensures.0, next-room (turn w)))
 
 -- the turn in which `score_sentence` was called, and what it left
-abbrev ended : tie.After-score-sentence invariant-loop decreases-loop → tie.After-words-before invariant-loop decreases-loop
+abbrev ended : tie.After-score_sentence-scored invariant-loop decreases-loop → tie.After-words_before-e invariant-loop decreases-loop
 ended d = d.before.before.before.before
 
-answered : (d : tie.After-score-sentence invariant-loop decreases-loop) → Answered (start (loop (ended d))).args.base.now (start (loop (ended d))).args.check.now (start (loop (ended d))).args.words.now (loop (ended d)).loop.points (loop (ended d)).loop.lengths (loop (ended d)).loop.a (ended d).words-before.result d.score-sentence.result d.score-sentence.new.1.1.1.1.0 d.score-sentence.new.1.1.1.1.1.0
-answered d = record { is = d.score-sentence.ensures; points_kept = d.score-sentence.auto.1.1.1.1.0; lengths-kept = d.score-sentence.auto.1.1.1.1.1.0 }
+answered : (d : tie.After-score_sentence-scored invariant-loop decreases-loop) → Answered (start (loop (ended d))).args.base.now (start (loop (ended d))).args.check.now (start (loop (ended d))).args.words.now (loop (ended d)).loop-i.points (loop (ended d)).loop-i.lengths (loop (ended d)).loop-i.a (ended d).words_before-e.result d.score_sentence-scored.result d.score_sentence-scored.new.1.1.1.1.0 d.score_sentence-scored.new.1.1.1.1.1.0
+answered d = record { is = d.score_sentence-scored.ensures; points_kept = d.score_sentence-scored.auto.1.1.1.1.0; lengths-kept = d.score_sentence-scored.auto.1.1.1.1.1.0 }
 
-enum-known-scored : tie.Need-enum-known-scored invariant-loop decreases-loop
+enum-known-scored : tie.Need-enum_known-scored invariant-loop decreases-loop
 enum-known-scored c = c.match.keys1
 
-enum_told : tie.Need-enum-told invariant-loop decreases-loop
+enum_told : tie.Need-enum_told-1 invariant-loop decreases-loop
 enum_told c = c.match.keys2
 
 -- where the sentence is refused
-abbrev refused : tie.After-enum-told invariant-loop decreases-loop → tie.After-score-sentence invariant-loop decreases-loop
+abbrev refused : tie.In_default invariant-loop decreases-loop → tie.After-score_sentence-scored invariant-loop decreases-loop
 refused c = c.before.before.before.before.before
 
-same_length : tie.Need-same-length invariant-loop decreases-loop
-same_length c = (turn-refused (turn (ended (refused c))) (answered (refused c)) c.enum_told.given.1).points-long
+same_length : tie.Need-shape_of-points-in_default invariant-loop decreases-loop
+same_length c = (turn-refused (turn (ended (refused c))) (answered (refused c)) c.enum_told-1.given.1).points-long
 
-same-length_2 : tie.Need-same-length-2 invariant-loop decreases-loop
-same-length_2 c = (turn-refused (turn (ended (refused c))) (answered (refused c)) c.enum_told.given.1).lengths-long
+same-length_2 : tie.Need-shape_of-lengths-in_default invariant-loop decreases-loop
+same-length_2 c = (turn-refused (turn (ended (refused c))) (answered (refused c)) c.enum_told-1.given.1).lengths-long
 
-returns : tie.Need-returns invariant-loop decreases-loop
-returns c = turn-refused (turn (ended (refused c))) (answered (refused c)) c.enum_told.given.1
+returns : tie.Need-returns-in_default invariant-loop decreases-loop
+returns c = turn-refused (turn (ended (refused c))) (answered (refused c)) c.enum_told-1.given.1
 
-count-byte-requires : tie.Need-count-byte-requires invariant-loop decreases-loop
+count-byte-requires : tie.Need-count_byte-requires invariant-loop decreases-loop
 count-byte-requires c κs = let t = turn (ended c.before.before.before.before.before.before.before) in (next-counts t _, next-counts t _)
 
 -- where a turn ends
-abbrev called : tie.After-count-byte invariant-loop decreases-loop → tie.After-score-sentence invariant-loop decreases-loop
+abbrev called : tie.After-count_byte invariant-loop decreases-loop → tie.After-score_sentence-scored invariant-loop decreases-loop
 called c = c.before.before.before.before.before.before.before.before
 
-add-sum : tie.Need-overflow-add-sum invariant-loop decreases-loop
+add-sum : tie.Need-overflow_add-sum invariant-loop decreases-loop
 add-sum c =
-    let v = c.before.before.before.scored.given in
+    let v = c.before.before.before.scored-1.given in
     next_fits (turn (ended (called c))) (answered (called c)) v.0.0 v.0.1.0 v.1
 
-add-i : tie.Need-overflow-add-i invariant-loop decreases-loop
+add-i : tie.Need-overflow_add-i invariant-loop decreases-loop
 add-i c = let t = turn (ended (called c)) in omega (arith, t.inside, t.few-ends)
 
-loop-less : tie.Need-loop-smaller invariant-loop decreases-loop
+loop-less : tie.Need-loop-i-smaller invariant-loop decreases-loop
 loop-less c = omega (arith, (turn (ended (called c))).inside)
 
-loop-again : tie.Need-loop-preserved invariant-loop decreases-loop
+loop-again : tie.Need-loop-i-preserved invariant-loop decreases-loop
 loop-again c =
-    let v = c.before.before.before.scored.given in
-    turn_on (turn (ended (called c))) (answered (called c)) v.0.0 v.0.1.0 v.1 _ c.count-byte.ensures
+    let v = c.before.before.before.scored-1.given in
+    turn_on (turn (ended (called c))) (answered (called c)) v.0.0 v.0.1.0 v.1 _ c.count_byte.ensures
 
-same-length-3 : tie.Need-same-length-3 invariant-loop decreases-loop
-same-length-3 c = c.before.loop.invariant.points-done.long
+same-length-3 : tie.Need-shape_of-points invariant-loop decreases-loop
+same-length-3 c = c.before.loop-i.invariant.points-done.long
 
-same-length-4 : tie.Need-same-length-4 invariant-loop decreases-loop
-same-length-4 c = c.before.loop.invariant.lengths-done.long
+same-length-4 : tie.Need-shape_of-lengths invariant-loop decreases-loop
+same-length-4 c = c.before.loop-i.invariant.lengths-done.long
 
-returns_2 : tie.Need-returns-2 invariant-loop decreases-loop
+returns_2 : tie.Need-returns invariant-loop decreases-loop
 returns_2 c =
-    let l = c.before.loop in
+    let l = c.before.loop-i in
     let s = start c.before in
-    batching_ends (opened s.args.base.now s.args.check.now) s.args.ends.now (asked s) l.a l.i (to_z w64 l.sum) l.points l.lengths l.counts l.invariant (search rules)
+    batching_ends (opened s.args.base.now s.args.check.now) s.args.ends.now (asked s) l.a l.i (to_z w64 l.sum) l.points-1 l.lengths-1 l.counts l.invariant (search rules)
 
-pub score-sentences-spec : {M : Type 1} → statement M
-score-sentences-spec =
+pub score_sentences_spec : {M : Type 1} → statement M
+score_sentences_spec =
     tie.close
     (tie.spec
     invariant-loop

@@ -35,48 +35,48 @@ use Rattle.sums.proofs.Closing.{Closing, closing_begins, closing_refused, closin
 use Rattle.sums.proofs.sum_closed.Statement.{statement}
 use Rattle.sums.proofs.sum_closed.Tie as tie
 
-abbrev invariant-loop : tie.invariant-loop
+abbrev invariant-loop : tie.invariant-loop-i
 invariant-loop base check order carried₀ last closing backoffs₀ words total₀ i₀ carried backoffs total i = Closing (store_in base check) (held_in carried₀ backoffs₀) (last ∷ end_word ∷ []) carried backoffs (to_z w64 total) i
 
-abbrev decreases-loop : tie.decreases-loop
+abbrev decreases-loop : tie.decreases-loop-i
 decreases-loop base check order carried₀ last closing backoffs₀ words total₀ i₀ carried backoffs total i = 2 - i
 
-loop-holds : tie.Need-loop-init invariant-loop decreases-loop
+loop-holds : tie.Need-loop-i-init invariant-loop decreases-loop
 unfolding store_in
 loop-holds s = closing_begins _ _ _ _ (rw s.requires.1.0 at s.requires.1.1.0)
 
 -- a turn has a word
-more : (c : tie.In-loop invariant-loop decreases-loop) → c.before.loop.i < 2
-more c = omega (arith, c.loop-test.true)
+more : (c : tie.In-loop-i invariant-loop decreases-loop) → c.before.loop-i.i < 2
+more c = omega (arith, c.loop-i-test.true)
 
-mul-word : tie.Need-overflow-mul-word invariant-loop decreases-loop
-mul-word c = scaled_Fits c.before.loop.i 2 4 (more c) (lit< tt)
+mul-word : tie.Need-offset_bounds-words-i invariant-loop decreases-loop
+mul-word c = scaled_Fits c.before.loop-i.i 2 4 (more c) (lit< tt)
 
-array-read-word : tie.Need-array-read-word invariant-loop decreases-loop
+array-read-word : tie.Need-bounds-words-i invariant-loop decreases-loop
 array-read-word c = more c
 
 -- slot 1 is the root's marker
-root-child-requires : tie.Need-root-child-requires invariant-loop decreases-loop
+root-child-requires : tie.Need-root_child-requires invariant-loop decreases-loop
 root-child-requires c κs = let s = c.before.before in (opened-head s.args.base.now s.args.check.now s.requires.0).root-check
 
 -- the sentence's last word and its 3, the next of them, what it is scored as, and the state that it is scored from
-abbrev words : tie.In-loop invariant-loop decreases-loop → List ℕ
+abbrev words : tie.In-loop-i invariant-loop decreases-loop → List ℕ
 words c = c.before.before.args.last ∷ end_word ∷ []
 
-abbrev w : tie.In-loop invariant-loop decreases-loop → ℕ
-w c = get_or (words c) c.before.loop.i 0
+abbrev w : tie.In-loop-i invariant-loop decreases-loop → ℕ
+w c = get_or (words c) c.before.loop-i.i 0
 
-abbrev word : tie.In-loop invariant-loop decreases-loop → ℕ
-word c = get_or (c.before.before.args.last ∷ c.before.before.args.closing ∷ []) c.before.loop.i 0
+abbrev word : tie.In-loop-i invariant-loop decreases-loop → ℕ
+word c = get_or (c.before.before.args.last ∷ c.before.before.args.closing ∷ []) c.before.loop-i.i 0
 
-abbrev S : tie.In-loop invariant-loop decreases-loop → Store
+abbrev S : tie.In-loop-i invariant-loop decreases-loop → Store
 S c = store_in c.before.before.args.base.now c.before.before.args.check.now
 
-abbrev scored-from : tie.In-loop invariant-loop decreases-loop → Carried
-scored-from c = held_in c.before.loop.carried c.before.loop.backoffs
+abbrev scored-from : tie.In-loop-i invariant-loop decreases-loop → Carried
+scored-from c = held_in c.before.loop-i.carried c.before.loop-i.backoffs
 
-scored_as_lem : (c : tie.In-loop invariant-loop decreases-loop) → word c ≡ replaced c.before.before.args.check.now (w c)
-scored_as_lem c = go c.before.loop.i (more c)
+scored_as_lem : (c : tie.In-loop-i invariant-loop decreases-loop) → word c ≡ replaced c.before.before.args.check.now (w c)
+scored_as_lem c = go c.before.loop-i.i (more c)
   where
     go : (i : ℕ) → i < 2 → get_or (c.before.before.args.last ∷ c.before.before.args.closing ∷ []) i 0 ≡ replaced c.before.before.args.check.now (get_or (words c) i 0)
     go zero h = c.before.before.requires.1.1.1.0
@@ -84,86 +84,86 @@ scored_as_lem c = go c.before.loop.i (more c)
     go (suc (suc i)) h = absurd (omega arith)
 
 -- a word that is refused
-refuses : (c : tie.In-loop invariant-loop decreases-loop) → word_step (S c) (scored-from c) (w c) ≡ stuck → Refused ≡ points_over (S c) (words c) (held_in c.before.before.args.carried c.before.before.args.t5)
+refuses : (c : tie.In-loop-i invariant-loop decreases-loop) → word_step (S c) (scored-from c) (w c) ≡ stuck → Refused ≡ points_over (S c) (words c) (held_in c.before.before.args.carried c.before.before.args.t5)
 refuses c e =
     let l = c.before in
-    closing_refused (S c) _ (words c) l.loop.carried l.loop.backoffs (to_z w64 l.loop.total) l.loop.i l.loop.invariant (more c) e
+    closing_refused (S c) _ (words c) l.loop-i.carried l.loop-i.backoffs (to_z w64 l.loop-i.total) l.loop-i.i l.loop-i.invariant (more c) e
 
-enum-known-slot : tie.Need-enum-known-slot invariant-loop decreases-loop
+enum-known-slot : tie.Need-enum_known-slot invariant-loop decreases-loop
 enum-known-slot c = c.match.keys1
 
-enum_told : tie.Need-enum-told invariant-loop decreases-loop
+enum_told : tie.Need-enum_told-1 invariant-loop decreases-loop
 enum_told c = c.match.keys2
 
-returns : tie.Need-returns invariant-loop decreases-loop
+returns : tie.Need-returns-in_default invariant-loop decreases-loop
 returns c =
     let f = c.before.before in
     let i = f.before in
     let a = i.before.before.args in
-    refuses i (missing_refused a.base.now a.check.now i.before.before.requires.0 (w i) (word i) (scored_as_lem i) (scored-from i) (sym f.root-child.ensures ∙ c.enum_told.given.1))
+    refuses i (missing_refused a.base.now a.check.now i.before.before.requires.0 (w i) (word i) (scored_as_lem i) (scored-from i) (sym f.root_child.ensures ∙ c.enum_told-1.given.1))
 
 -- the turn, and the slot of the root's child for its word
-abbrev turn : tie.After-slot invariant-loop decreases-loop → tie.In-loop invariant-loop decreases-loop
+abbrev turn : tie.In-At-2 invariant-loop decreases-loop → tie.In-loop-i invariant-loop decreases-loop
 turn c = c.before.before.before
 
-abbrev slot : tie.After-slot invariant-loop decreases-loop → ℕ
-slot c = c.slot.given.0.0
+abbrev slot : tie.In-At-2 invariant-loop decreases-loop → ℕ
+slot c = c.slot-1.given.0.0
 
-child-is : (c : tie.After-slot invariant-loop decreases-loop) → child_at (turn c).before.before.args.base.now (turn c).before.before.args.check.now 0 (word (turn c)) ≡ At (slot c)
+child-is : (c : tie.In-At-2 invariant-loop decreases-loop) → child_at (turn c).before.before.args.base.now (turn c).before.before.args.check.now 0 (word (turn c)) ≡ At (slot c)
 child-is c =
     let s = (turn c).before.before in
-    sym (root-child s.args.base.now s.args.check.now s.pre.0 (word (turn c))) ∙ sym c.before.before.root-child.ensures ∙ c.slot.given.1
+    sym (root-child s.args.base.now s.args.check.now s.requires.0 (word (turn c))) ∙ sym c.before.before.root_child.ensures ∙ c.slot-1.given.1
 
 -- the state that the word is scored from, by the array's own order
-held : (c : tie.In-loop invariant-loop decreases-loop) → Carries (order_in c.before.before.args.check.now) c.before.loop.carried c.before.loop.backoffs
-held c = closing_carries c.before.before.args.base.now c.before.before.args.check.now c.before.loop.invariant
+held : (c : tie.In-loop-i invariant-loop decreases-loop) → Carries (order_in c.before.before.args.check.now) c.before.loop-i.carried c.before.loop-i.backoffs
+held c = closing_carries c.before.before.args.base.now c.before.before.args.check.now c.before.loop-i.invariant
 
-walk-requires : tie.Need-walk-requires invariant-loop decreases-loop
+walk-requires : tie.Need-walk-reached-requires invariant-loop decreases-loop
 walk-requires c κs =
     let t = c.before.before in
     let s = (turn t).before.before in
-    let same = (opened-sizes s.args.base.now s.args.check.now s.pre.0).same in
-    (s.pre.0, (subst (λ (n : ℕ). slot t < n) (sym same) (child-inside s.args.base.now s.args.check.now 0 (word (turn t)) (slot t) (child-is t)), held (turn t)))
+    let same = (opened-sizes s.args.base.now s.args.check.now s.requires.0).same in
+    (s.requires.0, (subst (λ (n : ℕ). slot t < n) (sym same) (child-inside s.args.base.now s.args.check.now 0 (word (turn t)) (slot t) (child-is t)), held (turn t)))
 
 -- the walk's first node
-abbrev begun : tie.After-walk invariant-loop decreases-loop → tie.After-slot invariant-loop decreases-loop
+abbrev begun : tie.After-walk-reached invariant-loop decreases-loop → tie.In-At-2 invariant-loop decreases-loop
 begun c = c.before.before.before
 
-last-node-requires : tie.Need-last-node-requires invariant-loop decreases-loop
+last-node-requires : tie.Need-last_node-walked-requires invariant-loop decreases-loop
 last-node-requires c κs =
     let k = c.before in
     let i = turn (begun k) in
     let s = i.before.before in
-    ((s.pre.0, s.pre.1.0), (four-at-most (held i).few (opened-order s.args.base.now s.args.check.now s.pre.0).1, k.walk.ensures.0.0, k.walk.ensures.0.1))
+    ((s.requires.0, s.requires.1.0), (four-at-most (held i).few (opened-order s.args.base.now s.args.check.now s.requires.0).1, k.walk-reached.ensures.0.0, k.walk-reached.ensures.0.1))
 
 -- the lent back-offs as the walk left them, and what it told
-abbrev first : tie.After-last-node invariant-loop decreases-loop → tie.After-slot invariant-loop decreases-loop
+abbrev first : tie.After-last_node-walked invariant-loop decreases-loop → tie.In-At-2 invariant-loop decreases-loop
 first c = begun c.before.before
 
-abbrev backoffs : tie.After-last-node invariant-loop decreases-loop → List ℤ
-backoffs c = c.last-node.new.1.1.1.1.1.0
+abbrev backoffs : tie.After-last_node-walked invariant-loop decreases-loop → List ℤ
+backoffs c = c.last_node-walked.new.1.1.1.1.1.0
 
-walked : (c : tie.After-last-node invariant-loop decreases-loop) → WalkedOver (S (turn (first c))) (scored-from (turn (first c))) (word (turn (first c))) c.last-node.result (backoffs c)
+walked : (c : tie.After-last_node-walked invariant-loop decreases-loop) → WalkedOver (S (turn (first c))) (scored-from (turn (first c))) (word (turn (first c))) c.last_node-walked.result (backoffs c)
 walked c =
     let t = first c in
-    c.last-node.ensures (scored-from (turn t)) (word (turn t)) (c.before.before.walk.ensures.1 (word (turn t)) (child-is t))
+    c.last_node-walked.ensures (scored-from (turn t)) (word (turn t)) (c.before.before.walk-reached.ensures.1 (word (turn t)) (child-is t))
 
-answered-requires : tie.Need-answered-requires invariant-loop decreases-loop
+answered-requires : tie.Need-answered-stepped-requires invariant-loop decreases-loop
 answered-requires c κs =
     let t = first c in
     let i = turn t in
     let l = i.before in
     let a = l.before.args in
-    answerable a.base.now a.check.now l.before.pre.0 l.loop.carried l.loop.backoffs (held i) (word i) (slot t) (child-is t) c.last-node.result (backoffs c) (walked c)
+    answerable a.base.now a.check.now l.before.requires.0 l.loop-i.carried l.loop-i.backoffs (held i) (word i) (slot t) (child-is t) c.last_node-walked.result (backoffs c) (walked c)
 
 -- the word's answer
-abbrev walk : tie.After-answered invariant-loop decreases-loop → tie.After-last-node invariant-loop decreases-loop
+abbrev walk : tie.After-answered-stepped invariant-loop decreases-loop → tie.After-last_node-walked invariant-loop decreases-loop
 walk c = c.before
 
-abbrev picked : tie.After-answered invariant-loop decreases-loop → tie.In-loop invariant-loop decreases-loop
+abbrev picked : tie.After-answered-stepped invariant-loop decreases-loop → tie.In-loop-i invariant-loop decreases-loop
 picked c = turn (first (walk c))
 
-step_is : (c : tie.After-answered invariant-loop decreases-loop) → SteppedTo (picked c).before.before.args.order (word_step (S (picked c)) (scored-from (picked c)) (w (picked c))) c.answered.result (backoffs (walk c))
+step_is : (c : tie.After-answered-stepped invariant-loop decreases-loop) → SteppedTo (picked c).before.before.args.order (word_step (S (picked c)) (scored-from (picked c)) (w (picked c))) c.answered-stepped.result (backoffs (walk c))
 step_is c =
     let k = walk c in
     let t = first k in
@@ -171,67 +171,67 @@ step_is c =
     let l = i.before in
     let s = l.before in
     let a = s.args in
-    stepped a.base.now a.check.now s.pre.0 l.loop.carried l.loop.backoffs (held i) (word i) (slot t) (child-is t) a.order (w i) s.pre.1.0 (scored_as_lem i) k.last-node.result (backoffs k) (walked k) c.answered.result c.answered.ensures
+    stepped a.base.now a.check.now s.requires.0 l.loop-i.carried l.loop-i.backoffs (held i) (word i) (slot t) (child-is t) a.order (w i) s.requires.1.0 (scored_as_lem i) k.last_node-walked.result (backoffs k) (walked k) c.answered-stepped.result c.answered-stepped.ensures
 
-enum-known-stepped : tie.Need-enum-known-stepped invariant-loop decreases-loop
+enum-known-stepped : tie.Need-enum_known-stepped invariant-loop decreases-loop
 enum-known-stepped c = c.match2.keys1
 
-enum-told-2 : tie.Need-enum-told-2 invariant-loop decreases-loop
+enum-told-2 : tie.Need-enum_told-in_default-stepped invariant-loop decreases-loop
 enum-told-2 c = c.match2.keys2
 
-returns_2 : tie.Need-returns-2 invariant-loop decreases-loop
+returns_2 : tie.Need-returns-in_default-stepped invariant-loop decreases-loop
 returns_2 c =
     let k = c.before.before in
-    refuses (picked k) (step_told (step_is k) NotScored c.enum-told2.given.1)
+    refuses (picked k) (step_told (step_is k) NotScored c.enum_told-in_default-stepped-1.given.1)
 
 -- what the word scored, and the state that it leaves
-abbrev answer : tie.After-stepped invariant-loop decreases-loop → tie.After-answered invariant-loop decreases-loop
+abbrev answer : tie.In-Scored-2 invariant-loop decreases-loop → tie.After-answered-stepped invariant-loop decreases-loop
 answer c = c.before.before
 
-abbrev points : tie.After-stepped invariant-loop decreases-loop → ℤ
-points c = c.stepped.given.0.0.points
+abbrev points : tie.In-Scored-2 invariant-loop decreases-loop → ℤ
+points c = c.stepped-1.given.0.0.points
 
-abbrev next : tie.After-stepped invariant-loop decreases-loop → Packed
-next c = c.stepped.given.0.1.0
+abbrev next : tie.In-Scored-2 invariant-loop decreases-loop → Packed
+next c = c.stepped-1.given.0.1.0
 
-word-is : (c : tie.After-stepped invariant-loop decreases-loop) → word_step (S (picked (answer c))) (scored-from (picked (answer c))) (w (picked (answer c))) ≡ step_of (Scored c.stepped.given.0.0 (next c)) (backoffs (walk (answer c)))
-word-is c = step_told (step_is (answer c)) _ c.stepped.given.1
+word-is : (c : tie.In-Scored-2 invariant-loop decreases-loop) → word_step (S (picked (answer c))) (scored-from (picked (answer c))) (w (picked (answer c))) ≡ step_of (Scored c.stepped-1.given.0.0 (next c)) (backoffs (walk (answer c)))
+word-is c = step_told (step_is (answer c)) _ c.stepped-1.given.1
 
 -- as the code has taken it out
-abbrev scored-word : tie.After-struct-told invariant-loop decreases-loop → tie.After-stepped invariant-loop decreases-loop
+abbrev scored-word : tie.After-struct_told-1 invariant-loop decreases-loop → tie.In-Scored-2 invariant-loop decreases-loop
 scored-word c = c.before.before.before
 
-points-fits : (c : tie.After-struct-told invariant-loop decreases-loop) → SFits w32 (points (scored-word c))
-points-fits c = sfits_of c.struct_told.given.1.0.1
+points-fits : (c : tie.After-struct_told-1 invariant-loop decreases-loop) → SFits w32 (points (scored-word c))
+points-fits c = sfits_of c.struct_told-1.given.1.0.1
 
-cast-total : tie.Need-overflow-cast-total invariant-loop decreases-loop
+cast-total : tie.Need-overflow_cast-total invariant-loop decreases-loop
 cast-total c = to-wide tt (points-fits c)
 
 -- as the cast left them
-points-wide : (c : tie.After-struct-told invariant-loop decreases-loop) → to_z w64 (of_z w64 (to_z w32 (of_z w32 (points (scored-word c))))) ≡ points (scored-word c)
+points-wide : (c : tie.After-struct_told-1 invariant-loop decreases-loop) → to_z w64 (of_z w64 (to_z w32 (of_z w32 (points (scored-word c))))) ≡ points (scored-word c)
 points-wide c = to_z-of_z (cast-total c) ∙ to_z-of_z (points-fits c)
 
-small : (c : tie.After-stepped invariant-loop decreases-loop) → nat_abs (points c) ≤ order_limit * largest_backoff
+small : (c : tie.In-Scored-2 invariant-loop decreases-loop) → nat_abs (points c) ≤ order_limit * largest_backoff
 small c =
     let i = picked (answer c) in
     let l = i.before in
     let s = l.before in
-    points_small s.args.base.now s.args.check.now s.pre.0 _ (words i) l.loop.carried l.loop.backoffs (to_z w64 l.loop.total) l.loop.i l.loop.inv (points c) _ (next c) (backoffs (walk (answer c))) (word-is c)
+    points_small s.args.base.now s.args.check.now s.requires.0 _ (words i) l.loop-i.carried l.loop-i.backoffs (to_z w64 l.loop-i.total) l.loop-i.i l.loop-i.inv (points c) _ (next c) (backoffs (walk (answer c))) (word-is c)
 
-add_total : tie.Need-overflow-add-total invariant-loop decreases-loop
+add_total : tie.Need-overflow_add-total invariant-loop decreases-loop
 add_total c =
     let m = scored-word c in
     let i = picked (answer m) in
     let l = i.before in
-    subst (λ (z : ℤ). SFits w64 (to_z w64 l.loop.total +ℤ z)) (sym (points-wide c)) (total-fits (to_z w64 l.loop.total) (points m) l.loop.inv.small (small m) (more i))
+    subst (λ (z : ℤ). SFits w64 (to_z w64 l.loop-i.total +ℤ z)) (sym (points-wide c)) (total-fits (to_z w64 l.loop-i.total) (points m) l.loop-i.inv.small (small m) (more i))
 
-add-i : tie.Need-overflow-add-i invariant-loop decreases-loop
+add-i : tie.Need-overflow_add-i invariant-loop decreases-loop
 add-i c = next_fits (lt_of_lt_of_le (more (picked (answer (scored-word c)))) (lit≤ tt))
 
-loop-less : tie.Need-loop-smaller invariant-loop decreases-loop
+loop-less : tie.Need-loop-i-smaller invariant-loop decreases-loop
 loop-less c = falls _ _ (more (picked (answer (scored-word c))))
 
-loop-again : tie.Need-loop-preserved invariant-loop decreases-loop
+loop-again : tie.Need-loop-i-preserved invariant-loop decreases-loop
 loop-again c =
     let m = scored-word c in
     let k = answer m in
@@ -239,18 +239,18 @@ loop-again c =
     let l = i.before in
     let s = l.before in
     subst
-    (λ (z : ℤ). Closing (S i) (held_in s.args.carried s.args.t5) (words i) (next m) (backoffs (walk k)) z (l.loop.i + 1))
-    (sym (to_z-of_z (add_total c) ∙ ap (λ (z : ℤ). to_z w64 l.loop.total +ℤ z) (points-wide c)))
-    (closing_on s.args.base.now s.args.check.now s.pre.0 _ (words i) l.loop.carried l.loop.backoffs (to_z w64 l.loop.total) l.loop.i l.loop.inv (points m) _ (next m) (backoffs (walk k)) (word-is m) (more i) (subst (λ (n : ℕ). Carries n (next m) (backoffs (walk k))) s.pre.1.0 ((step_is k).carries _ _ m.stepped.given.1)))
+    (λ (z : ℤ). Closing (S i) (held_in s.args.carried s.args.t5) (words i) (next m) (backoffs (walk k)) z (l.loop-i.i + 1))
+    (sym (to_z-of_z (add_total c) ∙ ap (λ (z : ℤ). to_z w64 l.loop-i.total +ℤ z) (points-wide c)))
+    (closing_on s.args.base.now s.args.check.now s.requires.0 _ (words i) l.loop-i.carried l.loop-i.backoffs (to_z w64 l.loop-i.total) l.loop-i.i l.loop-i.inv (points m) _ (next m) (backoffs (walk k)) (word-is m) (more i) (subst (λ (n : ℕ). Carries n (next m) (backoffs (walk k))) s.requires.1.0 ((step_is k).carries _ _ m.stepped-1.given.1)))
 
-returns_3 : tie.Need-returns-3 invariant-loop decreases-loop
+returns_3 : tie.Need-returns invariant-loop decreases-loop
 returns_3 c =
     let l = c.before in
     let s = l.before in
-    closing_ends (store_in s.args.base.now s.args.check.now) _ (s.args.last ∷ end_word ∷ []) l.loop.carried l.loop.backoffs (to_z w64 l.loop.total) l.loop.i l.loop.invariant c.loop-test.false
+    closing_ends (store_in s.args.base.now s.args.check.now) _ (s.args.last ∷ end_word ∷ []) l.loop-i.carried l.loop-i.backoffs (to_z w64 l.loop-i.total) l.loop-i.i l.loop-i.invariant c.loop-i-test.false
 
-pub sum-closed-spec : {M : Type 1} → statement M
-sum-closed-spec =
+pub sum_closed_spec : {M : Type 1} → statement M
+sum_closed_spec =
     tie.close
     (tie.spec
     invariant-loop

@@ -13,5 +13,5 @@ returns c =
     let s = c.before.before in
     (omega (arith, found_from s.args.byte s.args.text.now 0), c.find.ensures.1)
 
-pub find-byte-spec : {M : Type 1} → statement M
-find-byte-spec = tie.close (tie.spec find-requires returns)
+pub find_byte_spec : {M : Type 1} → statement M
+find_byte_spec = tie.close (tie.spec find-requires returns)

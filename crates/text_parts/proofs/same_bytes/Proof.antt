@@ -11,62 +11,62 @@ use Rattle.backoff.proofs.Words.{other_length, same_step}
 use Rattle.text_parts.proofs.same_bytes.Statement.{statement}
 use Rattle.text_parts.proofs.same_bytes.Tie as tie
 
-abbrev invariant-loop : tie.invariant-loop
+abbrev invariant-loop : tie.invariant-loop-i
 invariant-loop a b i₀ i = (i ≤ length a) × (length a ≡ length b) × (same_words a b ≡ same_words (drop i a) (drop i b))
 
-abbrev decreases-loop : tie.decreases-loop
+abbrev decreases-loop : tie.decreases-loop-i
 decreases-loop a b i₀ i = length a - i
 
-returns : tie.Need-returns invariant-loop decreases-loop
-returns c = sym (other_length c.before.args.a.now c.before.args.b.now c.if1.true)
+returns : tie.Need-returns-then-a-b invariant-loop decreases-loop
+returns c = sym (other_length c.before.args.a.now c.before.args.b.now c.if-a-b.true)
 
-loop-holds : tie.Need-loop-init invariant-loop decreases-loop
-loop-holds c = (search rules, c.if1.false, refl)
+loop-holds : tie.Need-loop-i-init invariant-loop decreases-loop
+loop-holds c = (search rules, c.if-a-b.false, refl)
 
-shared-slice-read-if2 : tie.Need-shared-slice-read-if2 invariant-loop decreases-loop
+shared-slice-read-if2 : tie.Need-bounds-a-i invariant-loop decreases-loop
 shared-slice-read-if2 c = search rules
 
-shared-slice-read-if2-2 : tie.Need-shared-slice-read-if2-2 invariant-loop decreases-loop
+shared-slice-read-if2-2 : tie.Need-bounds-b-i invariant-loop decreases-loop
 shared-slice-read-if2-2 c = search rules
 
-returns_2 : tie.Need-returns-2 invariant-loop decreases-loop
+returns_2 : tie.Need-returns-then-a-i invariant-loop decreases-loop
 returns_2 c =
     let l = c.before.before.before.before in
     let s = l.before.before in
     sym
-    (l.loop.invariant.2
-    ∙ same_step s.args.a.now s.args.b.now l.loop.i (search rules) (omega arith)
-    ∙ rw (ne_eqb _ _ c.if2.true) refl)
+    (l.loop-i.invariant.2
+    ∙ same_step s.args.a.now s.args.b.now l.loop-i.i (search rules) (omega arith)
+    ∙ rw (ne_eqb _ _ c.if-a-i.true) refl)
 
-add-i : tie.Need-overflow-add-i invariant-loop decreases-loop
+add-i : tie.Need-overflow_add-i invariant-loop decreases-loop
 add-i c = search rules
 
-loop-less : tie.Need-loop-smaller invariant-loop decreases-loop
+loop-less : tie.Need-loop-i-smaller invariant-loop decreases-loop
 loop-less c = search rules
 
-loop-again : tie.Need-loop-preserved invariant-loop decreases-loop
+loop-again : tie.Need-loop-i-preserved invariant-loop decreases-loop
 loop-again c =
     let l = c.before.before.before.before in
     let s = l.before.before in (
       omega arith,
-      l.loop.invariant.1,
-      l.loop.invariant.2
-          ∙ same_step s.args.a.now s.args.b.now l.loop.i (search rules) (omega arith)
-          ∙ rw (eq-eqb _ _ c.if2.false, add-one l.loop.i) refl,
+      l.loop-i.invariant.1,
+      l.loop-i.invariant.2
+          ∙ same_step s.args.a.now s.args.b.now l.loop-i.i (search rules) (omega arith)
+          ∙ rw (eq-eqb _ _ c.if-a-i.false, add-one l.loop-i.i) refl,
     )
 
-returns_3 : tie.Need-returns-3 invariant-loop decreases-loop
+returns_3 : tie.Need-returns invariant-loop decreases-loop
 unfolding same_words
 returns_3 c =
     let l = c.before in
     let s = l.before.before in
-    let e = c.loop-test.false in
-    let p : length s.args.a.now ≤ l.loop.i = omega arith in
-    let q : length s.args.b.now ≤ l.loop.i = omega arith in
-    sym (l.loop.invariant.2 ∙ rw (drop_of_length-le s.args.a.now p, drop_of_length-le s.args.b.now q) refl)
+    let e = c.loop-i-test.false in
+    let p : length s.args.a.now ≤ l.loop-i.i = omega arith in
+    let q : length s.args.b.now ≤ l.loop-i.i = omega arith in
+    sym (l.loop-i.invariant.2 ∙ rw (drop_of_length-le s.args.a.now p, drop_of_length-le s.args.b.now q) refl)
 
-pub same-bytes-spec : {M : Type 1} → statement M
-same-bytes-spec =
+pub same_bytes_spec : {M : Type 1} → statement M
+same_bytes_spec =
     tie.close
     (tie.spec
     invariant-loop

@@ -8,89 +8,89 @@ use Rattle.totals_list.proofs.Listing.{Reading, reading-start, reading_unended, 
 use Rattle.totals_list.proofs.read_list.Statement.{statement}
 use Rattle.totals_list.proofs.read_list.Tie as tie
 
-abbrev invariant-loop : tie.invariant-loop
+abbrev invariant-loop : tie.invariant-loop-at
 invariant-loop text table₀ at₀ i₀ table at i = Reading text table at i
 
-abbrev decreases-loop : tie.decreases-loop
+abbrev decreases-loop : tie.decreases-loop-at
 decreases-loop text table₀ at₀ i₀ table at i = length text - at
 
-loop-holds : tie.Need-loop-init invariant-loop decreases-loop
+loop-holds : tie.Need-loop-at-init invariant-loop decreases-loop
 loop-holds c = reading-start c.before.args.text.now c.before.args.table.now c.before.requires
 
-add-t10 : tie.Need-overflow-add-t10 invariant-loop decreases-loop
+add-t10 : tie.Need-overflow_add-refused invariant-loop decreases-loop
 add-t10 c = search rules
 
 find-requires : tie.Need-find-requires invariant-loop decreases-loop
 find-requires c κs = search rules
 
-same_length : tie.Need-same-length invariant-loop decreases-loop
-same_length c = c.before.before.before.loop.invariant.size ∙ sym c.before.before.before.before.before.requires
+same_length : tie.Need-shape_of-table-then-end-text invariant-loop decreases-loop
+same_length c = c.before.before.before.loop-at.invariant.size ∙ sym c.before.before.before.before.before.requires
 
-returns : tie.Need-returns invariant-loop decreases-loop
+returns : tie.Need-returns-then-end-text invariant-loop decreases-loop
 returns c =
     let r = c.before in
-    let l = r.before.before.loop in
-    reading_unended _ _ l.at l.i _ l.invariant r.before.loop-test.true r.find.ensures.0 c.if1.true
+    let l = r.before.before.loop-at in
+    reading_unended _ _ l.at l.i _ l.invariant r.before.loop-at-test.true r.find.ensures.0 c.if-end-text.true
 
-same-length_2 : tie.Need-same-length-2 invariant-loop decreases-loop
-same-length_2 c = c.before.before.before.before.loop.invariant.size ∙ sym c.before.before.before.before.before.before.requires
+same-length_2 : tie.Need-shape_of-table-then-i-eq-LIST_LINES invariant-loop decreases-loop
+same-length_2 c = c.before.before.before.before.loop-at.invariant.size ∙ sym c.before.before.before.before.before.before.requires
 
-returns_2 : tie.Need-returns-2 invariant-loop decreases-loop
+returns_2 : tie.Need-returns-then-i-eq-LIST_LINES invariant-loop decreases-loop
 returns_2 c =
     let r = c.before.before in
-    let l = r.before.before.loop in
-    reading-last _ _ l.at l.i _ l.invariant r.before.loop-test.true r.find.ensures.0 c.before.if1.false c.if2.true
+    let l = r.before.before.loop-at in
+    reading-last _ _ l.at l.i _ l.invariant r.before.loop-at-test.true r.find.ensures.0 c.before.if-end-text.false c.if-i-eq-LIST_LINES.true
 
-sub-read-row : tie.Need-overflow-sub-read-row invariant-loop decreases-loop
+sub-read-row : tie.Need-slice_bounds-read_row-count invariant-loop decreases-loop
 sub-read-row c = search rules
 
-part-read-row-start : tie.Need-slice-bounds-read-row-start invariant-loop decreases-loop
+part-read-row-start : tie.Need-slice_bounds-read_row-start invariant-loop decreases-loop
 part-read-row-start c = search rules
 
-part-read-row-end : tie.Need-slice-bounds-read-row-end invariant-loop decreases-loop
+part-read-row-end : tie.Need-slice_bounds-read_row-end invariant-loop decreases-loop
 part-read-row-end c = search rules
 
-mul-read-row : tie.Need-overflow-mul-read-row invariant-loop decreases-loop
+mul-read-row : tie.Need-overflow_mul-i invariant-loop decreases-loop
 mul-read-row c = search rules
 
-read-row-requires : tie.Need-read-row-requires invariant-loop decreases-loop
+read-row-requires : tie.Need-read_row-requires invariant-loop decreases-loop
 read-row-requires c κs = search rules
 
-same-length-3 : tie.Need-same-length-3 invariant-loop decreases-loop
-same-length-3 c = c.before.before.read-row.auto.1.0 ∙ c.before.before.before.before.before.before.before.before.before.loop.invariant.size ∙ sym c.before.before.before.before.before.before.before.before.before.before.before.requires
+same-length-3 : tie.Need-shape_of-table-then-not-read_row invariant-loop decreases-loop
+same-length-3 c = c.before.before.read_row.auto.1.0 ∙ c.before.before.before.before.before.before.before.before.before.loop-at.invariant.size ∙ sym c.before.before.before.before.before.before.before.before.before.before.before.requires
 
-returns_3 : tie.Need-returns-3 invariant-loop decreases-loop
+returns_3 : tie.Need-returns-then-not-read_row invariant-loop decreases-loop
 returns_3 c =
     let r = c.before.before.before.before.before.before.before in
-    let l = r.before.before.loop in
-    reading_bad _ _ l.at l.i _ l.invariant r.before.loop-test.true r.find.ensures.0 c.before.before.before.before.before.before.if1.false (sym c.before.before.read-row.ensures.0 ∙ not-true _ c.if3.true)
+    let l = r.before.before.loop-at in
+    reading_bad _ _ l.at l.i _ l.invariant r.before.loop-at-test.true r.find.ensures.0 c.before.before.before.before.before.before.if-end-text.false (sym c.before.before.read_row.ensures.0 ∙ not-true _ c.if-not-read_row.true)
 
-add_at : tie.Need-overflow-add-at invariant-loop decreases-loop
+add_at : tie.Need-overflow_add-at invariant-loop decreases-loop
 add_at c = search rules
 
-add-i : tie.Need-overflow-add-i invariant-loop decreases-loop
+add-i : tie.Need-overflow_add-i invariant-loop decreases-loop
 add-i c = search rules
 
-loop-less : tie.Need-loop-smaller invariant-loop decreases-loop
+loop-less : tie.Need-loop-at-smaller invariant-loop decreases-loop
 loop-less c = search rules
 
-loop-again : tie.Need-loop-preserved invariant-loop decreases-loop
+loop-again : tie.Need-loop-at-preserved invariant-loop decreases-loop
 loop-again c =
     let r = c.before.before.before.before.before.before.before in
-    let l = r.before.before.loop in
-    let row = c.before.before.read-row.ensures in
-    reading-next _ _ l.at l.i _ l.invariant r.before.loop-test.true r.find.ensures.0 c.before.before.before.before.before.before.if1.false c.before.before.before.before.before.if2.false (sym row.0 ∙ not-false _ c.if3.false) row.1
+    let l = r.before.before.loop-at in
+    let row = c.before.before.read_row.ensures in
+    reading-next _ _ l.at l.i _ l.invariant r.before.loop-at-test.true r.find.ensures.0 c.before.before.before.before.before.before.if-end-text.false c.before.before.before.before.before.if-i-eq-LIST_LINES.false (sym row.0 ∙ not-false _ c.if-not-read_row.false) row.1
 
-same-length-4 : tie.Need-same-length-4 invariant-loop decreases-loop
-same-length-4 c = c.before.loop.invariant.size ∙ sym c.before.before.before.requires
+same-length-4 : tie.Need-shape_of-table invariant-loop decreases-loop
+same-length-4 c = c.before.loop-at.invariant.size ∙ sym c.before.before.before.requires
 
-returns-4 : tie.Need-returns-4 invariant-loop decreases-loop
+returns-4 : tie.Need-returns invariant-loop decreases-loop
 returns-4 c =
-    let l = c.before.loop in
-    (l.invariant.few, reading-end _ _ l.at l.i l.invariant c.loop-test.false)
+    let l = c.before.loop-at in
+    (l.invariant.few, reading-end _ _ l.at l.i l.invariant c.loop-at-test.false)
 
-pub read-list-spec : {M : Type 1} → statement M
-read-list-spec =
+pub read_list_spec : {M : Type 1} → statement M
+read_list_spec =
     tie.close
     (tie.spec
     invariant-loop

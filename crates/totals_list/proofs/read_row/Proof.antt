@@ -9,29 +9,34 @@ use lib.Seq.{paste}
 use Rattle.totals_list.proofs.read_row.Statement.{statement}
 use Rattle.totals_list.proofs.read_row.Tie as tie
 
-read-list-line-requires : tie.Need-read-list-line-requires
+read-list-line-requires : tie.Need-read_list_line-requires
 read-list-line-requires c κs = search rules
 
-returns : tie.Need-returns
+returns : tie.Need-returns-then-not-read_list_line
 returns c =
-    let r = c.before.read-list-line in
-    let e = sym r.ensures.0 ∙ not-true _ c.if1.true in
+    let r = c.before.read_list_line in
+    let e = sym r.ensures.0 ∙ not-true _ c.if-not-read_list_line.true in
     (sym e, rw e refl)
 
-store-row-requires : tie.Need-store-row-requires
+store-row-requires : tie.Need-store_row-requires
 store-row-requires c κs = search rules
 
-same_length : tie.Need-same-length
+same_length : tie.Need-shape_of-table
 same_length c = search rules
 
-returns_2 : tie.Need-returns-2
+returns_2 : tie.Need-returns
 returns_2 c =
-    let r = c.before.before.before.before.read-list-line in
+    let r = c.before.before.before.before.read_list_line in
     let a = c.before.before.before.before.before.before.before.args in
-    let e = sym r.ensures.0 ∙ not-false _ c.before.before.before.if1.false in
+    let e = sym r.ensures.0 ∙ not-false _ c.before.before.before.if-not-read_list_line.false in
     let row : r.new.1.0 ≡ list_row a.line.now = r.ensures.1.0 ∙ rw e refl in
-    (sym e, rw e (c.before.store-row.ensures ∙ ap (λ (l : List ℤ). paste a.table.now a.at l 8) row))
+    (sym e, rw e (c.before.store_row.ensures ∙ ap (λ (l : List ℤ). paste a.table-1.now a.at l 8) row))
 
-pub read-row-spec : {M : Type 1} → statement M
-read-row-spec =
-    tie.close (tie.spec read-list-line-requires returns store-row-requires same_length returns_2)
+pub read_row_spec : {M : Type 1} → statement M
+read_row_spec =
+    tie.close (tie.spec
+    read-list-line-requires
+    returns
+    store-row-requires
+    same_length
+    returns_2)

@@ -7,40 +7,40 @@ use Rattle.totals_sentence.proofs.Sentences.{not-words, words-few, closed}
 use Rattle.totals_sentence.proofs.read_sentence.Statement.{statement}
 use Rattle.totals_sentence.proofs.read_sentence.Tie as tie
 
-read-text-line-requires : tie.Need-read-text-line-requires
+read-text-line-requires : tie.Need-read_text_line-read-requires
 read-text-line-requires c κs = search rules
 
-enum-known-read : tie.Need-enum-known-read
+enum-known-read : tie.Need-enum_known-read
 enum-known-read c = search rules
 
-enum_told : tie.Need-enum-told
+enum_told : tie.Need-enum_told-1
 enum_told c = search rules
 
-returns : tie.Need-returns
+returns : tie.Need-returns-in_default
 returns c =
-    let r = c.before.before.read-text-line in
-    (r.ensures.0, λ e. absurd (not-words _ e (sym r.ensures.0 ∙ c.enum_told.given.1)))
+    let r = c.before.before.read_text_line-read in
+    (r.ensures.0, λ e. absurd (not-words _ e (sym r.ensures.0 ∙ c.enum_told-1.given.1)))
 
-cast-words : tie.Need-overflow-cast-words
+cast-words : tie.Need-overflow_cast-words
 cast-words c = search rules
 
-mul_words : tie.Need-overflow-mul-words
+mul_words : tie.Need-offset_bounds-words-n
 mul_words c = search rules
 
-array-write-words : tie.Need-array-write-words
+array-write-words : tie.Need-bounds-words-n
 array-write-words c =
-    let r = c.before.before.before.read-text-line in
-    omega (arith, (words-few _ _ (sym r.ensures.0 ∙ c.before.read.given.1)).1)
+    let r = c.before.before.before.read_text_line-read in
+    omega (arith, (words-few _ _ (sym r.ensures.0 ∙ c.before.read-1.given.1)).1)
 
-returns_2 : tie.Need-returns-2
+returns_2 : tie.Need-returns
 returns_2 c =
-    let r = c.before.before.before.read-text-line in
+    let r = c.before.before.before.read_text_line-read in
     let e = r.ensures.0 in
-    let few = words-few _ _ (sym e ∙ c.before.read.given.1) in
-    (sym c.before.read.given.1 ∙ e, λ t. closed _ (replicate 65 0) _ _ t few.0 (omega (arith, few.1)) r.ensures.1.0)
+    let few = words-few _ _ (sym e ∙ c.before.read-1.given.1) in
+    (sym c.before.read-1.given.1 ∙ e, λ t. closed _ (replicate 65 0) _ _ t few.0 (omega (arith, few.1)) r.ensures.1.0)
 
-pub read-sentence-spec : {M : Type 1} → statement M
-read-sentence-spec =
+pub read_sentence_spec : {M : Type 1} → statement M
+read_sentence_spec =
     tie.close
     (tie.spec
     read-text-line-requires

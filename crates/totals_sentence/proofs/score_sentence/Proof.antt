@@ -14,42 +14,42 @@ use Rattle.totals_sentence.proofs.Scoring.{scored-unknown, scored-total, short-t
 use Rattle.totals_sentence.proofs.score_sentence.Statement.{statement}
 use Rattle.totals_sentence.proofs.score_sentence.Tie as tie
 
-slice-aggregate-run : tie.Need-slice-aggregate-run
+slice-aggregate-run : tie.Need-slice_bounds-run-end
 slice-aggregate-run c = search rules
 
-slice-aggregate-run-2 : tie.Need-slice-aggregate-run-2
+slice-aggregate-run-2 : tie.Need-slice_bounds-run-end-2
 slice-aggregate-run-2 c = search rules
 
-run-requires : tie.Need-run-requires
+run-requires : tie.Need-run-ran-requires
 run-requires c κs = search rules
 
-sub-count : tie.Need-overflow-sub-count
+sub-count : tie.Need-overflow_sub-count
 sub-count c = search rules
 
-array-share-prefix-lengths : tie.Need-array-share-prefix-lengths
+array-share-prefix-lengths : tie.Need-slice_bounds-lengths-end
 array-share-prefix-lengths c = search rules
 
-slice-aggregate-count-unknown : tie.Need-slice-aggregate-count-unknown
-slice-aggregate-count-unknown c = sym (length-take-le (length c.before.before.before.before.before.before.before.args.words.now - 1) c.before.before.before.run.new.1.1.1.1.1.0 (omega (arith, c.before.before.before.run.auto.1.1.1.1.1.0)))
+slice-aggregate-count-unknown : tie.Need-slice_bounds-count_unknown-end
+slice-aggregate-count-unknown c = sym (length-take-le (length c.before.before.before.before.before.before.before.args.words.now - 1) c.before.before.before.run-ran.new.1.1.1.1.1.0 (omega (arith, c.before.before.before.run-ran.auto.1.1.1.1.1.0)))
 
-count-unknown-requires : tie.Need-count-unknown-requires
+count-unknown-requires : tie.Need-count_unknown-unknown-requires
 count-unknown-requires c κs = short-take (length c.before.before.before.before.before.before.before.args.words.now - 1) _ (search rules)
 
-sentence-line-requires : tie.Need-sentence-line-requires
+sentence-line-requires : tie.Need-sentence_line-requires
 sentence-line-requires c κs = search rules
 
 returns : tie.Need-returns
 returns c =
     let s = c.before.before.before.before.before.before.before.before.before.before.before in
-    let ran = c.before.before.before.before.before.before.before.run in
-    let r = c.sentence-line.ensures in
-    let unknown = c.before.before.before.count-unknown.ensures ∙ scored-unknown s.requires.0 _ s.requires.1.1 refl refl ran.ensures.0 (length s.args.words.now - 1) (omega arith) in
-    let total = to_z-of_z (sfits_of c.before.struct_told.given.1.1.0.1) ∙ scored-total s.requires.0 _ s.requires.1.1 refl refl ran.ensures.0 in
+    let ran = c.before.before.before.before.before.before.before.run-ran in
+    let r = c.sentence_line.ensures in
+    let unknown = c.before.before.before.count_unknown-unknown.ensures ∙ scored-unknown s.requires.0 _ s.requires.1.1 refl refl ran.ensures.0 (length s.args.words.now - 1) (omega arith) in
+    let total = to_z-of_z (sfits_of c.before.struct_told-1.given.1.1.0.1) ∙ scored-total s.requires.0 _ s.requires.1.1 refl refl ran.ensures.0 in
     let q = ap₂ (λ (u : ℕ) (t : ℤ). sentence_line s.args.number s.args.n u t) unknown total in
     (r.0 ∙ ap length q, (r.1.0, r.1.1 ∙ ap (λ (l : List ℕ). written l s.args.out.now) q))
 
-pub score-sentence-spec : {M : Type 1} → statement M
-score-sentence-spec =
+pub score_sentence_spec : {M : Type 1} → statement M
+score_sentence_spec =
     tie.close
     (tie.spec
     slice-aggregate-run

@@ -18,107 +18,107 @@ use Rattle.totals_text.proofs.Lines.{columns-step, columns-none, columns-start, 
 use Rattle.totals_text.proofs.all_in_form.Statement.{statement}
 use Rattle.totals_text.proofs.all_in_form.Tie as tie
 
-abbrev invariant-loop : tie.invariant-loop
+abbrev invariant-loop : tie.invariant-loop-i
 invariant-loop line width count least i₀ i = (i ≤ count) × (all_in_form (to_z w32 least) (columns width count line) ≡ all_in_form (to_z w32 least) (columns width (count - i) (drop (width * i) line)))
 
-abbrev decreases-loop : tie.decreases-loop
+abbrev decreases-loop : tie.decreases-loop-i
 decreases-loop line width count least i₀ i = count - i
 
-loop-holds : tie.Need-loop-init invariant-loop decreases-loop
+loop-holds : tie.Need-loop-i-init invariant-loop decreases-loop
 loop-holds c = (search rules, ap (all_in_form (to_z w32 (of_z w32 c.before.args.least))) (columns-start c.before.args.width c.before.args.line.now c.before.args.count))
 
 -- the column at i ends within the columns
-inside : (c : tie.In-loop invariant-loop decreases-loop) → let a = c.before.before.before.args in a.width * c.before.loop.i + a.width ≤ a.width * a.count
-inside c = let a = c.before.before.before.args in column-end a.width a.count c.before.loop.i c.loop-test.true
+inside : (c : tie.In-loop-i invariant-loop decreases-loop) → let a = c.before.before.before.args in a.width * c.before.loop-i.i + a.width ≤ a.width * a.count
+inside c = let a = c.before.before.before.args in column-end a.width a.count c.before.loop-i.i c.loop-i-test.true
 
-mul_at : tie.Need-overflow-mul-at invariant-loop decreases-loop
+mul_at : tie.Need-overflow_mul-at invariant-loop decreases-loop
 mul_at c = omega (arith, inside c)
 
-add-read-column : tie.Need-overflow-add-read-column invariant-loop decreases-loop
+add-read-column : tie.Need-overflow_add-at invariant-loop decreases-loop
 add-read-column c = omega (arith, inside c)
 
-sub-read-column : tie.Need-overflow-sub-read-column invariant-loop decreases-loop
+sub-read-column : tie.Need-slice_bounds-read_column-count invariant-loop decreases-loop
 sub-read-column c = omega (arith, inside c)
 
-part-read-column-start : tie.Need-slice-bounds-read-column-start invariant-loop decreases-loop
+part-read-column-start : tie.Need-slice_bounds-read_column-start invariant-loop decreases-loop
 part-read-column-start c = omega (arith, inside c)
 
-part-read-column-end : tie.Need-slice-bounds-read-column-end invariant-loop decreases-loop
+part-read-column-end : tie.Need-slice_bounds-read_column-end invariant-loop decreases-loop
 part-read-column-end c = omega (arith, inside c)
 
-read-column-requires : tie.Need-read-column-requires invariant-loop decreases-loop
+read-column-requires : tie.Need-read_column-requires invariant-loop decreases-loop
 read-column-requires c κs = search rules
 
-abbrev low : tie.After-read-column invariant-loop decreases-loop → ℤ
+abbrev low : tie.After-read_column invariant-loop decreases-loop → ℤ
 low c = to_z w32 (of_z w32 c.before.before.before.before.before.args.least)
 
 -- the columns behind the one that was read
-abbrev later : tie.After-read-column invariant-loop decreases-loop → List Column
+abbrev later : tie.After-read_column invariant-loop decreases-loop → List Column
 later c =
     let l = c.before.before.before in
     let a = l.before.before.args in
-    columns a.width (a.count - (l.loop.i + 1)) (drop (a.width * (l.loop.i + 1)) a.line.now)
+    columns a.width (a.count - (l.loop-i.i + 1)) (drop (a.width * (l.loop-i.i + 1)) a.line.now)
 
 -- what was read stands first among the columns that are left
-told : (c : tie.After-read-column invariant-loop decreases-loop) → all_in_form (low c) (columns c.before.before.before.before.before.args.width c.before.before.before.before.before.args.count c.before.before.before.before.before.args.line.now) ≡ all_in_form (low c) (c.read-column.result ∷ later c)
+told : (c : tie.After-read_column invariant-loop decreases-loop) → all_in_form (low c) (columns c.before.before.before.before.before.args.width c.before.before.before.before.before.args.count c.before.before.before.before.before.args.line.now) ≡ all_in_form (low c) (c.read_column.result ∷ later c)
 told c =
     let l = c.before.before.before in
     let a = l.before.before.args in
-    l.loop.invariant.1
-    ∙ ap (all_in_form (low c)) (columns-step a.width a.line.now a.count l.loop.i c.before.before.loop-test.true ∙ ap {B = List Column} (λ x. x ∷ later c) (sym c.read-column.ensures.0))
+    l.loop-i.invariant.1
+    ∙ ap (all_in_form (low c)) (columns-step a.width a.line.now a.count l.loop-i.i c.before.before.loop-i-test.true ∙ ap {B = List Column} (λ x. x ∷ later c) (sym c.read_column.ensures.0))
 
-turn : (c : tie.After-read-column invariant-loop decreases-loop) → all_in_form c.before.before.before.before.before.args.least (columns c.before.before.before.before.before.args.width c.before.before.before.before.before.args.count c.before.before.before.before.before.args.line.now) ≡ all_in_form (low c) (c.read-column.result ∷ later c)
+turn : (c : tie.After-read_column invariant-loop decreases-loop) → all_in_form c.before.before.before.before.before.args.least (columns c.before.before.before.before.before.args.width c.before.before.before.before.before.args.count c.before.before.before.before.before.args.line.now) ≡ all_in_form (low c) (c.read_column.result ∷ later c)
 turn c =
     let s = c.before.before.before.before.before in
     ap (λ (y : ℤ). all_in_form y (columns s.args.width s.args.count s.args.line.now)) (sym (to_z-of_z s.ranges.least)) ∙ told c
 
-z_fits : (c : tie.After-known-told invariant-loop decreases-loop) → SFits w32 c.before.z.given.0.0
+z_fits : (c : tie.In-Number invariant-loop decreases-loop) → SFits w32 c.before.z-1.given.0.0
 z_fits c = search rules
 
-enum-known-z : tie.Need-enum-known-z invariant-loop decreases-loop
+enum-known-z : tie.Need-enum_known-z invariant-loop decreases-loop
 enum-known-z c = search rules
 
-enum_told : tie.Need-enum-told invariant-loop decreases-loop
+enum_told : tie.Need-enum_told-1 invariant-loop decreases-loop
 enum_told c = search rules
 
-returns : tie.Need-returns invariant-loop decreases-loop
+returns : tie.Need-returns-in_default invariant-loop decreases-loop
 unfolding all_in_form in_form
 returns c =
     let r = c.before.before in
-    sym (turn r ∙ ap (λ (x : Column). all_in_form (low r) (x ∷ later r)) c.enum_told.given.1)
+    sym (turn r ∙ ap (λ (x : Column). all_in_form (low r) (x ∷ later r)) c.enum_told-1.given.1)
 
-returns_2 : tie.Need-returns-2 invariant-loop decreases-loop
+returns_2 : tie.Need-returns-then-z-least invariant-loop decreases-loop
 unfolding all_in_form in_form
 returns_2 c =
     let r = c.before.before.before.before in
     let f = z_fits c.before in
-    let e : le_z (low r) c.before.before.z.given.0.0 ≡ false = omega zarith in
-    sym (turn r ∙ ap (λ (x : Column). all_in_form (low r) (x ∷ later r)) c.before.before.z.given.1 ∙ rw e refl)
+    let e : le_z (low r) c.before.before.z-1.given.0.0 ≡ false = omega zarith in
+    sym (turn r ∙ ap (λ (x : Column). all_in_form (low r) (x ∷ later r)) c.before.before.z-1.given.1 ∙ rw e refl)
 
-add-i : tie.Need-overflow-add-i invariant-loop decreases-loop
+add-i : tie.Need-overflow_add-i invariant-loop decreases-loop
 add-i c = search rules
 
-loop-less : tie.Need-loop-smaller invariant-loop decreases-loop
+loop-less : tie.Need-loop-i-smaller invariant-loop decreases-loop
 loop-less c = search rules
 
-loop-again : tie.Need-loop-preserved invariant-loop decreases-loop
+loop-again : tie.Need-loop-i-preserved invariant-loop decreases-loop
 unfolding all_in_form in_form
 loop-again c =
     let r = c.before.before.before.before in
     let f = z_fits c.before in
-    let e : le_z (low r) c.before.before.z.given.0.0 ≡ true = omega zarith in
-    (search rules, told r ∙ ap (λ (x : Column). all_in_form (low r) (x ∷ later r)) c.before.before.z.given.1 ∙ rw e refl)
+    let e : le_z (low r) c.before.before.z-1.given.0.0 ≡ true = omega zarith in
+    (search rules, told r ∙ ap (λ (x : Column). all_in_form (low r) (x ∷ later r)) c.before.before.z-1.given.1 ∙ rw e refl)
 
-returns_3 : tie.Need-returns-3 invariant-loop decreases-loop
+returns_3 : tie.Need-returns invariant-loop decreases-loop
 unfolding all_in_form
 returns_3 c =
     let l = c.before in
     let a = l.before.before.args in
-    sym (ap (λ (y : ℤ). all_in_form y (columns a.width a.count a.line.now)) (sym (to_z-of_z l.before.before.ranges.least)) ∙ l.loop.invariant.1
-    ∙ ap (all_in_form (to_z w32 (of_z w32 a.least))) (columns-none a.width a.line.now a.count l.loop.i c.loop-test.false))
+    sym (ap (λ (y : ℤ). all_in_form y (columns a.width a.count a.line.now)) (sym (to_z-of_z l.before.before.ranges.least)) ∙ l.loop-i.invariant.1
+    ∙ ap (all_in_form (to_z w32 (of_z w32 a.least))) (columns-none a.width a.line.now a.count l.loop-i.i c.loop-i-test.false))
 
-pub all-in-form-spec : {M : Type 1} → statement M
-all-in-form-spec =
+pub all_in_form_spec : {M : Type 1} → statement M
+all_in_form_spec =
     tie.close
     (tie.spec
     invariant-loop

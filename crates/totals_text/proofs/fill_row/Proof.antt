@@ -11,71 +11,71 @@ use Rattle.totals_text.proofs.Lines.{column-end, Filling, fill_start, fill_step,
 use Rattle.totals_text.proofs.fill_row.Statement.{statement}
 use Rattle.totals_text.proofs.fill_row.Tie as tie
 
-abbrev invariant-loop : tie.invariant-loop
+abbrev invariant-loop : tie.invariant-loop-i
 invariant-loop line width count row₀ i₀ row i = Filling column_value width line count row₀ row i
 
-abbrev decreases-loop : tie.decreases-loop
+abbrev decreases-loop : tie.decreases-loop-i
 decreases-loop line width count row₀ i₀ row i = count - i
 
-loop-holds : tie.Need-loop-init invariant-loop decreases-loop
+loop-holds : tie.Need-loop-i-init invariant-loop decreases-loop
 loop-holds c =
     let a = c.before.args in
     fill_start column_value a.width a.line.now a.count a.row.now
 
 -- the column at i ends within the columns
-inside : (c : tie.In-loop invariant-loop decreases-loop) → let a = c.before.before.before.args in a.width * c.before.loop.i + a.width ≤ a.width * a.count
-inside c = let a = c.before.before.before.args in column-end a.width a.count c.before.loop.i c.loop-test.true
+inside : (c : tie.In-loop-i invariant-loop decreases-loop) → let a = c.before.before.before.args in a.width * c.before.loop-i.i + a.width ≤ a.width * a.count
+inside c = let a = c.before.before.before.args in column-end a.width a.count c.before.loop-i.i c.loop-i-test.true
 
-mul_at : tie.Need-overflow-mul-at invariant-loop decreases-loop
+mul_at : tie.Need-overflow_mul-at invariant-loop decreases-loop
 mul_at c = omega (arith, inside c)
 
-add-number-in : tie.Need-overflow-add-number-in invariant-loop decreases-loop
+add-number-in : tie.Need-overflow_add-at invariant-loop decreases-loop
 add-number-in c = omega (arith, inside c)
 
-sub-number-in : tie.Need-overflow-sub-number-in invariant-loop decreases-loop
+sub-number-in : tie.Need-slice_bounds-number_in-count invariant-loop decreases-loop
 sub-number-in c = omega (arith, inside c)
 
-part-number-in-start : tie.Need-slice-bounds-number-in-start invariant-loop decreases-loop
+part-number-in-start : tie.Need-slice_bounds-number_in-start invariant-loop decreases-loop
 part-number-in-start c = omega (arith, inside c)
 
-part-number-in-end : tie.Need-slice-bounds-number-in-end invariant-loop decreases-loop
+part-number-in-end : tie.Need-slice_bounds-number_in-end invariant-loop decreases-loop
 part-number-in-end c = omega (arith, inside c)
 
-number-in-requires : tie.Need-number-in-requires invariant-loop decreases-loop
+number-in-requires : tie.Need-number_in-requires invariant-loop decreases-loop
 number-in-requires c κs = search rules
 
-number_fits : (c : tie.After-number-in invariant-loop decreases-loop) → SFits w32 c.number_in.result
-number_fits c = sfits_of c.number_in.type-inv
+number_fits : (c : tie.After-number_in invariant-loop decreases-loop) → SFits w32 c.number_in.result
+number_fits c = sfits_of c.number_in.type_inv
 
-mul-t14 : tie.Need-overflow-mul-t14 invariant-loop decreases-loop
+mul-t14 : tie.Need-offset_bounds-row-i invariant-loop decreases-loop
 mul-t14 c = omega arith
 
-slice-set-from-row : tie.Need-slice-set-from-row invariant-loop decreases-loop
+slice-set-from-row : tie.Need-bounds-row-i invariant-loop decreases-loop
 slice-set-from-row c = omega arith
 
-add-i : tie.Need-overflow-add-i invariant-loop decreases-loop
+add-i : tie.Need-overflow_add-i invariant-loop decreases-loop
 add-i c = omega arith
 
-loop-less : tie.Need-loop-smaller invariant-loop decreases-loop
+loop-less : tie.Need-loop-i-smaller invariant-loop decreases-loop
 loop-less c = omega arith
 
-loop-again : tie.Need-loop-preserved invariant-loop decreases-loop
+loop-again : tie.Need-loop-i-preserved invariant-loop decreases-loop
 loop-again c =
     let l = c.before.before.before in
     let a = l.before.before.args in
-    fill_step column_value a.width a.line.now a.count a.row.now l.loop.row l.loop.i (to_z w32 (of_z w32 c.number_in.result)) c.before.before.loop-test.true (to_z-of_z (number_fits c) ∙ c.number_in.ensures) l.loop.invariant
+    fill_step column_value a.width a.line.now a.count a.row.now l.loop-i.row l.loop-i.i (to_z w32 (of_z w32 c.number_in.result)) c.before.before.loop-i-test.true (to_z-of_z (number_fits c) ∙ c.number_in.ensures) l.loop-i.invariant
 
-same_length : tie.Need-same-length invariant-loop decreases-loop
-same_length c = c.before.loop.invariant.long
+same_length : tie.Need-shape_of-row invariant-loop decreases-loop
+same_length c = c.before.loop-i.invariant.long
 
 returns : tie.Need-returns invariant-loop decreases-loop
 returns c =
     let l = c.before in
     let a = l.before.before.args in
-    fill_end column_value a.width a.line.now a.count a.row.now l.loop.row l.loop.i c.loop-test.false l.loop.invariant
+    fill_end column_value a.width a.line.now a.count a.row.now l.loop-i.row l.loop-i.i c.loop-i-test.false l.loop-i.invariant
 
-pub fill-row-spec : {M : Type 1} → statement M
-fill-row-spec =
+pub fill_row_spec : {M : Type 1} → statement M
+fill_row_spec =
     tie.close
     (tie.spec
     invariant-loop

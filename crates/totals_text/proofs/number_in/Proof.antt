@@ -8,27 +8,32 @@ use borrow.Author.Rules.{rules}
 use Rattle.totals_text.proofs.number_in.Statement.{statement}
 use Rattle.totals_text.proofs.number_in.Tie as tie
 
-z_fits : (c : tie.After-known-told) → SFits w32 c.before.z.given.0.0
+z_fits : (c : tie.In-Number) → SFits w32 c.before.z-1.given.0.0
 z_fits c = search rules
 
-read-column-requires : tie.Need-read-column-requires
+read-column-requires : tie.Need-read_column-requires
 read-column-requires c κs = search rules
 
-enum-known-z : tie.Need-enum-known-z
+enum-known-z : tie.Need-enum_known-z
 enum-known-z c = search rules
 
-enum_told : tie.Need-enum-told
+enum_told : tie.Need-enum_told-1
 enum_told c = search rules
 
-returns : tie.Need-returns
+returns : tie.Need-returns-in-Number
 unfolding column_value
 returns c =
     let r = c.before.before.before in
-    to_z-of_z (z_fits c) ∙ sym (ap column_value (sym r.read-column.ensures.0 ∙ c.before.z.given.1))
+    to_z-of_z (z_fits c) ∙ sym (ap column_value (sym r.read_column.ensures.0 ∙ c.before.z-1.given.1))
 
-returns_2 : tie.Need-returns-2
+returns_2 : tie.Need-returns-in-NotInForm
 unfolding column_value
-returns_2 c = sym (ap column_value (sym c.before.before.read-column.ensures.0 ∙ c.enum_told.given.1))
+returns_2 c = sym (ap column_value (sym c.before.before.read_column.ensures.0 ∙ c.enum_told-1.given.1))
 
-pub number-in-spec : {M : Type 1} → statement M
-number-in-spec = tie.close (tie.spec read-column-requires enum-known-z enum_told returns returns_2)
+pub number_in_spec : {M : Type 1} → statement M
+number_in_spec = tie.close (tie.spec
+    read-column-requires
+    enum-known-z
+    enum_told
+    returns
+    returns_2)

@@ -29,25 +29,25 @@ unfolding text_answer
 accepted line words₀ words e f =
     (rw (e, length-words line) refl, (rw e f, subst (TextLineMeans line (Words (length line / text_width))) (sym f) (rw (e, length-words line) at (text_line_means line words₀))))
 
-room : (c : tie.After-fill-words-arg) → length c.before.before.before.before.before.before.args.words.now ≡ 65
+room : (c : tie.After-fill_words-arg-1) → length c.before.before.before.before.before.before.args.words.now ≡ 65
 room c = search rules
 
-returns : tie.Need-returns
+returns : tie.Need-returns-then-line-gt-LONGEST_TEXT
 unfolding is_text_line
 returns c =
     let a = c.before.before.args in
-    refused a.line.now a.words.now (rw (lt-leb (length a.line.now) (64 * text_width) c.if1.true) refl)
+    refused a.line.now a.words.now (rw (lt-leb (length a.line.now) (64 * text_width) c.if-line-gt-LONGEST_TEXT.true) refl)
 
-returns_2 : tie.Need-returns-2
+returns_2 : tie.Need-returns-then-line-ne0
 unfolding is_text_line
 returns_2 c =
     let a = c.before.before.before.args in
-    refused a.line.now a.words.now (rw (le-leb (length a.line.now) (64 * text_width) c.before.if1.false, ne_eqb (length a.line.now % text_width) 0 c.if2.true) refl)
+    refused a.line.now a.words.now (rw (le-leb (length a.line.now) (64 * text_width) c.before.if-line-gt-LONGEST_TEXT.false, ne_eqb (length a.line.now % text_width) 0 c.if-line-ne0.true) refl)
 
-all-in-form-requires : tie.Need-all-in-form-requires
+all-in-form-requires : tie.Need-all_in_form-requires
 all-in-form-requires c κs = search rules
 
-returns_3 : tie.Need-returns-3
+returns_3 : tie.Need-returns-then-not-all_in_form
 unfolding is_text_line
 returns_3 c =
     let f = c.before in
@@ -55,15 +55,15 @@ returns_3 c =
     let s = b.before.before.before in
     let line = s.args.line.now in
     refused line s.args.words.now
-    (rw (le-leb (length line) (64 * text_width) b.before.if1.false, eq-eqb (length line % text_width) 0 b.if2.false) (sym f.all-in-form.ensures ∙ not-true _ c.if3.true))
+    (rw (le-leb (length line) (64 * text_width) b.before.if-line-gt-LONGEST_TEXT.false, eq-eqb (length line % text_width) 0 b.if-line-ne0.false) (sym f.all_in_form.ensures ∙ not-true _ c.if-not-all_in_form.true))
 
-fill-words-requires : tie.Need-fill-words-requires
+fill-words-requires : tie.Need-fill_words-requires
 fill-words-requires c κs = search rules
 
-cast-t11 : tie.Need-overflow-cast-t11
+cast-t11 : tie.Need-overflow_cast-result
 cast-t11 c = search rules
 
-returns-4 : tie.Need-returns-4
+returns-4 : tie.Need-returns
 unfolding is_text_line text_words
 returns-4 c =
     let t = c.before.before in
@@ -71,11 +71,18 @@ returns-4 c =
     let b = f.before in
     let s = b.before.before.before in
     let line = s.args.line.now in
-    accepted line s.args.words.now c.fill-words.new.1.1.1.0
-    (rw (le-leb (length line) (64 * text_width) b.before.if1.false, eq-eqb (length line % text_width) 0 b.if2.false) (sym f.all-in-form.ensures ∙ not-false _ t.if3.false))
-    (c.fill-words.ensures ∙ sets-written s.args.words.now (text_words line) (omega (arith, length-words line, room c.before)))
+    accepted line s.args.words.now c.fill_words.new.1.1.1.0
+    (rw (le-leb (length line) (64 * text_width) b.before.if-line-gt-LONGEST_TEXT.false, eq-eqb (length line % text_width) 0 b.if-line-ne0.false) (sym f.all_in_form.ensures ∙ not-false _ t.if-not-all_in_form.false))
+    (c.fill_words.ensures ∙ sets-written s.args.words.now (text_words line) (omega (arith, length-words line, room c.before)))
 
-pub read-text-line-spec : {M : Type 1} → statement M
-read-text-line-spec =
+pub read_text_line_spec : {M : Type 1} → statement M
+read_text_line_spec =
     tie.close
-    (tie.spec returns returns_2 all-in-form-requires returns_3 fill-words-requires cast-t11 returns-4)
+    (tie.spec
+    returns
+    returns_2
+    all-in-form-requires
+    returns_3
+    fill-words-requires
+    cast-t11
+    returns-4)

@@ -13,40 +13,40 @@ use Rattle.totals_text.proofs.refused_line.Statement.{statement}
 use Rattle.totals_text.proofs.refused_line.Tie as tie
 
 -- the place behind the two columns
-place : (c : tie.After-put-column2) → c.put-column2.result ≡ length refused_word + length (column 8 (pos c.before.before.before.before.before.before.args.number)) + length (column 8 (pos c.before.before.before.before.before.before.args.place))
+place : (c : tie.After-put_column-end) → c.put_column-end.result ≡ length refused_word + length (column 8 (pos c.before.before.before.before.before.before.args.number)) + length (column 8 (pos c.before.before.before.before.before.before.args.place))
 unfolding numeral column
 place c =
     let p = c.before.before in
-    c.put-column2.ensures.0 ∙ rw (p.put-column.ensures.0, p.before.before.Put-refused.ensures.0) refl
+    c.put_column-end.ensures.0 ∙ rw (p.put_column-next.ensures.0, p.before.before.Put-refused.ensures.0) refl
 
-within : (c : tie.After-put-column2) → c.put-column2.result < 63
+within : (c : tie.After-put_column-end) → c.put_column-end.result < 63
 unfolding refused_word
 within c =
     let s = c.before.before.before.before.before.before in
     omega (arith, place c, length-count 9 s.args.number (omega arith), length-count 19 s.args.place (omega arith))
 
-put-refused-requires : tie.Need-put-refused-requires
+put-refused-requires : tie.Need-put_refused-at-requires
 put-refused-requires c κs = search rules
 
-put-column-requires : tie.Need-put-column-requires
+put-column-requires : tie.Need-put_column-next-requires
 unfolding numeral column refused_word
 put-column-requires c κs =
     let w = c.before in
     let s = w.before.before in
     omega (arith, length-count 9 s.args.number (omega arith), w.Put-refused.ensures.0, w.Put-refused.auto.0)
 
-put-column-requires-2 : tie.Need-put-column-requires-2
+put-column-requires-2 : tie.Need-put_column-end-requires
 unfolding numeral column refused_word
 put-column-requires-2 c κs =
     let p = c.before in
     let w = p.before.before in
     let s = w.before.before in
-    omega (arith, length-count 9 s.args.number (omega arith), length-count 19 s.args.place (omega arith), w.Put-refused.ensures.0, w.Put-refused.auto.0, p.put-column.ensures.0, p.put-column.auto.1.1.1.0)
+    omega (arith, length-count 9 s.args.number (omega arith), length-count 19 s.args.place (omega arith), w.Put-refused.ensures.0, w.Put-refused.auto.0, p.put_column-next.ensures.0, p.put_column-next.auto.1.1.1.0)
 
-element-write-out : tie.Need-element-write-out
+element-write-out : tie.Need-bounds-out-end
 element-write-out c = let h = within c in omega arith
 
-add-result : tie.Need-overflow-add-result
+add-result : tie.Need-overflow_add-result
 add-result c = let h = within c in omega arith
 
 returns : tie.Need-returns
@@ -60,14 +60,14 @@ returns c =
       omega (arith, place c, n),
       (
         omega arith,
-        rw (place c, c.put-column2.ensures.1, p.put-column.ensures.1, w.Put-refused.ensures.1, p.put-column.ensures.0, w.Put-refused.ensures.0)
+        rw (place c, c.put_column-end.ensures.1, p.put_column-next.ensures.1, w.Put-refused.ensures.1, p.put_column-next.ensures.0, w.Put-refused.ensures.0)
             (front_three a.out.now refused_word (column 8 (pos a.number)) (column 8 (pos a.place)) 10)
             ∙ sets-written a.out.now (refused_line a.number a.place) (omega (arith, n, place c)),
       ),
     )
 
-pub refused-line-spec : {M : Type 1} → statement M
-refused-line-spec =
+pub refused_line_spec : {M : Type 1} → statement M
+refused_line_spec =
     tie.close
     (tie.spec
     put-refused-requires

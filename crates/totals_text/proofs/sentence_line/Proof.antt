@@ -22,31 +22,31 @@ short s =
     )
 
 -- the place behind the total
-place : (c : tie.After-put-total) → c.put-total.result ≡ length (count_columns c.before.before.before.before.args.number c.before.before.before.before.args.words c.before.before.before.before.args.unknown) + length (column 16 c.before.before.before.before.args.total)
+place : (c : tie.After-put_total-end) → c.put_total-end.result ≡ length (count_columns c.before.before.before.before.args.number c.before.before.before.before.args.words c.before.before.before.before.args.unknown) + length (column 16 c.before.before.before.before.args.total)
 place c =
     let p = c.before.before in
-    c.put-total.ensures.0 ∙ rw (to_z-of_z p.before.before.ranges.total, p.put-counts.ensures.0) refl
+    c.put_total-end.ensures.0 ∙ rw (to_z-of_z p.before.before.ranges.total, p.put_counts-at.ensures.0) refl
 
-within : (c : tie.After-put-total) → c.put-total.result < 63
+within : (c : tie.After-put_total-end) → c.put_total-end.result < 63
 within c =
     let s = c.before.before.before.before in
     omega (arith, place c, short s, length-total s.ranges.total)
 
-put-counts-requires : tie.Need-put-counts-requires
+put-counts-requires : tie.Need-put_counts-at-requires
 put-counts-requires c κs =
     let h = short c.before in
     omega arith
 
-put-total-requires : tie.Need-put-total-requires
+put-total-requires : tie.Need-put_total-end-requires
 put-total-requires c κs =
     let s = c.before.before.before in
     let h = short s in
-    rw (to_z-of_z s.ranges.total) (omega (arith, length-total s.ranges.total, c.before.put-counts.ensures.0, c.before.put-counts.auto.1.1.1.0))
+    rw (to_z-of_z s.ranges.total) (omega (arith, length-total s.ranges.total, c.before.put_counts-at.ensures.0, c.before.put_counts-at.auto.1.1.1.0))
 
-element-write-out : tie.Need-element-write-out
+element-write-out : tie.Need-bounds-out-end
 element-write-out c = let h = within c in omega arith
 
-add-result : tie.Need-overflow-add-result
+add-result : tie.Need-overflow_add-result
 add-result c = let h = within c in omega arith
 
 returns : tie.Need-returns
@@ -61,13 +61,18 @@ returns c =
       omega (arith, place c, n),
       (
         omega arith,
-        rw (place c, c.put-total.ensures.1, p.put-counts.ensures.1, p.put-counts.ensures.0, to_z-of_z s.ranges.total)
+        rw (place c, c.put_total-end.ensures.1, p.put_counts-at.ensures.1, p.put_counts-at.ensures.0, to_z-of_z s.ranges.total)
             (front-two a.out.now counts (column 16 a.total) 10)
             ∙ sets-written a.out.now (sentence_line a.number a.words a.unknown a.total) (omega (arith, n, place c)),
       ),
     )
 
-pub sentence-line-spec : {M : Type 1} → statement M
-sentence-line-spec =
+pub sentence_line_spec : {M : Type 1} → statement M
+sentence_line_spec =
     tie.close
-    (tie.spec put-counts-requires put-total-requires element-write-out add-result returns)
+    (tie.spec
+    put-counts-requires
+    put-total-requires
+    element-write-out
+    add-result
+    returns)

@@ -13,25 +13,25 @@ use borrow.Author.Rules.{rules}
 use Rattle.totals_text.proofs.word_in.Statement.{statement}
 use Rattle.totals_text.proofs.word_in.Tie as tie
 
-z_fits : (c : tie.After-number-in) → SFits w32 c.number_in.result
-z_fits c = sfits_of c.number_in.type-inv
+z_fits : (c : tie.After-number_in-z) → SFits w32 c.number_in-z.result
+z_fits c = sfits_of c.number_in-z.type_inv
 
-number-in-requires : tie.Need-number-in-requires
+number-in-requires : tie.Need-number_in-z-requires
 number-in-requires c κs = search rules
 
-cast-result : tie.Need-overflow-cast-result
+cast-result : tie.Need-overflow_cast-result
 cast-result c = let f = z_fits c.before in to_nat tt f (omega zarith)
 
-returns : tie.Need-returns
+returns : tie.Need-returns-then-z-lt0
 returns c =
     let n = c.before in
-    sym (word-negative (read_column n.before.before.args.width n.before.before.args.text.now) (ap (λ (z : ℤ). lt_z z (pos 0)) (sym (to_z-of_z (z_fits n) ∙ n.number_in.ensures)) ∙ c.if1.true))
+    sym (word-negative (read_column n.before.before.args.width n.before.before.args.text.now) (ap (λ (z : ℤ). lt_z z (pos 0)) (sym (to_z-of_z (z_fits n) ∙ n.number_in-z.ensures)) ∙ c.if-z-lt0.true))
 
-returns_2 : tie.Need-returns-2
+returns_2 : tie.Need-returns-else-z-lt0
 returns_2 c =
     let n = c.before in
-    let e = to_z-of_z (z_fits n) ∙ n.number_in.ensures in
-    ap nat_abs e ∙ sym (word-natural (read_column n.before.before.args.width n.before.before.args.text.now) (ap (λ (z : ℤ). lt_z z (pos 0)) (sym e) ∙ c.if1.false))
+    let e = to_z-of_z (z_fits n) ∙ n.number_in-z.ensures in
+    ap nat_abs e ∙ sym (word-natural (read_column n.before.before.args.width n.before.before.args.text.now) (ap (λ (z : ℤ). lt_z z (pos 0)) (sym e) ∙ c.if-z-lt0.false))
 
-pub word-in-spec : {M : Type 1} → statement M
-word-in-spec = tie.close (tie.spec number-in-requires cast-result returns returns_2)
+pub word_in_spec : {M : Type 1} → statement M
+word_in_spec = tie.close (tie.spec number-in-requires cast-result returns returns_2)

@@ -23,71 +23,71 @@ use Rattle.word_step.specs.Inner.{Answerable, answered}
 use Rattle.word_step.proofs.answered.Statement.{statement}
 use Rattle.word_step.proofs.answered.Tie as tie
 
-enum-known-walked : tie.Need-enum-known-walked
+enum-known-walked : tie.Need-enum_known-walked
 enum-known-walked c = search rules
 
-enum_told : tie.Need-enum-told
+enum_told : tie.Need-enum_told-1
 enum_told c = search rules
 
 -- what is told of a walk holds of the given one
 answer : (s : tie.Start) (walked : Walked) {r : Stepped} → s.args.walked ≡ walked → r ≡ answered s.args.words s.args.word walked → r ≡ answered s.args.words s.args.word s.args.walked
 answer s walked e q = rw e q
 
-returns : tie.Need-returns
-returns c = answer c.before.before Stuck c.enum_told.given.1 refl
+returns : tie.Need-returns-in_default
+returns c = answer c.before.before Stuck c.enum_told-1.given.1 refl
 
 -- what the walk has read
-abbrev points : tie.After-walked → ℤ
-points c = c.walked.given.0.0
+abbrev points : tie.In-Whole-2 → ℤ
+points c = c.walked-1.given.0.0
 
-abbrev passed : tie.After-walked → ℕ
-passed c = c.walked.given.0.1.0
+abbrev passed : tie.In-Whole-2 → ℕ
+passed c = c.walked-1.given.0.1.0
 
-abbrev kept : tie.After-walked → Kept
-kept c = c.walked.given.0.1.1.0
+abbrev kept : tie.In-Whole-2 → Kept
+kept c = c.walked-1.given.0.1.1.0
 
-abbrev extended : tie.After-walked → Bool
-extended c = c.walked.given.0.1.1.1.0
+abbrev extended : tie.In-Whole-2 → Bool
+extended c = c.walked-1.given.0.1.1.1.0
 
-answerable : (c : tie.After-walked) → Answerable c.before.before.args.word (Whole (points c) (passed c) (kept c) (extended c))
-answerable c = subst (Answerable c.before.before.args.word) c.walked.given.1 c.before.before.requires
+answerable : (c : tie.In-Whole-2) → Answerable c.before.before.args.word (Whole (points c) (passed c) (kept c) (extended c))
+answerable c = subst (Answerable c.before.before.args.word) c.walked-1.given.1 c.before.before.requires
 
-cast-kind-of : tie.Need-overflow-cast-kind-of
+cast-kind-of : tie.Need-overflow_cast-passed
 cast-kind-of c = omega (arith, (answerable c.before).1)
 
-add-kind-of : tie.Need-overflow-add-kind-of
+add-kind-of : tie.Need-overflow_add-passed
 add-kind-of c = omega (arith, (answerable c.before).1)
 
-kind-of-requires : tie.Need-kind-of-requires
+kind-of-requires : tie.Need-kind_of-kind-requires
 kind-of-requires c κs = search rules
 
-mul-t14 : tie.Need-overflow-mul-t14
+mul-t14 : tie.Need-overflow_mul-next
 mul-t14 c = search rules
 
-word-high : (c : tie.After-walked) → c.before.before.args.word ≤ word_limit
+word-high : (c : tie.In-Whole-2) → c.before.before.args.word ≤ word_limit
 unfolding is_word
 word-high c =
     let v = c.before.before.args.word in
     leb-true v word_limit (and_right (leb 1 v) (leb v word_limit) (answerable c).0)
 
-add-t16 : tie.Need-overflow-add-t16
+add-t16 : tie.Need-overflow_add-next
 add-t16 c = omega (arith, word-high c.before.before)
 
-points-fits : (c : tie.After-known-told) → SFits w32 (points c.before)
-points-fits c = sfits_of c.known-told.given.0.1
+points-fits : (c : tie.In-Whole) → SFits w32 (points c.before)
+points-fits c = sfits_of c.known_told-1.given.0.1
 
-owed-fits : (c : tie.After-known-told) → SFits w32 (kept c.before).owed
+owed-fits : (c : tie.In-Whole) → SFits w32 (kept c.before).owed
 owed-fits c = search rules
 
-returns_2 : tie.Need-returns-2
+returns_2 : tie.Need-returns
 returns_2 c =
     let k = c.before.before in
     let m = k.before in
-    answer m.before.before (Whole (points m) (passed m) (kept m) (extended m)) m.walked.given.1
-    (λ i. Scored (record { kind = c.before.kind-of.ensures i; points = to_z-of_z (points-fits k) i; extended = extended m }) (record { count = (kept m).count; words = pushed m.before.before.args.word m.before.before.args.words; owed = to_z-of_z (owed-fits k) i }))
+    answer m.before.before (Whole (points m) (passed m) (kept m) (extended m)) m.walked-1.given.1
+    (λ i. Scored (record { kind = c.before.kind_of-kind.ensures i; points = to_z-of_z (points-fits k) i; extended = extended m }) (record { count = (kept m).count; words = pushed m.before.before.args.word m.before.before.args.words; owed = to_z-of_z (owed-fits k) i }))
 
-pub answered-spec : {M : Type 1} → statement M
-answered-spec =
+pub answered_spec : {M : Type 1} → statement M
+answered_spec =
     tie.close
     (tie.spec
     enum-known-walked

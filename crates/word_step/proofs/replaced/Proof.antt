@@ -11,13 +11,13 @@ use Rattle.child_slots.specs.Children.{is_child}
 use Rattle.word_step.proofs.replaced.Statement.{statement}
 use Rattle.word_step.proofs.replaced.Tie as tie
 
-root-child-requires : tie.Need-root-child-requires
+root-child-requires : tie.Need-root_child-child-requires
 root-child-requires c κs = search rules
 
-is-child-requires : tie.Need-is-child-requires
+is-child-requires : tie.Need-is_child-known-requires
 is-child-requires c κs = search rules
 
-cast-known : tie.Need-overflow-cast-known
+cast-known : tie.Need-overflow_cast-known
 cast-known c = search rules
 
 bit-few : (b : Bool) → bool_byte b ≤ 1
@@ -39,20 +39,20 @@ chosen_few w n false l m = omega arith
 w_few : (s : tie.Start) → s.args.w < 4294967296
 w_few s = search rules
 
-mul-result : tie.Need-overflow-mul-result
-mul-result c = omega (arith, times-few c.before.before.args.w 4294967296 c.is-child.result (w_few c.before.before))
+mul-result : tie.Need-overflow_mul-result
+mul-result c = omega (arith, times-few c.before.before.args.w 4294967296 c.is_child-known.result (w_few c.before.before))
 
-sub-result : tie.Need-overflow-sub-result
-sub-result c = bit-few c.is-child.result
+sub-result : tie.Need-overflow_sub-result
+sub-result c = bit-few c.is_child-known.result
 
-add-result : tie.Need-overflow-add-result
-add-result c = omega (arith, chosen_few c.before.before.args.w 4294967296 c.is-child.result (w_few c.before.before) (omega arith))
+add-result : tie.Need-overflow_add-result
+add-result c = omega (arith, chosen_few c.before.before.args.w 4294967296 c.is_child-known.result (w_few c.before.before) (omega arith))
 
 returns : tie.Need-returns
-returns c = chosen _ c.is-child.result ∙ ap (λ (b : Bool). cond b c.before.before.args.w unknown_word) (c.is-child.ensures ∙ ap (λ (k : Child). is_child k) c.before.root-child.ensures)
+returns c = chosen _ c.is_child-known.result ∙ ap (λ (b : Bool). cond b c.before.before.args.w unknown_word) (c.is_child-known.ensures ∙ ap (λ (k : Child). is_child k) c.before.root_child-child.ensures)
 
-pub replaced-spec : {M : Type 1} → statement M
-replaced-spec =
+pub replaced_spec : {M : Type 1} → statement M
+replaced_spec =
     tie.close
     (tie.spec
     root-child-requires

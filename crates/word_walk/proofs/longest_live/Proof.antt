@@ -15,11 +15,11 @@ use Rattle.word_walk.proofs.longest_live.Tie as tie
 test : (c : tie.Start) (t : Bool) → (not (eqb (of_z w32 c.args.b) 0) || c.args.f) ≡ t → (not (eq_z c.args.b (pos 0)) || c.args.f) ≡ t
 test c t e = ap (λ (u : Bool). not u || c.args.f) (sym (bits_test {b = pos 0} c.ranges.b (sfits_lit tt))) ∙ e
 
-returns : tie.Need-returns
-returns c = rw (to_z-of_z c.before.ranges.owed, test c.before true c.if1.true)
+returns : tie.Need-returns-then-b-f
+returns c = rw (to_z-of_z c.before.ranges.owed, test c.before true c.if-b-f.true)
 
-returns_2 : tie.Need-returns-2
-returns_2 c = rw (test c.before false c.if1.false)
+returns_2 : tie.Need-returns-else-b-f
+returns_2 c = rw (test c.before false c.if-b-f.false)
 
-pub longest-live-spec : {M : Type 1} → statement M
-longest-live-spec = tie.close (tie.spec returns returns_2)
+pub longest_live_spec : {M : Type 1} → statement M
+longest_live_spec = tie.close (tie.spec returns returns_2)

@@ -37,19 +37,19 @@ low s =
     let m = sound s in
     (kept_told s.args.base.now s.args.check.now s.args.s m.0 m.1 m.2 m.3 m.4).some-base
 
-mul-d : tie.Need-overflow-mul-d
+mul-d : tie.Need-offset_bounds-base-s
 mul-d c = search rules
 
-shared-slice-copy-out-d : tie.Need-shared-slice-copy-out-d
+shared-slice-copy-out-d : tie.Need-bounds-base-s
 shared-slice-copy-out-d c = search rules
 
-d_fits : (c : tie.After-d) → SFits w32 (d c.before)
-d_fits c = sfits_of c.d.given
+d_fits : (c : tie.After-d-1) → SFits w32 (d c.before)
+d_fits c = sfits_of c.d-1.given
 
-cast-d : tie.Need-overflow-cast-d
+cast-d : tie.Need-overflow_cast-d
 cast-d c = to_nat tt (d_fits c) (omega (zarith, low c.before))
 
-beside-marker-requires : tie.Need-beside-marker-requires
+beside-marker-requires : tie.Need-beside_marker-requires
 beside-marker-requires c κs =
     let s = c.before in
     let f = d_fits c in
@@ -62,8 +62,13 @@ returns : tie.Need-returns
 returns c =
     let s = c.before.before in
     let m = sound s in
-    (rw (to_z-of_z (d_fits c.before)) at c.beside-marker.ensures)
+    (rw (to_z-of_z (d_fits c.before)) at c.beside_marker.ensures)
     ∙ sym (child_owned s.args.base.now s.args.check.now s.args.s m.0 m.1 m.2 m.3 m.4 (s.args.older % radix) (omega arith))
 
-pub next-node-spec : {M : Type 1} → statement M
-next-node-spec = tie.close (tie.spec mul-d shared-slice-copy-out-d cast-d beside-marker-requires returns)
+pub next_node_spec : {M : Type 1} → statement M
+next_node_spec = tie.close (tie.spec
+    mul-d
+    shared-slice-copy-out-d
+    cast-d
+    beside-marker-requires
+    returns)
