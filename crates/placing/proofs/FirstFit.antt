@@ -85,6 +85,7 @@ module _ (c : Room) where
 
     pub all_open-at : (vs : List ℕ) → all_open c behind d vs ≡ true → (w : ℕ) → Memᴰ w vs → is_open c (child_slot behind d w) ≡ true
     unfolding all_open
+    all_open-at [] h w x'' = elim x'' [ ]
     all_open-at (v ∷ vs) h w (Memᴰ.head e) = rw e (and_left (is_open c (child_slot behind d v)) (all_open c behind d vs) h)
     all_open-at (v ∷ vs) h w (Memᴰ.tail m) = all_open-at vs (and_right (is_open c (child_slot behind d v)) (all_open c behind d vs) h) w m
 

@@ -51,6 +51,7 @@ reach-top top behind d (w ∷ ws) = let h = reach-top top behind d ws in omega a
 
 pub reach-child : (top : ℕ) (behind : Bool) (d : ℕ) (ws : List ℕ) (w : ℕ) → Memᴰ w ws → child_slot behind d w < top_with top behind d ws
 unfolding top_with
+reach-child top behind d [] w x' = elim x' [ ]
 reach-child top behind d (x ∷ ws) w (Memᴰ.head e) = omega (arith, ap (child_slot behind d) e)
 reach-child top behind d (x ∷ ws) w (Memᴰ.tail m) = omega (arith, reach-child top behind d ws w m)
 

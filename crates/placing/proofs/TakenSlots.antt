@@ -175,6 +175,7 @@ parents-none (m ∷ ms) w us f = rw (same_ne us m.words (f m (Memᴰ.head refl))
 
 parent-once : (ms : List Node) → Distinct ms → (w : ℕ) (m : Node) → Memᴰ m ms → parents_among ms (w ∷ m.words) ≡ 1
 unfolding parents_among
+parent-once [] D w m x'' = elim x'' [ ]
 parent-once (c ∷ ms) D w m (Memᴰ.head e) =
     rw (e, same_refl c.words) (omega (arith, parents-none ms w c.words (head-distinct c ms D)))
 parent-once (c ∷ ms) D w m (Memᴰ.tail h) =

@@ -83,6 +83,7 @@ found_in (n ∷ ns) us m e = go (found_in ns us m) (same_words n.words us) refl 
 -- a node's words are found
 pub in_found : (nodes : List Node) (m : Node) → Memᴰ m nodes → (k : Node) × (find_node nodes m.words ≡ some k)
 unfolding find_node
+in_found [] m h = elim h [ ]
 in_found (n ∷ ns) m h = go (same_words n.words m.words) refl (Memᴰ.cases_cons h) (in_found ns m)
   where
     go : (b : Bool) → same_words n.words m.words ≡ b → (m ≡ n) ⊎ Memᴰ m ns → (Memᴰ m ns → (k : Node) × (find_node ns m.words ≡ some k))

@@ -7,28 +7,28 @@ use Prim.Native.Nat.{ℕ, suc, ◌+◌, ◌≤◌, ◌<◌}
 use native.Mathlib.Omega.{arith}
 use native.Mathlib.Numerals.{add-one}
 use lib.Dec.{eqb}
-use lib.ListN.{length, take, drop}
-use lib.Seq.{take_all}
-use borrow.Author.Tests.{ne_eqb}
-use Rattle.bytes.specs.Bytes.{index_of, index_after, slice}
+use lib.ListN.{length, take, drop, drop_of_length-le, get_or}
+use lib.Seq.{take_all, drop-cons}
+use borrow.Author.Tests.{eq-eqb, ne_eqb}
+
 use Rattle.integer.proofs.Ranges.{lt_or_ge}
 use Rattle.decimal.specs.Digits.{all_digits, digits_up_to}
 use Rattle.decimal.proofs.Digits.{digit_range, all_digits_lem}
 use Rattle.text_parts.specs.Parts.{in_front, parts, before}
 
--- what the search for a byte finds
-before-is-index : (c : ℕ) (text : List ℕ) → index_of c text ≡ before c text
-unfolding before index_of index_after
-before-is-index c [] = refl
-before-is-index c (x ∷ text) = go (eqb x c) (before-is-index c text)
-  where
-    go : (t : Bool) → index_of c text ≡ before c text → index_after t (index_of c text) ≡ cond t 0 (suc (before c text))
-    go true e = refl
-    go false e = ap suc e
+-- what a search that stands at i sees
+pub before-here : (c : ℕ) (text : List ℕ) (i : ℕ) → i < length text → get_or text i 0 ≡ c → before c (drop i text) ≡ 0
+unfolding before
+before-here c text i h e = rw (drop-cons text i 0 h, eq-eqb _ _ e) refl
 
-pub found_from : (c : ℕ) (text : List ℕ) (at : ℕ) → index_of c (slice at (length text) text) ≡ before c (drop at text)
-unfolding slice
-found_from c text at = rw (take_all (length text) text (omega arith)) (before-is-index c (drop at text))
+pub before-further : (c : ℕ) (text : List ℕ) (i : ℕ) → i < length text → (get_or text i 0 ≡ c → ⊥)
+    → before c (drop i text) ≡ suc (before c (drop (i + 1) text))
+unfolding before
+before-further c text i h n = rw (drop-cons text i 0 h, ne_eqb _ _ n, add-one i) refl
+
+pub before-end : (c : ℕ) (text : List ℕ) (i : ℕ) → length text ≤ i → before c (drop i text) ≡ 0
+unfolding before
+before-end c text i h = rw (drop_of_length-le text h) refl
 
 -- a text without the byte is one part
 pub parts-one : (c : ℕ) (text : List ℕ) → before c text ≡ length text → parts c text ≡ text ∷ []

@@ -10,14 +10,14 @@ use lib.Dec.{eqb, leb}
 use lib.ListN.{length, take, drop, length-take}
 use lib.Seq.{take-take}
 use Rattle.integer.proofs.Parts.{drop-take}
-use Rattle.bytes.specs.Bytes.{index_of, index_after}
+use Rattle.text_parts.specs.Parts.{before}
 use Rattle.totals_text.specs.Lines.{list_width, is_list_line, list_row}
 use Rattle.totals_list.specs.List.{Line, ended, unended, longer, lines_of, line_end, ListText, not_in_form, behind, read_list}
 use Rattle.totals_list.proofs.Lines.{line_ended, line_unended, line_end_le}
 use Rattle.totals_list.proofs.Listing.{read_bad, read-good}
 
 line_end-take : (n : ℕ) (text : List ℕ) → line_end (take n text) ≡ min n (line_end text)
-unfolding index_of index_after
+unfolding before
 line_end-take zero text = omega arith
 line_end-take (suc n) [] = omega arith
 line_end-take (suc n) (c ∷ text) = go (line_end-take n text) (eqb c 10) refl

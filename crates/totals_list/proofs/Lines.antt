@@ -6,13 +6,13 @@ use Prim.Native.Nat.{ℕ, suc, ◌≤◌, ◌<◌}
 use native.Mathlib.Omega.{arith}
 use lib.Dec.{eqb}
 use lib.ListN.{length, take, drop}
-use Rattle.bytes.specs.Bytes.{index_of, index_after}
+use Rattle.text_parts.specs.Parts.{before}
 use Rattle.totals_list.specs.List.{ended, unended, longer, lines_of, line_end}
 
 -- ---- where a line ends
 
 pub line_end_le : (text : List ℕ) → line_end text ≤ length text
-unfolding index_of index_after
+unfolding before
 line_end_le [] = omega arith
 line_end_le (c ∷ text) = go (line_end_le text) (eqb c 10) refl
   where
@@ -23,7 +23,7 @@ line_end_le (c ∷ text) = go (line_end_le text) (eqb c 10) refl
 -- ---- the first line
 
 pub line_ended : (text : List ℕ) → line_end text < length text → lines_of text ≡ ended (take (line_end text) text) ∷ lines_of (drop (suc (line_end text)) text)
-unfolding index_of index_after lines_of
+unfolding before lines_of
 line_ended [] h = absurd (omega arith)
 line_ended (c ∷ text) h = go (line_ended text) (eqb c 10) refl
   where
@@ -32,7 +32,7 @@ line_ended (c ∷ text) h = go (line_ended text) (eqb c 10) refl
     go ih false e = let k : suc (line_end text) < suc (length text) = rw e at h in rw e (ap (longer c) (ih (omega arith)) ∙ (unfold longer in refl))
 
 pub line_unended : (text : List ℕ) → line_end text ≡ length text → 0 < length text → lines_of text ≡ unended text ∷ []
-unfolding index_of index_after lines_of
+unfolding before lines_of
 line_unended [] e h = absurd (omega arith)
 line_unended (c ∷ []) e h = go (eqb c 10) refl
   where

@@ -10,7 +10,6 @@ use lib.Dec.{leb}
 use lib.IntN.{ℤ}
 use lib.ListN.{length, take, drop, length-drop, drop_of_length-le}
 use lib.Seq.{paste, take-paste, take_all, length-paste, drop-drop}
-use Rattle.bytes.specs.Bytes.{slice}
 use Rattle.totals_text.specs.Lines.{is_list_line, list_row}
 use Rattle.totals_text.proofs.Lines.{list_line_length}
 use Rattle.totals_list.specs.List.{Line, ended, lines_of, line_end, ListText, rows, not_in_form, behind, read_list, ReadAs}
@@ -59,7 +58,7 @@ read-good k l ls e = rw e (go (leb k 512))
     go false = refl
 
 -- the line that begins here; `end` is where the code found its end
-module _ (text : List ℕ) (table : List ℤ) (at i end : ℕ) (R : Reading text table at i) (more : at < length text) (e : end ≡ at + line_end (slice at (length text) text)) where
+module _ (text : List ℕ) (table : List ℤ) (at i end : ℕ) (R : Reading text table at i) (more : at < length text) (e : end ≡ at + line_end (drop at text)) where
   abbrev here : List ℕ
   here = drop at text
 
@@ -67,8 +66,7 @@ module _ (text : List ℕ) (table : List ℤ) (at i end : ℕ) (R : Reading text
   long = length-drop at text
 
   end_is : end ≡ at + line_end here
-  unfolding slice
-  end_is = e ∙ ap (λ (l : List ℕ). at + line_end (drop at l)) (take_all (length text) text (omega arith))
+  end_is = e
 
   end-within : end ≤ length text
   end-within = omega (arith, end_is, long, line_end_le here)

@@ -1,6 +1,6 @@
 -- The lines of a text, and what the totals program reads of LIST. Assumes nothing.
 use Rattle.std.specs.Prelude.{◌≡◌, cond, ◌&&◌, List, [], ◌∷◌, ◌++◌, ℕ, suc, ◌*◌, ◌≤◌, eqb, leb, ℤ, take}
-use Rattle.bytes.specs.Bytes.{index_of}
+use Rattle.text_parts.specs.Parts.{before}
 use Rattle.totals_text.specs.Lines.{is_list_line, list_row}
 use Rattle.totals_list.specs.declared.ListText.{ListText as Read}
 use Rattle.totals_list.specs.declared.ListText.TheVariants.{Rows, NotInForm}
@@ -24,7 +24,7 @@ lines_of (c ∷ text) = cond (eqb c 10) (ended [] ∷ lines_of text) (longer c (
 
 -- where the first line of a text ends: at its first LF, or at the end of the text
 abbrev pub line_end : List ℕ → ℕ
-line_end text = index_of 10 text
+line_end text = before 10 text
 
 -- ---- LIST
 

@@ -7,7 +7,7 @@ use Rattle.arpa_headings.proofs.behind_space.Statement.{statement}
 use Rattle.arpa_headings.proofs.behind_space.Tie as tie
 
 returns : tie.Need-returns-then-text-eq0
-returns c = (sym (space_none c.before.args.text.now c.if-text-eq0.true), search rules)
+returns c = (sym (space_none c.args.text.now c.if-text-eq0.true), search rules)
 
 shared-slice-read-if2 : tie.Need-bounds-text-0
 shared-slice-read-if2 c = search rules

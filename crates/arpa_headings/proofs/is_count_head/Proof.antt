@@ -19,7 +19,7 @@ same-bytes-requires c κs = search rules
 
 returns : tie.Need-returns-then-same_bytes
 unfolding is_count_head
-returns c = rw (sym c.before.same_bytes.ensures ∙ c.if-same_bytes.true) refl
+returns c = rw (sym c.same_bytes.ensures ∙ c.if-same_bytes.true) refl
 
 slice-aggregate-same-bytes-2 : tie.Need-slice_bounds-same_bytes-end-2
 slice-aggregate-same-bytes-2 c = search rules
@@ -29,7 +29,7 @@ same-bytes-requires-2 c κs = search rules
 
 returns_2 : tie.Need-returns
 unfolding is_count_head
-returns_2 c = rw (sym c.before.before.before.same_bytes.ensures ∙ c.before.before.if-same_bytes.false) c.same_bytes-2.ensures
+returns_2 c = rw (sym c.same_bytes.ensures ∙ c.if-same_bytes.false) c.same_bytes-2.ensures
 
 pub is_count_head_spec : {M : Type 1} → statement M
 is_count_head_spec =

@@ -20,13 +20,13 @@ find-byte-requires : tie.Need-find_byte-equals-requires
 find-byte-requires c κs = search rules
 
 abbrev line : tie.After-find_byte-equals → List ℕ
-line f = f.before.before.args.line.now
+line f = f.args.line.now
 
 abbrev equals : tie.After-find_byte-equals → ℕ
 equals f = f.find_byte-equals.result
 
 abbrev length_of_lem : tie.After-find_byte-equals → ℕ
-length_of_lem f = f.before.before.args.m
+length_of_lem f = f.args.m
 
 returns : tie.Need-returns-then-equals-line
 unfolding read_count
@@ -51,8 +51,8 @@ fields c =
 
 returns_2 : tie.Need-returns-then-not-is_count_head
 returns_2 c =
-    let b = c.before.before.before in
-    sym (fields b ∙ rw (sym c.before.is_count_head.ensures ∙ not-true _ c.if-not-is_count_head.true) refl)
+    let b = c.before.before in
+    sym (fields b ∙ rw (sym c.is_count_head.ensures ∙ c.if-not-is_count_head.true) refl)
 
 add-rest : tie.Need-overflow_add-rest
 add-rest c = search rules
@@ -88,14 +88,14 @@ returns_3 : tie.Need-returns
 returns_3 c =
     let s = c.before.before in
     let h = s.before.before in
-    let b = h.before.before.before in
+    let b = h.before.before in
     let f = b.before in
     let r = part_to_end (line f) (equals f + 1) in
     let e = s.behind_space.result in
     let behind : drop (equals f + 1 + e) (line f) ≡ without_space (drop (equals f + 1) (line f)) =
     sym (drop-drop e (equals f + 1) (line f)) ∙ (rw r at s.behind_space.ensures.0) in
     c.read_digits.ensures ∙ ap count_in (part_to_end (line f) (equals f + 1 + e) ∙ behind)
-    ∙ sym (fields b ∙ rw (sym h.before.is_count_head.ensures ∙ not-false _ h.if-not-is_count_head.false) refl)
+    ∙ sym (fields b ∙ rw (sym h.is_count_head.ensures ∙ h.if-not-is_count_head.false) refl)
 
 pub read_count_spec : {M : Type 1} → statement M
 read_count_spec =

@@ -19,16 +19,16 @@ digits-up-to-requires c κs = search rules
 
 returns : tie.Need-returns-then-not-digits_up_to
 unfolding count_in
-returns c = rw (sym c.before.digits_up_to.ensures ∙ not-true _ c.if-not-digits_up_to.true) refl
+returns c = rw (sym c.digits_up_to.ensures ∙ c.if-not-digits_up_to.true) refl
 
-in_form_lem : (c : tie.Else-not-digits_up_to) → digits_up_to 9 c.before.before.before.args.text.now ≡ true
-in_form_lem c = sym c.before.digits_up_to.ensures ∙ not-false _ c.if-not-digits_up_to.false
+in_form_lem : (c : tie.Else-not-digits_up_to) → digits_up_to 9 c.args.text.now ≡ true
+in_form_lem c = sym c.digits_up_to.ensures ∙ c.if-not-digits_up_to.false
 
 value-requires : tie.Need-value-requires
-value-requires c κs = (all_digits_lem 9 _ (in_form_lem c), omega (arith, at_most 9 c.before.before.before.args.text.now (in_form_lem c)))
+value-requires c κs = (all_digits_lem 9 _ (in_form_lem c), omega (arith, at_most 9 c.args.text.now (in_form_lem c)))
 
 -- nine digits make a number that 32 bits hold
-small : (c : tie.After-value) → 10 ^ length c.before.before.before.before.args.text.now ≤ 10 ^ 9
+small : (c : tie.After-value) → 10 ^ length c.args.text.now ≤ 10 ^ 9
 small c = pow-le-pow_right (omega arith) {j = 9} (at_most 9 _ (in_form_lem c.before))
 
 cast-t5 : tie.Need-overflow_cast-result

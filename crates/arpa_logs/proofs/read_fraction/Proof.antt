@@ -31,7 +31,7 @@ loop-holds c =
     (at_most 7 s.args.text.now s.requires, v.1, ap (λ (n : ℕ). n * 10 ^ (7 - length s.args.text.now)) (sym v.0))
 
 -- there is room for one more digit
-tenth : (c : tie.In-loop-k invariant-loop decreases-loop) → 10 ^ c.before.loop-k.k ≤ 10 ^ 6
+tenth : (c : tie.In-loop-k invariant-loop decreases-loop) → 10 ^ c.loop-k.k ≤ 10 ^ 6
 tenth c = pow-le-pow_right (omega arith) {j = 6} (omega arith)
 
 -- a decimal more: ten times the units, of a tenth each

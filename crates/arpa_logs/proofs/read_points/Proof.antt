@@ -25,13 +25,13 @@ use Rattle.arpa_logs.proofs.read_points.Statement.{statement}
 use Rattle.arpa_logs.proofs.read_points.Tie as tie
 
 returns : tie.Need-returns-then-text-eq0
-returns c = sym (points_none c.before.before.args.text.now c.if-text-eq0.true)
+returns c = sym (points_none c.args.text.now c.if-text-eq0.true)
 
 shared-slice-read-minus : tie.Need-bounds-text-0
 shared-slice-read-minus c = search rules
 
 abbrev text : tie.Joined-minus → List ℕ
-text j = j.before.before.before.before.args.text.now
+text j = j.args.text.now
 
 abbrev minus : tie.Joined-minus → Bool
 minus j = eqb (get_or (text j) 0 0) 45
@@ -41,12 +41,12 @@ started j =
     ⊎_elim
     (λ w. w.1 ∙ sym (ap (λ (t : Bool). cond {A = ℕ} t 1 0) w.0.true))
     (λ w. w.1 ∙ sym (ap (λ (t : Bool). cond {A = ℕ} t 1 0) w.0.left))
-    j.if-minus.branch
+    j.if-minus.branch-raw
 
 within : (j : tie.Joined-minus) → j.if-minus.start ≤ length (text j)
 within j =
-    let n = j.before.before.if-text-eq0.false in
-    ⊎_elim (λ w. let e = w.1 in omega arith) (λ w. let e = w.1 in omega arith) j.if-minus.branch
+    let n = j.if-text-eq0.false in
+    ⊎_elim (λ w. let e = w.1 in omega arith) (λ w. let e = w.1 in omega arith) j.if-minus.branch-raw
 
 sub-read-size : tie.Need-slice_bounds-read_size-count
 sub-read-size c = within c.before
@@ -72,37 +72,37 @@ signed c =
     let j = c.before.before.before in
     let e : size_read c.read_size.result ≡ unsigned (parts 46 (drop (cond (minus j) 1 0) (text j))) =
     c.read_size.ensures.0 ∙ ap (λ (l : List ℕ). unsigned (parts 46 l)) (part_to_end (text j) j.if-minus.start ∙ ap (λ (n : ℕ). drop n (text j)) (started j)) in
-    points-signed (text j) j.before.before.if-text-eq0.false ∙ ap (with_sign (minus j)) (sym e)
+    points-signed (text j) j.if-text-eq0.false ∙ ap (with_sign (minus j)) (sym e)
 
 returns_2 : tie.Need-returns-in_default
 returns_2 c =
-    let a = c.before.before in
+    let a = c.before in
     let j = a.before.before.before in
-    sym (signed a ∙ ap (λ (s : Size). with_sign (minus j) (size_read s)) c.enum_told-1.given.1 ∙ no_size (minus j))
+    sym (signed a ∙ ap (λ (s : Size). with_sign (minus j) (size_read s)) c.in_default.is ∙ no_size (minus j))
 
-small : (c : tie.In-Units) → c.before.units-1.given.0.0 < 1000 * 10 ^ decimals
-small c = subst SmallSize c.before.units-1.given.1 c.before.before.before.read_size.ensures.1
+small : (c : tie.In-Units) → c.in-Units.units < 1000 * 10 ^ decimals
+small c = subst SmallSize c.in-Units.is c.read_size.ensures.1
 
 nearest-point-requires : tie.Need-nearest_point-points-requires
 nearest-point-requires c κs = small c
 
 -- the points, as the code has them
-points : (c : tie.After-nearest_point-points) → to_z w32 (of_z w32 c.nearest_point-points.result) ≡ pos (nearest c.before.before.units-1.given.0.0)
+points : (c : tie.After-nearest_point-points) → to_z w32 (of_z w32 c.nearest_point-points.result) ≡ pos (nearest c.in-Units.units)
 points c = to_z-of_z (fits c) ∙ c.nearest_point-points.ensures
   where
     fits : (c : tie.After-nearest_point-points) → SFits w32 c.nearest_point-points.result
     fits c = sfits_of c.nearest_point-points.type_inv
 
-few : (c : tie.After-nearest_point-points) → nearest c.before.before.units-1.given.0.0 ≤ 1000 * 10 ^ decimals / units_of_point
+few : (c : tie.After-nearest_point-points) → nearest c.in-Units.units ≤ 1000 * 10 ^ decimals / units_of_point
 unfolding nearest
 few c = omega (arith, small c.before)
 
 read : (c : tie.After-nearest_point-points) → let j = c.before.before.before.before.before.before.before in
     read_points (text j) ≡ with_sign (minus j) (some c.before.before.units-1.given.0.0)
 read c =
-    let u = c.before.before in
-    let a = u.before.before in
-    signed a ∙ ap (λ (s : Size). with_sign (minus a.before.before.before) (size_read s)) u.units-1.given.1
+    let u = c.before in
+    let a = u.before in
+    signed a ∙ ap (λ (s : Size). with_sign (minus a.before.before.before) (size_read s)) u.in-Units.is
 
 sub-t15 : tie.Need-overflow_sub-result
 sub-t15 c = omega (zarith, points c.before, few c.before)
@@ -110,7 +110,7 @@ sub-t15 c = omega (zarith, points c.before, few c.before)
 returns_3 : tie.Need-returns-then-minus-2
 returns_3 c =
     let n = c.before in
-    let k = n.before.before.units-1.given.0.0 in
+    let k = n.in-Units.units in
     sym
     (read n ∙ ap (λ (t : Bool). with_sign t (some k)) c.if-minus-2.true
     ∙ ap Of
@@ -121,7 +121,7 @@ returns-4 : tie.Need-returns
 unfolding round_log
 returns-4 c =
     let n = c.before in
-    let k = n.before.before.units-1.given.0.0 in
+    let k = n.in-Units.units in
     sym (read n ∙ ap (λ (t : Bool). with_sign t (some k)) c.if-minus-2.false ∙ ap Of (sym (points n)))
 
 pub read_points_spec : {M : Type 1} → statement M

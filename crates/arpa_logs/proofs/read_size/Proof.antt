@@ -31,8 +31,8 @@ digits-up-to-requires c κs = search rules
 returns : tie.Need-returns-then-not-digits_up_to
 returns c =
     let f = c.before.before.before in (
-      sym (unsigned-no-whole f.before.before.args.text.now f.find_byte-point.result f.find_byte-point.ensures.0 f.find_byte-point.ensures.1
-          (sym c.before.digits_up_to.ensures ∙ not-true _ c.if-not-digits_up_to.true)),
+      sym (unsigned-no-whole f.before.before.args.text.now f.find-byte.result f.find-byte.ensures.0 f.find-byte.ensures.1
+          (sym c.digits_up_to.ensures ∙ c.if-not-digits_up_to.true)),
       search rules,
     )
 
@@ -40,14 +40,14 @@ slice-aggregate-value : tie.Need-slice_bounds-value-end
 slice-aggregate-value c = sym (length-take-le _ _ (search rules))
 
 abbrev text : tie.After-find_byte-point → List ℕ
-text f = f.before.before.args.text.now
+text f = f.args.text.now
 
 abbrev place : tie.After-find_byte-point → ℕ
 place f = f.find_byte-point.result
 
 -- what stands before the point is in form
 whole : (c : tie.Else-not-digits_up_to) → digits_up_to 3 (take (place c.before.before.before) (text c.before.before.before)) ≡ true
-whole c = sym c.before.digits_up_to.ensures ∙ not-false _ c.if-not-digits_up_to.false
+whole c = sym c.digits_up_to.ensures ∙ c.if-not-digits_up_to.false
 
 value-requires : tie.Need-value-whole-requires
 value-requires c κs =
@@ -73,7 +73,7 @@ returns_2 c =
     let e = v.value-whole.ensures.0 in
     let b = below v in (
       ap (λ (n : ℕ). some (n * 10 ^ decimals)) e
-          ∙ sym (unsigned-whole (text f) (place f) f.find_byte-point.ensures.0 c.if-point-text.true (whole v.before.before)),
+          ∙ sym (unsigned-whole (text f) (place f) f.find-byte.ensures.0 c.if-point-text.true (whole v.before.before)),
       omega arith,
     )
 
@@ -98,7 +98,7 @@ both : (c : tie.Else-point-text) → let f = c.before.before.before.before.befor
 both c =
     let v = c.before in
     let f = v.before.before.before.before.before in
-    let w = f.find_byte-point.ensures in
+    let w = f.find-byte.ensures in
     let n = c.if-point-text.false in
     unsigned-both (text f) (place f) w.0 (omega arith) (whole v.before.before)
 
@@ -107,7 +107,7 @@ returns_3 c =
     let b = c.before.before.before in
     let f = b.before.before.before.before.before.before in
     let e : digits_up_to decimals (drop (place f + 1) (text f)) ≡ false =
-    ap (digits_up_to decimals) (sym (part_to_end (text f) (place f + 1))) ∙ sym c.before.digits_up_to-2.ensures ∙ not-true _ c.if-not-digits_up_to-2.true in
+    ap (digits_up_to decimals) (sym (part_to_end (text f) (place f + 1))) ∙ sym c.digits_up_to-2.ensures ∙ c.if-not-digits_up_to-2.true in
     (sym (both b ∙ rw e refl), search rules)
 
 sub-read-fraction : tie.Need-slice_bounds-read_fraction-count
@@ -121,7 +121,7 @@ part-read-fraction-end c = search rules
 
 behind : (c : tie.Else-not-digits_up_to-2) → let f = c.before.before.before.before.before.before.before.before.before in
     digits_up_to decimals (take (length (text f) - (place f + 1)) (drop (place f + 1) (text f))) ≡ true
-behind c = sym c.before.digits_up_to-2.ensures ∙ not-false _ c.if-not-digits_up_to-2.false
+behind c = sym c.digits_up_to-2.ensures ∙ c.if-not-digits_up_to-2.false
 
 read-fraction-requires : tie.Need-read_fraction-requires
 read-fraction-requires c κs = behind c.before

@@ -23,14 +23,14 @@ loop-holds : tie.Need-loop-left-init invariant-loop decreases-loop
 loop-holds c = (search rules, refl)
 
 part-end-requires : tie.Need-part_end-end-requires invariant-loop decreases-loop
-part-end-requires c κs = c.before.loop-left.invariant.0
+part-end-requires c κs = c.loop-left.invariant.0
 
 abbrev rest : tie.In-loop-left invariant-loop decreases-loop → List ℕ
-rest c = drop c.before.loop-left.at c.before.before.before.args.words.now
+rest c = drop c.loop-left.at c.args.words.now
 
 -- how long the next text is
 abbrev size : tie.After-part_end-end invariant-loop decreases-loop → ℕ
-size c = c.part_end-end.result - c.before.before.loop-left.at
+size c = c.part_end-end.result - c.loop-left.at
 
 record Stop (text : List ℕ) (place : ℕ) : Type 0 where
   is : place ≡ before 32 text
@@ -41,7 +41,7 @@ stop c =
     let l = c.before.before in
     let e = c.part_end-end.ensures.0 in
     let w = c.part_end-end.ensures.1 in
-    let d = length-drop l.loop-left.at l.before.before.args.words.now in
+    let d = length-drop l.loop-left.at l.args.words.now in
     record { is = omega arith; within = omega arith }
 
 sub-is-text : tie.Need-slice_bounds-is_text-count invariant-loop decreases-loop
@@ -51,13 +51,13 @@ part-is-text-start : tie.Need-slice_bounds-is_text-start invariant-loop decrease
 part-is-text-start c = let e = c.part_end-end.ensures.0 in omega arith
 
 part-is-text-end : tie.Need-slice_bounds-is_text-end invariant-loop decreases-loop
-part-is-text-end c = let w = c.part_end-end.ensures.1 in omega (arith, length-drop c.before.before.loop-left.at c.before.before.before.before.args.words.now)
+part-is-text-end c = let w = c.part_end-end.ensures.1 in omega (arith, length-drop c.loop-left.at c.args.words.now)
 
 is-text-requires : tie.Need-is_text-requires invariant-loop decreases-loop
 is-text-requires c κs = search rules
 
 -- so many are left
-some_left : (c : tie.In-loop-left invariant-loop decreases-loop) → c.before.loop-left.left ≡ suc (c.before.loop-left.left - 1)
+some_left : (c : tie.In-loop-left invariant-loop decreases-loop) → c.loop-left.left ≡ suc (c.loop-left.left - 1)
 some_left c = omega arith
 
 returns : tie.Need-returns-then-not-is_text invariant-loop decreases-loop
@@ -67,7 +67,7 @@ returns c =
     let l = i.before in
     sym
     (l.loop-left.invariant.1 ∙ ap (λ (n : ℕ). are_texts n (parts 32 (rest i))) (some_left i)
-    ∙ no_text (l.loop-left.left - 1) (rest i) (size f) (stop f).is (stop f).within (sym c.before.is_text.ensures ∙ not-true _ c.if-not-is_text.true))
+    ∙ no_text (l.loop-left.left - 1) (rest i) (size f) (stop f).is (stop f).within (sym c.is_text.ensures ∙ c.if-not-is_text.true))
 
 sub-left : tie.Need-overflow_sub-left invariant-loop decreases-loop
 sub-left c = search rules
@@ -82,11 +82,11 @@ returns_2 c =
     sym
     (l.loop-left.invariant.1 ∙ ap (λ (n : ℕ). are_texts n (parts 32 (rest i))) (some_left i)
     ∙ last-text (l.loop-left.left - 1) (rest i) (size f) (stop f).is
-    (omega (arith, length-drop l.loop-left.at l.before.before.args.words.now)) (sym e.before.is_text.ensures ∙ not-false _ e.if-not-is_text.false))
+    (omega (arith, length-drop l.loop-left.at l.args.words.now)) (sym e.is_text.ensures ∙ e.if-not-is_text.false))
 
 add_at : tie.Need-overflow_add-at invariant-loop decreases-loop
 add_at c =
-    let w = c.before.before.before.before.part_end-end.ensures.1 in
+    let w = c.part_end-end.ensures.1 in
     let n = c.if-end-words.false in
     search rules
 
@@ -99,7 +99,7 @@ loop-again c =
     let f = e.before.before.before in
     let i = f.before in
     let l = i.before in
-    let words = l.before.before.args.words.now in
+    let words = l.args.words.now in
     let n = c.if-end-words.false in
     let p = f.part_end-end.ensures.0 in
     let w = f.part_end-end.ensures.1 in
@@ -107,7 +107,7 @@ loop-again c =
     let s : l.loop-left.at + (size f + 1) ≡ f.part_end-end.result + 1 = omega arith in (
       omega arith,
       l.loop-left.invariant.1 ∙ ap (λ (m : ℕ). are_texts m (parts 32 (rest i))) (some_left i)
-          ∙ next-text (l.loop-left.left - 1) (rest i) (size f) (stop f).is (omega arith) (sym e.before.is_text.ensures ∙ not-false _ e.if-not-is_text.false)
+          ∙ next-text (l.loop-left.left - 1) (rest i) (size f) (stop f).is (omega arith) (sym e.is_text.ensures ∙ e.if-not-is_text.false)
           ∙ ap (λ (x : List ℕ). are_texts (l.loop-left.left - 1) (parts 32 x)) (drop-drop (size f + 1) l.loop-left.at words ∙ rw s refl),
     )
 
@@ -115,7 +115,7 @@ returns_3 : tie.Need-returns invariant-loop decreases-loop
 returns_3 c =
     let l = c.before in
     let z : l.loop-left.left ≡ 0 = omega arith in
-    let r = drop l.loop-left.at l.before.before.args.words.now in
+    let r = drop l.loop-left.at l.args.words.now in
     sym (l.loop-left.invariant.1 ∙ ap (λ (n : ℕ). are_texts n (parts 32 r)) z ∙ no-texts r)
 
 pub are_texts_spec : {M : Type 1} → statement M

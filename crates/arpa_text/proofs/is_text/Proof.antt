@@ -15,13 +15,13 @@ abbrev decreases-loop : tie.decreases-loop-i
 decreases-loop text i₀ i = length text - i
 
 returns : tie.Need-returns-then-text-eq0 invariant-loop decreases-loop
-returns c = sym (empty-text c.before.args.text.now c.if-text-eq0.true)
+returns c = sym (empty-text c.args.text.now c.if-text-eq0.true)
 
 returns_2 : tie.Need-returns-then-text-gt-TEXT_LIMIT invariant-loop decreases-loop
-returns_2 c = sym (long-text c.before.before.args.text.now c.before.if-text-eq0.false c.if-text-gt-TEXT_LIMIT.true)
+returns_2 c = sym (long-text c.args.text.now c.if-text-eq0.false c.if-text-gt-TEXT_LIMIT.true)
 
 loop-holds : tie.Need-loop-i-init invariant-loop decreases-loop
-loop-holds c = (search rules, text-within c.before.before.args.text.now c.before.if-text-eq0.false c.if-text-gt-TEXT_LIMIT.false)
+loop-holds c = (search rules, text-within c.args.text.now c.if-text-eq0.false c.if-text-gt-TEXT_LIMIT.false)
 
 shared-slice-read-if3 : tie.Need-bounds-text-i invariant-loop decreases-loop
 shared-slice-read-if3 c = search rules
@@ -29,7 +29,7 @@ shared-slice-read-if3 c = search rules
 returns_3 : tie.Need-returns-then-text-i-le-SPACE invariant-loop decreases-loop
 returns_3 c =
     let l = c.before.before.before in
-    sym (l.loop-i.invariant.1 ∙ low_byte l.before.before.before.args.text.now l.loop-i.i (search rules) c.if-text-i-le-SPACE.true)
+    sym (l.loop-i.invariant.1 ∙ low_byte l.args.text.now l.loop-i.i (search rules) c.if-text-i-le-SPACE.true)
 
 add-i : tie.Need-overflow_add-i invariant-loop decreases-loop
 add-i c = search rules
@@ -40,12 +40,12 @@ loop-less c = search rules
 loop-again : tie.Need-loop-i-preserved invariant-loop decreases-loop
 loop-again c =
     let l = c.before.before.before in
-    (search rules, l.loop-i.invariant.1 ∙ high_byte l.before.before.before.args.text.now l.loop-i.i (search rules) c.if-text-i-le-SPACE.false)
+    (search rules, l.loop-i.invariant.1 ∙ high_byte l.args.text.now l.loop-i.i (search rules) c.if-text-i-le-SPACE.false)
 
 returns-4 : tie.Need-returns invariant-loop decreases-loop
 returns-4 c =
     let l = c.before in
-    sym (l.loop-i.invariant.1 ∙ above-end l.before.before.before.args.text.now l.loop-i.i (search rules))
+    sym (l.loop-i.invariant.1 ∙ above-end l.args.text.now l.loop-i.i (search rules))
 
 pub is_text_spec : {M : Type 1} → statement M
 is_text_spec =

@@ -39,7 +39,7 @@ returns_2 : tie.Need-returns
 unfolding backoff_behind
 returns_2 c =
     let s = c.before.before.before.before in
-    let n = c.before.before.if-to-line.false in
+    let n = c.if-to-line.false in
     let h : s.args.to < length s.args.line.now = omega (arith, s.requires) in
     c.read_points.ensures ∙ ap read_points (part_to_end s.args.line.now (s.args.to + 1))
     ∙ rw (drop-cons s.args.line.now s.args.to 0 h, add-one s.args.to) refl

@@ -25,7 +25,7 @@ find-byte-requires : tie.Need-find_byte-tab-requires
 find-byte-requires c κs = search rules
 
 abbrev line : tie.After-find_byte-tab → List ℕ
-line f = f.before.before.args.line.now
+line f = f.args.line.now
 
 abbrev tab : tie.After-find_byte-tab → ℕ
 tab f = f.find_byte-tab.result
@@ -35,7 +35,7 @@ abbrev rest : tie.After-find_byte-tab → List ℕ
 rest f = drop (tab f + 1) (line f)
 
 abbrev length_of_lem : tie.After-find_byte-tab → ℕ
-length_of_lem f = f.before.before.args.m
+length_of_lem f = f.args.m
 
 returns : tie.Need-returns-then-tab-line
 unfolding read_row
@@ -67,11 +67,11 @@ fields c k e h =
 
 returns_2 : tie.Need-returns-in_default
 returns_2 c =
-    let a = c.before.before in
+    let a = c.before in
     let b = a.before.before in
     let f = b.before in
     let k = before 9 (rest f) in
-    let p : read_points (take (tab f) (line f)) ≡ NotInForm = sym a.read_points.ensures ∙ c.enum_told-1.given.1 in
+    let p : read_points (take (tab f) (line f)) ≡ NotInForm = sym a.read_points.ensures ∙ c.in_default.is in
     (sym (fields b k refl (before_le 9 (rest f)) ∙ rw p refl), tt)
 
 add-from : tie.Need-overflow_add-from
@@ -90,7 +90,7 @@ enum-told-2 : tie.Need-enum_told-in_default-read_backoff
 enum-told-2 c = search rules
 
 abbrev start : tie.After-part_end-to → tie.Else-tab-line
-start q = q.before.before.before.before.before.before
+start q = q.before.before.before.before
 
 -- how long the words are together
 abbrev size : tie.After-part_end-to → ℕ
@@ -110,19 +110,19 @@ read c =
     let w = q.part_end-to.ensures.1 in
     let d = length-drop (tab f + 1) (line f) in
     let to : tab f + 1 + size q ≡ q.part_end-to.result = omega arith in
-    let p : read_points (take (tab f) (line f)) ≡ Of q.before.before.p-1.given.0.0 =
-    sym q.before.before.before.before.read_points.ensures ∙ q.before.before.p-1.given.1 in
+    let p : read_points (take (tab f) (line f)) ≡ Of q.in-Of.p =
+    sym q.read_points.ensures ∙ q.in-Of.is in
     let g : backoff_behind (drop (size q) (rest f)) ≡ c.read_backoff.result =
     ap backoff_behind (drop-drop (size q) (tab f + 1) (line f) ∙ ap (λ (i : ℕ). drop i (line f)) to) ∙ sym c.read_backoff.ensures in
     fields b (size q) (omega arith) (omega arith) ∙ rw (p, g) refl
 
 returns_3 : tie.Need-returns-in_default-read_backoff
 returns_3 c =
-    let a = c.before.before in
+    let a = c.before in
     let q = a.before in
     let m = length_of_lem (start q).before in
-    let p = Of q.before.before.p-1.given.0.0 in
-    (sym (read a ∙ ap (listed_with m p (parts 32 (words q))) c.enum_told-in_default-read_backoff-1.given.1 ∙ no-backoff m p (parts 32 (words q))), tt)
+    let p = Of q.in-Of.p in
+    (sym (read a ∙ ap (listed_with m p (parts 32 (words q))) c.in_default-read_backoff.is ∙ no-backoff m p (parts 32 (words q))), tt)
 
 sub-are-texts : tie.Need-slice_bounds-are_texts-count
 sub-are-texts c = search rules
@@ -137,7 +137,7 @@ are-texts-requires : tie.Need-are_texts-requires
 are-texts-requires c κs = search rules
 
 abbrev backoff-read : tie.In-Of-read_backoff → tie.After-read_backoff
-backoff-read c = c.before.before.before
+backoff-read c = c.before
 
 -- what it says once both are read
 both : (c : tie.In-Of-read_backoff) → let q = (backoff-read c).before in let f = (start q).before in
@@ -146,7 +146,7 @@ both : (c : tie.In-Of-read_backoff) → let q = (backoff-read c).before in let f
 both c =
     let a = backoff-read c in
     let q = a.before in
-    read a ∙ ap (listed_with (length_of_lem (start q).before) (Of q.before.before.p-1.given.0.0) (parts 32 (words q))) c.before.b-1.given.1
+    read a ∙ ap (listed_with (length_of_lem (start q).before) (Of q.in-Of.p) (parts 32 (words q))) c.in-Of-read_backoff.is
 
 tested : (c : tie.After-are_texts) (t : Bool) → c.are_texts.result ≡ t → let q = (backoff-read c.before.before).before in
     are_texts (length_of_lem (start q).before) (parts 32 (words q)) ≡ t
@@ -155,13 +155,13 @@ tested c t e = sym c.are_texts.ensures ∙ e
 returns-4 : tie.Need-returns-then-not-are_texts
 returns-4 c =
     let a = c.before in
-    (sym (both a.before.before ∙ rw (tested a false (not-true _ c.if-not-are_texts.true)) refl), tt)
+    (sym (both a.before.before ∙ rw (tested a false c.if-not-are_texts.true) refl), tt)
 
-p-fits : (c : tie.In-Of) → SFits w32 c.before.p-1.given.0.0
-p-fits c = sfits_of c.known_told-1.given.0.1
+p-fits : (c : tie.In-Of) → SFits w32 c.in-Of.p
+p-fits c = sfits_of c.in-Of.known_told-1-own.given.0.1
 
-b-fits : (c : tie.In-Of-read_backoff) → SFits w32 c.before.b-1.given.0.0
-b-fits c = sfits_of c.known_told-in-Of-read_backoff-1.given.0.1
+b-fits : (c : tie.In-Of-read_backoff) → SFits w32 c.in-Of-read_backoff.b
+b-fits c = sfits_of c.in-Of-read_backoff.known_told-in-Of-read_backoff-1-own.given.0.1
 
 returns-5 : tie.Need-returns
 returns-5 c =
@@ -170,7 +170,7 @@ returns-5 c =
     let q = (backoff-read k).before in
     let e = q.part_end-to.ensures.0 in (
       rw (to_z-of_z (p-fits q.before), to_z-of_z (b-fits k))
-          (sym (both k ∙ rw (tested a true (not-false _ c.if-not-are_texts.false)) refl)),
+          (sym (both k ∙ rw (tested a true c.if-not-are_texts.false) refl)),
       (omega arith, q.part_end-to.ensures.1),
     )
 

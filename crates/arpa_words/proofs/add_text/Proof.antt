@@ -18,7 +18,7 @@ returns c =
     let w = c.before.before in
     let s = w.before.before.before.before.before in
     added-reserved s.args.table.now s.args.store.now s.args.buckets s.args.words s.args.k s.args.text.now s.requires
-    w.before.before.if-k-lt4.true w.write_record.ensures
+    w.if-k-lt4.true w.write_record.ensures
 
 write-record-requires-2 : tie.Need-write_record-requires-then-words-gt-LINK_LIMIT
 write-record-requires-2 c κs =
@@ -34,13 +34,13 @@ returns_2 c =
     let i = w.before.before in
     let s = i.before.before.before.before in
     added_unindexed s.args.table.now s.args.store.now s.args.buckets s.args.words s.args.k s.args.text.now s.requires
-    i.before.if-k-lt4.false i.if-words-gt-LINK_LIMIT.true w.write_record-then-words-gt-LINK_LIMIT.ensures
+    i.if-k-lt4.false i.if-words-gt-LINK_LIMIT.true w.write_record-then-words-gt-LINK_LIMIT.ensures
 
 add-word-requires : tie.Need-add_word-requires
 add-word-requires c κs =
     let i = c.before.before in
     let s = i.before.before.before.before in
-    adding_indexed s.args.table.now s.args.store.now s.args.buckets s.args.words s.args.k s.args.text.now s.requires i.before.if-k-lt4.false i.if-words-gt-LINK_LIMIT.false
+    adding_indexed s.args.table.now s.args.store.now s.args.buckets s.args.words s.args.k s.args.text.now s.requires i.if-k-lt4.false i.if-words-gt-LINK_LIMIT.false
 
 same-length-3 : tie.Need-shape_of-table
 same-length-3 c = search rules
@@ -53,7 +53,7 @@ returns_3 c =
     let w = c.before.before.before in
     let i = w.before.before.before in
     let s = i.before.before.before.before in
-    added_indexed s.args.table.now s.args.store.now s.args.buckets s.args.words s.args.k s.args.text.now s.requires i.before.if-k-lt4.false i.if-words-gt-LINK_LIMIT.false
+    added_indexed s.args.table.now s.args.store.now s.args.buckets s.args.words s.args.k s.args.text.now s.requires i.if-k-lt4.false i.if-words-gt-LINK_LIMIT.false
     w.add_word.ensures
 
 pub add_text_spec : {M : Type 1} → statement M

@@ -13,7 +13,7 @@ returns c =
 scan-words-requires : tie.Need-scan_words-requires
 scan-words-requires c κs =
     let s = c.before.before.before.before in
-    (s.requires.room c.before.if-words-le4.false, s.requires.short)
+    (s.requires.room c.if-words-le4.false, s.requires.short)
 
 returns_2 : tie.Need-returns-then-words-gt-LINK_LIMIT
 returns_2 c = search rules
@@ -21,12 +21,12 @@ returns_2 c = search rules
 find-word-requires : tie.Need-find_word-requires
 find-word-requires c κs =
     let s = c.before.before.before.before in
-    (s.args.words, s.requires.index c.before.if-words-le4.false c.if-words-gt-LINK_LIMIT.false)
+    (s.args.words, s.requires.index c.if-words-le4.false c.if-words-gt-LINK_LIMIT.false)
 
 returns_3 : tie.Need-returns
 returns_3 c =
     let s = c.before.before.before.before.before in
-    c.find_word.ensures s.args.words (s.requires.index c.before.before.if-words-le4.false c.before.if-words-gt-LINK_LIMIT.false)
+    c.find_word.ensures s.args.words (s.requires.index c.if-words-le4.false c.if-words-gt-LINK_LIMIT.false)
 
 pub find_text_spec : {M : Type 1} → statement M
 find_text_spec =

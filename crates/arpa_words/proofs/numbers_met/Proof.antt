@@ -21,7 +21,7 @@ loop-holds : tie.Need-loop-j-init invariant-loop decreases-loop
 loop-holds c = let s = c.before.before in numbered-start (number_met (texts_from s.args.store.now 1 (s.args.words - 1))) s.args.text.now s.args.m s.requires.1
 
 part-end-requires : tie.Need-part_end-end-requires invariant-loop decreases-loop
-part-end-requires c κs = c.before.loop-j.invariant.place c.loop-j-test.true
+part-end-requires c κs = c.loop-j.invariant.place c.loop-j-test.true
 
 sub-number-met : tie.Need-slice_bounds-number_met-count invariant-loop decreases-loop
 sub-number-met c = let e = c.part_end-end.ensures.0 in omega arith
@@ -32,7 +32,7 @@ part-number-met-start c = let e = c.part_end-end.ensures.0 in omega arith
 part-number-met-end : tie.Need-slice_bounds-number_met-end invariant-loop decreases-loop
 part-number-met-end c =
     let l = c.before.before in
-    let text = l.before.before.before.args.text.now in
+    let text = l.args.text.now in
     let w = c.part_end-end.ensures.1 in
     let g = length-drop l.loop-j.at text in
     omega arith
@@ -67,7 +67,7 @@ mul-numbers c = search rules
 array-write-numbers : tie.Need-bounds-numbers-j invariant-loop decreases-loop
 array-write-numbers c =
     let i = c.before.before.before.before in
-    let few = i.before.before.before.before.requires.2 in
+    let few = i.requires.2 in
     let l = i.loop-j-test.true in
     omega arith
 

@@ -29,7 +29,7 @@ returns : tie.Need-returns-then-same_text invariant-loop decreases-loop
 returns c =
     let l = c.before.before.before in
     let s = l.before.before.before in
-    sym (l.loop-k.invariant.1 ∙ scan-found s.args.store.now s.args.text.now s.args.words l.loop-k.k c.before.before.loop-k-test.true (sym c.before.same_text.ensures ∙ c.if-same_text.true))
+    sym (l.loop-k.invariant.1 ∙ scan-found s.args.store.now s.args.text.now s.args.words l.loop-k.k c.loop-k-test.true (sym c.same_text.ensures ∙ c.if-same_text.true))
 
 add-k : tie.Need-overflow_add-k invariant-loop decreases-loop
 add-k c = search rules
@@ -43,7 +43,7 @@ loop-again c =
     let s = l.before.before.before in
     let a = l.loop-k.invariant.0 in (
       omega arith,
-      l.loop-k.invariant.1 ∙ scan-next s.args.store.now s.args.text.now s.args.words l.loop-k.k c.before.before.loop-k-test.true (sym c.before.same_text.ensures ∙ c.if-same_text.false),
+      l.loop-k.invariant.1 ∙ scan-next s.args.store.now s.args.text.now s.args.words l.loop-k.k c.loop-k-test.true (sym c.same_text.ensures ∙ c.if-same_text.false),
     )
 
 returns_2 : tie.Need-returns invariant-loop decreases-loop

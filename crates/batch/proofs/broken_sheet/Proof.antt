@@ -25,7 +25,7 @@ same-length_2 c = search rules
 returns : tie.Need-returns
 returns c =
     let k = c.before.before.before.before in
-    let last-is = k.before.before.before.last_end-last.ensures in
+    let last-is = k.last_end-last.ensures in
     (c.refused.ensures, (rw (sym last-is) k.clear.ensures.0, rw (sym last-is) k.clear.ensures.1))
 
 pub broken_sheet_spec : {M : Type 1} → statement M

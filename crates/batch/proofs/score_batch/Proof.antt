@@ -35,7 +35,7 @@ returns : tie.Need-returns-then-early-ne0
 returns c =
     let k = c.before.before.before in
     let s = start k in
-    means s _ (early_outcome (array s) s.args.ends.now (asked s) k.early_refusal-early.result k.early_refusal-early.ensures c.before.if-early-ne0.true c.refused.result c.refused.ensures)
+    means s _ (early_outcome (array s) s.args.ends.now (asked s) k.early_refusal-early.result k.early_refusal-early.ensures c.if-early-ne0.true c.refused.result c.refused.ensures)
 
 score-sheet-requires : tie.Need-score_sheet-requires
 score-sheet-requires c κs =
@@ -45,10 +45,10 @@ score-sheet-requires c κs =
     none-met (array s) s.args.ends.now (asked s) k.early_refusal-early.result k.early_refusal-early.ensures t.if-early-ne0.false
 
 same_length : tie.Need-shape_of-points
-same_length c = c.before.before.before.score_sheet.auto.1.1.1.1.0
+same_length c = c.score_sheet.auto.points
 
 same-length_2 : tie.Need-shape_of-lengths
-same-length_2 c = c.before.before.before.score_sheet.auto.1.1.1.1.1.0
+same-length_2 c = c.score_sheet.auto.lengths
 
 returns_2 : tie.Need-returns
 returns_2 c =

@@ -24,10 +24,10 @@ table-fits-requires c κs = search rules
 returns : tie.Need-returns-then-not-table_fits
 returns c =
     let s = c.before.before.before in
-    answers _ _ _ _ (outcome_table _ _ _ _ (sym c.before.table_fits.ensures ∙ not-true _ c.if-not-table_fits.true))
+    answers _ _ _ _ (outcome_table _ _ _ _ (sym c.table_fits.ensures ∙ c.if-not-table_fits.true))
 
-fits : (c : tie.Else-not-table_fits) → table_fits (length c.before.before.before.args.table.now) ≡ true
-fits c = sym c.before.table_fits.ensures ∙ not-false _ c.if-not-table_fits.false
+fits : (c : tie.Else-not-table_fits) → table_fits (length c.args.table.now) ≡ true
+fits c = sym c.table_fits.ensures ∙ c.if-not-table_fits.false
 
 abbrev passed : tie.After-sizes_ok → tie.Else-not-table_fits
 passed c = c.before.before.before
@@ -58,7 +58,7 @@ abbrev sized : tie.After-sizes_ok → Bool
 sized c = sizes c && leb (rows c) (items c)
 
 bad_sizes : (c : tie.Then-not-sizes_ok) → sized c.before ≡ false
-bad_sizes c = rw (sym c.before.sizes_ok.ensures ∙ not-true _ c.if2.true)
+bad_sizes c = rw (sym c.sizes_ok.ensures ∙ c.if-not-sizes_ok.true)
 
 short-work : (c : tie.Then-work-rows) → sized c.before.before ≡ false
 unfolding rows_of
@@ -68,7 +68,7 @@ good-sizes : (c : tie.Else-work-rows) → sized c.before.before ≡ true
 unfolding rows_of
 good-sizes c =
     let k = c.before.before in
-    and_both (sizes k) (leb (rows k) (items k)) (sym k.sizes_ok.ensures ∙ not-false _ c.before.if2.false)
+    and_both (sizes k) (leb (rows k) (items k)) (sym k.sizes_ok.ensures ∙ c.if-not-sizes_ok.false)
     (le-leb (rows k) (items k) (ltb-false (items k) (rows k) c.if-work-rows.false))
 
 returns_2 : tie.Need-returns-then-not-sizes_ok
@@ -76,26 +76,26 @@ returns_2 c =
     let k = c.before in
     answers _ _ _ _
     (outcome_sizes _ _ _ _ (fits (passed k))
-    (⊎_elim (λ v. bad_sizes (record { before = k; if2 = v })) (λ v. short-work (record { before = record { before = k; if2 = v.0 }; if3 = v.1 })) c.if2.branch))
+    (⊎_elim (λ v. bad_sizes (record { before = k; if2 = v })) (λ v. short-work (record { before = record { before = k; if2 = v.0 }; if3 = v.1 })) c.then-not-sizes_ok.branch-raw))
 
 slice-relend-prefix-check-and-place : tie.Need-slice_bounds-check_and_place-end
-slice-relend-prefix-check-and-place c = ltb-false _ _ c.before.before.if-work-rows.false
+slice-relend-prefix-check-and-place c = ltb-false _ _ c.if-work-rows.false
 
 slice-aggregate-check-and-place : tie.Need-slice_bounds-check_and_place-end-2
-slice-aggregate-check-and-place c = sym (length-take-le _ _ (ltb-false _ _ c.before.before.before.if-work-rows.false))
+slice-aggregate-check-and-place c = sym (length-take-le _ _ (ltb-false _ _ c.if-work-rows.false))
 
 check-and-place-requires : tie.Need-check_and_place-requires
 unfolding rows_of
 check-and-place-requires c κs =
     let e = c.before.before.before in
     let k = e.before.before in
-    (fits (passed k), sym k.sizes_ok.ensures ∙ not-false _ e.before.if2.false, length-take-le _ _ (ltb-false _ _ e.if-work-rows.false))
+    (fits (passed k), sym k.sizes_ok.ensures ∙ e.if-not-sizes_ok.false, length-take-le _ _ (ltb-false _ _ e.if-work-rows.false))
 
 same-length-3 : tie.Need-shape_of-base
-same-length-3 c = c.before.before.before.before.check_and_place.auto.1.0
+same-length-3 c = c.check_and_place.auto.base
 
 same-length-4 : tie.Need-shape_of-check
-same-length-4 c = c.before.before.before.before.check_and_place.auto.1.1.0
+same-length-4 c = c.check_and_place.auto.check
 
 same-length-5 : tie.Need-shape_of-work
 same-length-5 c = search rules

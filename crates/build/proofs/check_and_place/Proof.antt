@@ -34,24 +34,24 @@ check-and-mark-requires : tie.Need-check_and_mark-verdict-requires
 check-and-mark-requires c κs = lent_none (rows c.before.before) row_limit
 
 enum_told : tie.Need-enum_told-1
-enum_told c = c.match.keys1
+enum_told c = c.in-Accepted-1.keys1
 
 enum-told-2 : tie.Need-enum_told-in_default
-enum-told-2 c = c.match.keys2
+enum-told-2 c = c.in_default-1.keys2
 
 returns : tie.Need-returns-in_default
-returns c = let m = c.before.before.before in outcome_rows _ _ _ _ m.check_and_mark-verdict.ensures.0 c.enum_told-in_default-1.given.1
+returns c = let m = c.before.before in outcome_rows _ _ _ _ m.check_and_mark-verdict.ensures.0 c.in_default.is
 
 abbrev start : tie.After-check_and_mark-verdict → tie.Start
 start m = m.before.before.before
 
 -- the marks that the check left
 abbrev marks : tie.After-check_and_mark-verdict → List Bool
-marks m = m.check_and_mark-verdict.new.1.1.0
+marks m = m.check_and_mark-verdict.new.marks
 
 -- they are as many as were lent
 kept : (m : tie.After-check_and_mark-verdict) → length (marks m) ≡ length (take (rows (start m)) (replicate row_limit false))
-kept m = m.check_and_mark-verdict.auto.1.1.0
+kept m = m.check_and_mark-verdict.auto.marks
 
 many : (m : tie.After-check_and_mark-verdict) → length (marks m) ≡ rows (start m)
 many m = kept m ∙ lent_length (rows (start m)) row_limit (few (start m))
@@ -61,33 +61,33 @@ left m = back (rows (start m)) row_limit (few (start m)) (marks m) (kept m)
 
 array-share-prefix-marks : tie.Need-slice_bounds-marks-end-2
 array-share-prefix-marks c =
-    let m = c.before.before.before.before.before in
+    let m = c.before.before.before.before in
     back_fit (rows (start m)) row_limit (few (start m)) (marks m) (kept m)
 
 slice-aggregate-place-list : tie.Need-slice_bounds-place_list-end
-slice-aggregate-place-list c = let m = c.before.before.before.before.before.before in sym (ap length (left m) ∙ many m)
+slice-aggregate-place-list c = let m = c.before.before.before.before.before in sym (ap length (left m) ∙ many m)
 
-accepted : (e : tie.In-Accepted) → verdict (start e.before.before.before).args.table.now ≡ Accepted
-accepted e = sym e.before.before.before.check_and_mark-verdict.ensures.0 ∙ e.enum_told-1.given.1
+accepted : (e : tie.In-Accepted) → verdict (start e.before.before).args.table.now ≡ Accepted
+accepted e = sym e.check_and_mark-verdict.ensures.0 ∙ e.in-Accepted.is
 
 place-list-requires : tie.Need-place_list-requires
 unfolding continued_in
 place-list-requires c κs =
     let e = c.before.before.before.before in
-    let m = e.before.before.before in
+    let m = e.before.before in
     let s = start m in
     let each = many m ∙ s.requires.2 in
     subst (λ (l : List Bool). Passed s.args.table.now s.args.base.now s.args.check.now l s.args.work.now) (sym (left m))
-    (record { accepted = accepted e; sizes = s.requires.1; each = s.requires.2; flags = record { each = each; mark = λ j l. m.check_and_mark-verdict.ensures.1 e.enum_told-1.given.1 j l (omega (arith, each)) } })
+    (record { accepted = accepted e; sizes = s.requires.1; each = s.requires.2; flags = record { each = each; mark = λ j l. m.check_and_mark-verdict.ensures.1 e.in-Accepted.is j l (omega (arith, each)) } })
 
 same_length : tie.Need-shape_of-base
-same_length c = c.before.before.before.before.place_list.auto.1.0
+same_length c = c.place_list.auto.base
 
 same-length_2 : tie.Need-shape_of-check
-same-length_2 c = c.before.before.before.before.place_list.auto.1.1.0
+same-length_2 c = c.place_list.auto.check
 
 same-length-3 : tie.Need-shape_of-work
-same-length-3 c = c.before.before.before.before.place_list.auto.1.1.1.1.0
+same-length-3 c = c.place_list.auto.work
 
 returns_2 : tie.Need-returns
 returns_2 c = let p = c.before.before.before.before in rw (accepted p.before.before.before.before.before) p.place_list.ensures

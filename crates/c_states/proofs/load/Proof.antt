@@ -36,18 +36,18 @@ shared-slice-copy-out-t20 c = search rules
 returns : tie.Need-returns
 unfolding numbers_of
 returns c =
-    let l = c.before.before.before.before.before.before.before.before.before.args.numbers.now in
+    let l = c.args.numbers.now in
     equal_nine
-    (read_back c.before.before.before.before.before.before.before.before.result-1.given)
-    (read_back c.before.before.before.before.before.before.before.result-2-1.given)
-    (read_back c.before.before.before.before.before.before.result-3-1.given)
-    (read_back c.before.before.before.before.before.result-4-1.given)
-    (read_back c.before.before.before.before.result-5-1.given)
-    (read_back c.before.before.before.result-6-1.given)
-    (read_back c.before.before.result-7-1.given)
-    (read_back c.before.result-8-1.given)
+    (read_back c.result-1.given)
+    (read_back c.result-2-1.given)
+    (read_back c.result-3-1.given)
+    (read_back c.result-4-1.given)
+    (read_back c.result-5-1.given)
+    (read_back c.result-6-1.given)
+    (read_back c.result-7-1.given)
+    (read_back c.result-8-1.given)
     (read_back c.result-9-1.given)
-    ∙ items-drop 0 9 l c.before.before.before.before.before.before.before.before.before.requires
+    ∙ items-drop 0 9 l c.requires
 
 pub load_spec : {M : Type 1} → statement M
 load_spec =

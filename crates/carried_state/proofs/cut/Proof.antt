@@ -51,42 +51,42 @@ loop-less c = search rules
 
 loop-again : tie.Need-loop-i-preserved invariant-loop decreases-loop
 loop-again c =
-    let l = c.before.before.loop-i in (
+    let l = c.loop-i in (
       search rules,
       rw add-one
           (⊎_elim
-          (λ w. w.1 ∙ rw l.invariant.1 (cut-set l.i _ _ w.0.true (omega arith)))
-          (λ w. w.1 ∙ l.invariant.1 ∙ cut-kept l.i _ _ w.0.left)
-          c.if-kept-i.branch),
+          (λ w. w.part-is ∙ rw l.invariant.1 (cut-set l.i _ _ w.if-kept-i.true (omega arith)))
+          (λ w. w.part-is ∙ l.invariant.1 ∙ cut-kept l.i _ _ w.if-kept-i.false)
+          c.if-kept-i.branch-raw),
     )
 
 -- the part as it begins: the first four of the items
 abbrev begun : tie.After-part-4-1 invariant-loop decreases-loop → List ℤ
 begun c =
-    let l = c.before.before.before.before.args.t1 in
+    let l = c.args.items in
     to_z w32 (of_z w32 (get_or l 0 (pos 0))) ∷ to_z w32 (of_z w32 (get_or l 1 (pos 0))) ∷ to_z w32 (of_z w32 (get_or l 2 (pos 0))) ∷ to_z w32 (of_z w32 (get_or l 3 (pos 0))) ∷ []
 
-begun-is : (c : tie.After-part-4-1 invariant-loop decreases-loop) → begun c ≡ take 4 c.before.before.before.before.args.t1
+begun-is : (c : tie.After-part-4-1 invariant-loop decreases-loop) → begun c ≡ take 4 c.args.items
 begun-is c =
     let s = c.before.before.before.before in
-    let n : length s.args.t1 ≡ 5 = search rules in
-    let e : SFits w32 (get_or s.args.t1 0 (pos 0)) = sfits_of c.before.before.before.part-1.given in
-    let f : SFits w32 (get_or s.args.t1 1 (pos 0)) = sfits_of c.before.before.part-2-1.given in
-    let g : SFits w32 (get_or s.args.t1 2 (pos 0)) = sfits_of c.before.part-3-1.given in
-    let h : SFits w32 (get_or s.args.t1 3 (pos 0)) = sfits_of c.part-4-1.given in
-    rw (to_z-of_z e, to_z-of_z f, to_z-of_z g, to_z-of_z h) (first-four s.args.t1 (omega arith))
+    let n : length s.args.items ≡ 5 = search rules in
+    let e : SFits w32 (get_or s.args.items 0 (pos 0)) = sfits_of c.part-1.given in
+    let f : SFits w32 (get_or s.args.items 1 (pos 0)) = sfits_of c.part-2-1.given in
+    let g : SFits w32 (get_or s.args.items 2 (pos 0)) = sfits_of c.part-3-1.given in
+    let h : SFits w32 (get_or s.args.items 3 (pos 0)) = sfits_of c.part-4-1.given in
+    rw (to_z-of_z e, to_z-of_z f, to_z-of_z g, to_z-of_z h) (first-four s.args.items (omega arith))
 
 returns : tie.Need-returns invariant-loop decreases-loop
 returns c =
     let t = c.before.before in
-    let a = t.before.before.before.before.args in
-    let l = c.before.loop-i in
+    let a = t.args in
+    let l = c.loop-i in
     let e : l.i ≡ 4 = omega arith in
     l.invariant.1
     ∙ ap (λ (i : ℕ). cut_to i a.kept (begun t)) e
     ∙ cut-padded a.kept (begun t)
     ∙ ap (λ (p : List ℤ). padded 4 (take a.kept p)) (begun-is t)
-    ∙ padded-within 4 a.kept a.t1
+    ∙ padded-within 4 a.kept a.items
 
 pub cut_spec : {M : Type 1} → statement M
 cut_spec =

@@ -22,11 +22,11 @@ use Rattle.carried_state.proofs.key_of.Statement.{statement}
 use Rattle.carried_state.proofs.key_of.Tie as tie
 
 abbrev word : tie.Start → ℕ → ℤ
-word s i = get_or s.args.t1 i (pos 0)
+word s i = get_or s.args.words i (pos 0)
 
 in_words : (s : tie.Start) (i : ℕ) → between (pos 0) (pos word_limit) (word s i) ≡ true
 unfolding between
-in_words s i = sym (get_or-map (between (pos 0) (pos word_limit)) s.args.t1 i (pos 0)) ∙ passed (map (between (pos 0) (pos word_limit)) s.args.t1) i s.requires
+in_words s i = sym (get_or-map (between (pos 0) (pos word_limit)) s.args.words i (pos 0)) ∙ passed (map (between (pos 0) (pos word_limit)) s.args.words) i s.requires
 
 -- a word as it was read
 read : (s : tie.Start) (i : ℕ) → SFits w32 (word s i) → nat_abs (to_z w32 (of_z w32 (word s i))) ≡ nat_abs (word s i)
@@ -84,7 +84,7 @@ returns : tie.Need-returns
 returns c =
     let d = c.before in
     let s = d.before.before.before.before in
-    let l = s.args.t1 in
+    let l = s.args.words in
     let n : length l ≡ 4 = search rules in
     let e : word s 0 ∷ word s 1 ∷ word s 2 ∷ word s 3 ∷ [] ≡ l = first-four l (omega arith) ∙ take_all 4 l (omega arith) in
     cc (c.key_of_four.ensures, read s 0 (a_fits d.before.before.before), read s 1 (b-fits d.before.before), read s 2 (c-fits d.before), read s 3 (d_fits d), ap (λ (m : List ℤ). key (map nat_abs m)) e)

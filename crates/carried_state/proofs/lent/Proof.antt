@@ -27,11 +27,11 @@ array-copy-out-t14 c = search rules
 
 returns : tie.Need-returns
 returns c =
-    let l = c.before.before.before.before.before.args.state.backoffs-1 in
+    let l = c.args.state.backoffs in
     let n : length l ≡ 4 = search rules in
-    let e : SFits w32 (get_or l 0 (pos 0)) = sfits_of c.before.before.before.result-1.given in
-    let f : SFits w32 (get_or l 1 (pos 0)) = sfits_of c.before.before.result-2-1.given in
-    let g : SFits w32 (get_or l 2 (pos 0)) = sfits_of c.before.result-3-1.given in
+    let e : SFits w32 (get_or l 0 (pos 0)) = sfits_of c.result-1.given in
+    let f : SFits w32 (get_or l 1 (pos 0)) = sfits_of c.result-2-1.given in
+    let g : SFits w32 (get_or l 2 (pos 0)) = sfits_of c.result-3-1.given in
     let h : SFits w32 (get_or l 3 (pos 0)) = sfits_of c.result-4-1.given in
     rw (to_z-of_z e, to_z-of_z f, to_z-of_z g, to_z-of_z h)
     (ap (λ (m : List ℤ). m ++ (pos 0 ∷ [])) (first-four l (omega arith) ∙ take_all 4 l (omega arith)))

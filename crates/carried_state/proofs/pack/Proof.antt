@@ -15,11 +15,11 @@ key-of-requires c κs = search rules
 sum-of-requires : tie.Need-sum_of-owed-requires
 sum-of-requires c κs = search rules
 
-count_fits : (c : tie.After-struct_told-1) → SFits w32 c.before.before.before.before.before.before.args.state.count
+count_fits : (c : tie.After-struct_told-1) → SFits w32 c.args.state.count
 count_fits c = search rules
 
 cast-t6 : tie.Need-overflow_cast-result
-cast-t6 c = to_nat tt (count_fits c) c.before.before.before.before.before.before.requires.0
+cast-t6 c = to_nat tt (count_fits c) c.requires.0
 
 returns : tie.Need-returns
 returns c =

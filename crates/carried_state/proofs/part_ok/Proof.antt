@@ -34,7 +34,7 @@ mul-item c = search rules
 array-copy-out-item : tie.Need-bounds-items-i invariant-loop decreases-loop
 array-copy-out-item c = search rules
 
-four : (s : tie.Start invariant-loop decreases-loop) → length s.args.t1 ≡ 4
+four : (s : tie.Start invariant-loop decreases-loop) → length s.args.items ≡ 4
 four s = search rules
 
 -- the range as the code has it, and as the contract does
@@ -52,24 +52,24 @@ eq_z-sym a b = go (eq_z b a) refl
     go false e = omega zarith
 
 -- the check goes on by the test of the item that was read
-turn : (c : tie.Joined-i-count invariant-loop decreases-loop) → part_ok (range c.before.before.before.before) c.before.before.before.before.args.count c.before.before.before.before.args.t1 ≡ (c.if-i-count.type_inv && part_ok (range c.before.before.before.before) (c.before.before.before.before.args.count - (c.before.before.before.loop-i.i + 1)) (drop (c.before.before.before.loop-i.i + 1) c.before.before.before.before.args.t1))
+turn : (c : tie.Joined-i-count invariant-loop decreases-loop) → part_ok (range c.before.before.before.before) c.args.count c.args.items ≡ (c.if-i-count.ok && part_ok (range c.before.before.before.before) (c.args.count - (c.loop-i.i + 1)) (drop (c.loop-i.i + 1) c.args.items))
 unfolding between
 turn c =
     let s = c.before.before.before.before in
-    let l = c.before.before.before.loop-i in
-    let x = get_or s.args.t1 l.i (pos 0) in
-    let f : SFits w32 x = sfits_of c.before.item-1.given in
+    let l = c.loop-i in
+    let x = get_or s.args.items l.i (pos 0) in
+    let f : SFits w32 x = sfits_of c.item-1.given in
     let h = four s in
     l.invariant.1
-    ∙ part_on (range s) s.args.count l.i s.args.t1 c.if-i-count.type_inv
-    (λ k. ⊎_elim (λ w. sym (rw (to_z-of_z f) at w.1)) (λ w. absurd (omega (arith, w.0.left))) c.if-i-count.branch)
-    (λ k. ⊎_elim (λ w. absurd (omega (arith, w.0.true))) (λ w. eq_z-sym (pos 0) x ∙ sym (w.1 ∙ bits_test {b = pos 0} f (sfits_lit tt))) c.if-i-count.branch)
+    ∙ part_on (range s) s.args.count l.i s.args.items c.if-i-count.ok
+    (λ k. ⊎_elim (λ w. sym (rw (to_z-of_z f) at w.ok-is)) (λ w. absurd (omega (arith, w.if-i-count.false))) c.if-i-count.branch-raw)
+    (λ k. ⊎_elim (λ w. absurd (omega (arith, w.if-i-count.true))) (λ w. eq_z-sym (pos 0) x ∙ sym (w.ok-is ∙ bits_test {b = pos 0} f (sfits_lit tt))) c.if-i-count.branch-raw)
     (omega arith)
 
 returns : tie.Need-returns-then-not-ok invariant-loop decreases-loop
 returns c =
     let s = c.before.before.before.before.before in
-    sym (rw (not-true c.before.if-i-count.type_inv c.if-not-ok.true, range_is s) at (turn c.before))
+    sym (rw (c.if-not-ok.true, range_is s) at (turn c.before))
 
 add-i : tie.Need-overflow_add-i invariant-loop decreases-loop
 add-i c = search rules
@@ -78,14 +78,14 @@ loop-less : tie.Need-loop-i-smaller invariant-loop decreases-loop
 loop-less c = search rules
 
 loop-again : tie.Need-loop-i-preserved invariant-loop decreases-loop
-loop-again c = (search rules, rw (not-false c.before.if-i-count.type_inv c.if-not-ok.false) at (turn c.before))
+loop-again c = (search rules, rw c.if-not-ok.false at (turn c.before))
 
 returns_2 : tie.Need-returns invariant-loop decreases-loop
 returns_2 c =
     let s = c.before.before in
-    let l = c.before.loop-i in
+    let l = c.loop-i in
     let h = four s in
-    sym (rw (range_is s) at (l.invariant.1 ∙ part_done (range s) s.args.count l.i s.args.t1 (omega arith)))
+    sym (rw (range_is s) at (l.invariant.1 ∙ part_done (range s) s.args.count l.i s.args.items (omega arith)))
 
 pub part_ok_spec : {M : Type 1} → statement M
 part_ok_spec =

@@ -18,7 +18,7 @@ use Rattle.carried_state.proofs.state_ok.Tie as tie
 four : (s : tie.Start) → Four s.args.state
 four s = record { words = search rules; backoffs = search rules }
 
-count_fits : (c : tie.After-struct_told-1) → SFits w32 c.before.before.args.state.count
+count_fits : (c : tie.After-struct_told-1) → SFits w32 c.args.state.count
 count_fits c = search rules
 
 returns : tie.Need-returns-then-state-lt0
@@ -29,7 +29,7 @@ returns c =
     let e : lt_z z (pos 0) ≡ true = omega zarith in
     rw (state_ok-parts s.args.state (four s) s.args.order, between-below (pos 0) (pos (s.args.order - 1)) z e)
 
-count_low : (c : tie.Else-state-lt0) → pos 0 ≤ℤ c.before.before.before.args.state.count
+count_low : (c : tie.Else-state-lt0) → pos 0 ≤ℤ c.args.state.count
 count_low c = let f = count_fits c.before in omega zarith
 
 cast-count : tie.Need-overflow_cast-count
@@ -47,7 +47,7 @@ returns_2 c =
     let e = c.before.before.before.before.before.before in
     let s = e.before.before.before in
     let l = count_low e in
-    rw (c.before.part_ok-words_ok.ensures, c.part_ok-backoffs_ok.ensures, to_z-of_z (count_fits e.before), state_ok-parts s.args.state (four s) s.args.order, between-count s.args.order s.args.state.count l s.requires)
+    rw (c.part_ok-words_ok.ensures, c.part_ok-backoffs_ok.ensures, to_z-of_z (count_fits e.before), state_ok-parts s.args.state (four s) s.args.order, between-count s.args.order s.args.state.count l s.requires)
     (simp and_assoc)
 
 pub state_ok_spec : {M : Type 1} → statement M

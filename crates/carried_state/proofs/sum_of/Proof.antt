@@ -41,7 +41,7 @@ abbrev decreases-loop : tie.decreases-loop-i
 decreases-loop backoffs owed₀ i₀ owed i = 4 - i
 
 loop-holds : tie.Need-loop-i-init invariant-loop decreases-loop
-loop-holds c = record { at = omega arith; rest = +ℤ_idl (sum c.args.t1); small = omega arith }
+loop-holds c = record { at = omega arith; rest = +ℤ_idl (sum c.args.backoffs); small = omega arith }
 
 mul-owed : tie.Need-offset_bounds-backoffs-i invariant-loop decreases-loop
 mul-owed c = search rules
@@ -49,24 +49,24 @@ mul-owed c = search rules
 array-copy-out-owed : tie.Need-bounds-backoffs-i invariant-loop decreases-loop
 array-copy-out-owed c = search rules
 
-four : (c : tie.Start invariant-loop decreases-loop) → length c.args.t1 ≡ 4
+four : (c : tie.Start invariant-loop decreases-loop) → length c.args.backoffs ≡ 4
 four c = search rules
 
 -- the back-off that was read
 abbrev x : tie.After-owed-1 invariant-loop decreases-loop → ℤ
-x c = get_or c.before.before.before.args.t1 c.before.before.loop-i.i (pos 0)
+x c = get_or c.args.backoffs c.loop-i.i (pos 0)
 
 x_fits : (c : tie.After-owed-1 invariant-loop decreases-loop) → SFits w32 (x c)
 x_fits c = sfits_of c.owed-1.given
 
-added : (c : tie.After-owed-1 invariant-loop decreases-loop) → Adding c.before.before.before.args.t1 (to_z w32 c.before.before.loop-i.owed +ℤ x c) (c.before.before.loop-i.i + 1)
+added : (c : tie.After-owed-1 invariant-loop decreases-loop) → Adding c.args.backoffs (to_z w32 c.loop-i.owed-bits +ℤ x c) (c.loop-i.i + 1)
 added c =
     let s = c.before.before.before in
-    let l = c.before.before.loop-i in
-    more (four s) (each-in_backoff s.args.t1 s.requires l.i) c.before.loop-i-test.true l.invariant
+    let l = c.loop-i in
+    more (four s) (each-in_backoff s.args.backoffs s.requires l.i) c.loop-i-test.true l.invariant
 
 add-owed : tie.Need-overflow_add-owed invariant-loop decreases-loop
-add-owed c = let f = x_fits c in omega (zarith, (added c).small, (added c).at, abs (to_z w32 c.before.before.loop-i.owed +ℤ x c), add (to_z w32 c.before.before.loop-i.owed) (x c))
+add-owed c = let f = x_fits c in omega (zarith, (added c).small, (added c).at, abs (to_z w32 c.loop-i.owed-bits +ℤ x c), add (to_z w32 c.loop-i.owed-bits) (x c))
 
 add-i : tie.Need-overflow_add-i invariant-loop decreases-loop
 add-i c = search rules
@@ -80,9 +80,9 @@ loop-again c = rw (to_z-of_z (add-owed c), to_z-of_z (x_fits c)) (added c)
 returns : tie.Need-returns invariant-loop decreases-loop
 returns c =
     let s = c.before.before in
-    let l = c.before.loop-i in
+    let l = c.loop-i in
     let f = four s in
-    sym (+ℤ_idr (to_z w32 l.owed-1)) ∙ ap (λ (bs : List ℤ). to_z w32 l.owed-1 +ℤ sum bs) (sym (drop_of_length-le s.args.t1 {i = l.i} (omega arith))) ∙ l.invariant.rest
+    sym (+ℤ_idr (to_z w32 l.owed-bits)) ∙ ap (λ (bs : List ℤ). to_z w32 l.owed-bits +ℤ sum bs) (sym (drop_of_length-le s.args.backoffs {i = l.i} (omega arith))) ∙ l.invariant.rest
 
 pub sum_of_spec : {M : Type 1} → statement M
 sum_of_spec =

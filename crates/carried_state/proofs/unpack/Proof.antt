@@ -60,7 +60,7 @@ returns c =
     let s = t.before in
     let count = s.args.carried.count in
     let n = s.args.carried.words in
-    rw (to_z_pos w32 {n = count} (omega arith), t.cut-words.ensures, c.before.cut-backoffs.ensures, row_is n, row_words_lem count n s.requires, length-take-le count (digits 4 n) (omega (arith, s.requires, length_digits 4 n)))
+    rw (to_z_pos w32 {n = count} (omega arith), t.cut-words.ensures, c.cut-backoffs.ensures, row_is n, row_words_lem count n s.requires, length-take-le count (digits 4 n) (omega (arith, s.requires, length_digits 4 n)))
 
 pub unpack_spec : {M : Type 1} → statement M
 unpack_spec =

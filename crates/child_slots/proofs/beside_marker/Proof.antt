@@ -28,11 +28,11 @@ abbrev behind : tie.Start → Child
 behind s = cond (ltb s.args.w s.args.d) (owned_by s.args.check.now s.args.s (child_slot true s.args.d s.args.w)) Nothing
 
 -- the slot ahead decides where it is a child's
-ahead : (c : tie.After-owned_by) (r : Child) → c.owned_by.result ≡ r → on_either_side c.before.args.check.now c.before.args.s c.before.args.d c.before.args.w ≡ or_else r (behind c.before)
+ahead : (c : tie.After-owned_by) (r : Child) → c.owned_by.result ≡ r → on_either_side c.args.check.now c.args.s c.args.d c.args.w ≡ or_else r (behind c.before)
 ahead c r e = ap (λ (k : Child). or_else k (behind c.before)) (sym c.owned_by.ensures ∙ e)
 
 returns : tie.Need-returns-in-At
-returns c = sym (ahead c.before.before.before (At c.before.t-1.given.0.0) c.before.t-1.given.1)
+returns c = sym (ahead c.before (At c.in-At.t) c.in-At.is)
 
 slot-behind-requires : tie.Need-slot_behind-slot-requires
 slot-behind-requires c κs = search rules
@@ -43,7 +43,7 @@ slot-at-most false d w = omega arith
 
 owned-inside-requires : tie.Need-owned_inside-requires
 owned-inside-requires c κs =
-    let s = c.before.before.before.before in
+    let s = c.before.before.before in
     let low = slot-at-most (ltb s.args.w s.args.d) s.args.d s.args.w in
     (s.requires.0.0, omega (arith, c.slot_behind-slot.ensures, low, s.requires.0.1))
 
@@ -55,11 +55,11 @@ marker_in_place false s = s.requires.1
 returns_2 : tie.Need-returns
 returns_2 c =
     let b = c.before in
-    let s = b.before.before.before.before in
+    let s = b.before.before.before in
     c.owned_inside.ensures
     ∙ ap (owned_by s.args.check.now s.args.s) b.slot_behind-slot.ensures
     ∙ marker_in_place (ltb s.args.w s.args.d) s
-    ∙ sym (ahead b.before.before.before Nothing b.before.enum_told-1.given.1)
+    ∙ sym (ahead b.before.before Nothing b.in_default.is)
 
 pub beside_marker_spec : {M : Type 1} → statement M
 beside_marker_spec =

@@ -4,7 +4,7 @@ use Rattle.child_slots.proofs.child_slot.Statement.{statement}
 use Rattle.child_slots.proofs.child_slot.Tie as tie
 
 sub-result : tie.Need-overflow_sub-result
-sub-result c = c.before.requires.2 c.if-behind.true
+sub-result c = c.requires.2 c.if-behind.true
 
 add-result : tie.Need-overflow_add-result
 add-result c = search rules

@@ -51,7 +51,7 @@ d_fits c = sfits_of c.d-1.given
 abbrev low_test : tie.Start → Bool
 low_test s = leb 1 s.args.w && leb s.args.w word_limit && le_z (pos 1) (to_z w32 (of_z w32 (d s)))
 
-low-is : (c : tie.After-d-1) → (is_word c.before.args.w && le_z (pos 1) (d c.before)) ≡ low_test c.before
+low-is : (c : tie.After-d-1) → (is_word c.args.w && le_z (pos 1) (d c.before)) ≡ low_test c.before
 unfolding is_word
 low-is c = rw (to_z-of_z (d_fits c))
 
@@ -59,22 +59,22 @@ returns : tie.Need-returns-then-not-w-d
 unfolding child_at
 returns c =
     let s = c.before.before in
-    let e : (is_word s.args.w && le_z (pos 1) (d s)) ≡ false = low-is c.before ∙ not-true (low_test s) c.if-not-w-d.true in
+    let e : (is_word s.args.w && le_z (pos 1) (d s)) ≡ false = low-is c.before ∙ c.if-not-w-d.true in
     answers s (rw e)
 
-low-yes : (c : tie.Else-not-w-d) → (is_word c.before.before.args.w && le_z (pos 1) (d c.before.before)) ≡ true
-low-yes c = low-is c.before ∙ not-false (low_test c.before.before) c.if-not-w-d.false
+low-yes : (c : tie.Else-not-w-d) → (is_word c.args.w && le_z (pos 1) (d c.before.before)) ≡ true
+low-yes c = low-is c.before ∙ c.if-not-w-d.false
 
 base-yes : (c : tie.Else-not-w-d) → le_z (pos 1) (d c.before.before) ≡ true
-base-yes c = and_right (is_word c.before.before.args.w) (le_z (pos 1) (d c.before.before)) (low-yes c)
+base-yes c = and_right (is_word c.args.w) (le_z (pos 1) (d c.before.before)) (low-yes c)
 
 cast-on-either-side : tie.Need-overflow_cast-d
 cast-on-either-side c = let e = base-yes c in to_nat tt (d_fits c.before) (omega zarith)
 
-word-few : (c : tie.Else-not-w-d) → c.before.before.args.w ≤ word_limit
+word-few : (c : tie.Else-not-w-d) → c.args.w ≤ word_limit
 unfolding is_word
 word-few c =
-    let w = c.before.before.args.w in
+    let w = c.args.w in
     leb-true w word_limit (and_right (leb 1 w) (leb w word_limit) (and_left (is_word w) (le_z (pos 1) (d c.before.before)) (low-yes c)))
 
 on-either-side-requires : tie.Need-on_either_side-requires
@@ -84,7 +84,7 @@ on-either-side-requires c κs =
     (omega (arith, s.requires), simp (to_z-of_z f) (omega (zarith, fit f, abs (d s), base-yes c)), word-few c)
 
 -- the slots on either side decide
-sides : (c : tie.Else-not-w-d) → wanted c.before.before ≡ on_either_side c.before.before.args.check.now c.before.before.args.s (nat_abs (d c.before.before)) c.before.before.args.w
+sides : (c : tie.Else-not-w-d) → wanted c.before.before ≡ on_either_side c.args.check.now c.args.s (nat_abs (d c.before.before)) c.args.w
 unfolding child_at
 sides c = rw (low-yes c)
 

@@ -30,13 +30,13 @@ enum-known-t : tie.Need-enum_known-t
 enum-known-t c = search rules
 
 returns : tie.Need-returns-in-At
-returns c = sym (ahead c.before.before.before (At c.before.t-1.given.0.0) c.before.t-1.given.1)
+returns c = sym (ahead c.before (At c.in-At.t) c.in-At.is)
 
 enum_told : tie.Need-enum_told-1
 enum_told c = search rules
 
 returns_2 : tie.Need-returns-then-d-w
-returns_2 c = sym (ahead c.before.before.before Nothing c.before.enum_told-1.given.1 ∙ rw (le-ltb _ _ c.if-d-w.true))
+returns_2 c = sym (ahead c.before.before Nothing c.in_default.is ∙ rw (le-ltb _ _ c.if-d-w.true))
 
 sub-owned-by : tie.Need-overflow_sub-d
 sub-owned-by c = search rules
@@ -45,7 +45,7 @@ owned-by-requires-2 : tie.Need-owned_by-requires-2
 owned-by-requires-2 c κs = search rules
 
 returns_3 : tie.Need-returns
-returns_3 c = sym (ahead c.before.before.before.before Nothing c.before.before.enum_told-1.given.1 ∙ rw (lt-ltb _ _ c.before.if-d-w.false) (sym c.owned_by-2.ensures))
+returns_3 c = sym (ahead c.before.before.before Nothing c.in_default.is ∙ rw (lt-ltb _ _ c.if-d-w.false) (sym c.owned_by-2.ensures))
 
 pub on_either_side_spec : {M : Type 1} → statement M
 on_either_side_spec =

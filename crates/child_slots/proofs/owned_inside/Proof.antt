@@ -26,7 +26,7 @@ cast-if1 : tie.Need-overflow_cast-s
 cast-if1 c = search rules
 
 -- the test decides
-owner_test : (c : tie.After-t6-1) (v : Bool) → eqb (of_z w32 (get_or c.before.args.check.now c.before.args.t (pos 0))) c.before.args.s ≡ v → owned_by c.before.args.check.now c.before.args.s c.before.args.t ≡ cond v (At c.before.args.t) Nothing
+owner_test : (c : tie.After-t6-1) (v : Bool) → eqb (of_z w32 (get_or c.args.check.now c.args.t (pos 0))) c.args.s ≡ v → owned_by c.args.check.now c.args.s c.args.t ≡ cond v (At c.args.t) Nothing
 owner_test c v e =
     let s = c.before in
     let k = get_or s.args.check.now s.args.t (pos 0) in

@@ -19,7 +19,7 @@ cast-if1 : tie.Need-overflow_cast-t-3
 cast-if1 c = search rules
 
 returns : tie.Need-returns-then-w
-returns c = rw (too_large c.before.args.w c.if-w.true)
+returns c = rw (too_large c.args.w c.if-w.true)
 
 add-owned-by : tie.Need-overflow_add-w
 add-owned-by c = search rules
@@ -30,7 +30,7 @@ owned-by-requires c κs = search rules
 returns_2 : tie.Need-returns
 returns_2 c =
     let s = c.before.before in
-    c.owned_by.ensures ∙ sym (root_owned s.args.check.now s.args.w s.requires c.before.if-w.false)
+    c.owned_by.ensures ∙ sym (root_owned s.args.check.now s.args.w s.requires c.if-w.false)
 
 pub root_child_spec : {M : Type 1} → statement M
 root_child_spec = tie.close (tie.spec cast-if1 returns add-owned-by owned-by-requires returns_2)

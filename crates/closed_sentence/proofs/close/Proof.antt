@@ -19,7 +19,7 @@ run-passed-requires : tie.Need-run_passed-ran-requires
 run-passed-requires c κs = let s = c.before.before.before in (s.requires.0, (s.requires.1, (omega arith, (omega arith, omega arith))))
 
 returns : tie.Need-returns-then-ran-ne0
-returns c = closing_no c.before.before.before.before.run_passed-ran.ensures c.if-ran-ne0.true
+returns c = closing_no c.run_passed-ran.ensures c.if-ran-ne0.true
 
 array-read-t17 : tie.Need-bounds-lengths-0
 array-read-t17 c = search rules
@@ -27,7 +27,7 @@ array-read-t17 c = search rules
 returns_2 : tie.Need-returns
 returns_2 c =
     let k = c.before.before.before.before.before in
-    closing_yes k.run_passed-ran.ensures c.before.if-ran-ne0.false _ (to_z-of_z (sfits_of c.struct_told-1.given.1.1.0.1))
+    closing_yes k.run_passed-ran.ensures c.if-ran-ne0.false _ (to_z-of_z (sfits_of c.struct_told-1.given.1.1.0.1))
 
 pub close_spec : {M : Type 1} → statement M
 close_spec =

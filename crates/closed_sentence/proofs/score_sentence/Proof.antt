@@ -32,17 +32,17 @@ abbrev asked : tie.Start → Run
 asked s = record { words = s.args.words.now; points = s.args.points.now; lengths = s.args.lengths.now }
 
 abbrev answer : tie.After-run_passed-ran → Answer (List ℤ)
-answer k = answer_of k.run_passed-ran.result k.run_passed-ran.new.1.1.1.1.0 k.run_passed-ran.new.1.1.1.1.1.0
+answer k = answer_of k.run_passed-ran.result k.run_passed-ran.new.points k.run_passed-ran.new.lengths
 
 -- both totals are small
-words-total : (k : tie.After-run_passed-ran) → nat_abs k.run_passed-ran.result.total-1 ≤ run_total
+words-total : (k : tie.After-run_passed-ran) → nat_abs k.run_passed-ran.result.total ≤ run_total
 words-total k = let s = start k in run-answer_small s.args.base.now s.args.check.now (numbers_of s.args.started.state-1) (asked s) (answer k) k.run_passed-ran.ensures
 
-closing_total : (t : tie.In-Whole-2) → nat_abs t.total-1.given.0.0 ≤ run_total
+closing_total : (t : tie.In-Whole) → nat_abs t.in-Whole.total ≤ run_total
 closing_total t =
-    let k = ran t.before.before in
+    let k = ran t.before in
     let s = start k in
-    closing_small s.args.base.now s.args.check.now (numbers_of k.run_passed-ran.result.end-1) closing_run t.total-1.given.0.0 t.total-1.given.0.1.0 (sym t.total-1.given.1 ∙ t.before.before.close.ensures)
+    closing_small s.args.base.now s.args.check.now (numbers_of k.run_passed-ran.result.end) closing_run t.in-Whole.total t.in-Whole.closing (sym t.in-Whole.is ∙ t.close.ensures)
 
 returns : tie.Need-returns-then-started-ne0
 returns c = let s = c.before.before.before.before in no_start (array s) (started_of s.args.started) s.requires.1.0 c.if-started-ne0.true (asked s) _ _
@@ -50,13 +50,13 @@ returns c = let s = c.before.before.before.before in no_start (array s) (started
 run-passed-requires : tie.Need-run_passed-ran-requires
 run-passed-requires c κs =
     let s = c.before.before.before.before.before.before.before in
-    (s.requires.0, (begun_ok s.args.base.now s.args.check.now s.requires.0 (started_of s.args.started) s.requires.1.0 c.before.before.before.if-started-ne0.false, (s.requires.1.1.0, (s.requires.1.1.1.0, s.requires.1.1.1.1))))
+    (s.requires.0, (begun_ok s.args.base.now s.args.check.now s.requires.0 (started_of s.args.started) s.requires.1.0 c.if-started-ne0.false, (s.requires.1.1.0, (s.requires.1.1.1.0, s.requires.1.1.1.1))))
 
 same_length : tie.Need-shape_of-points-then-ran-ne0
-same_length c = c.before.before.before.before.before.run_passed-ran.auto.1.1.1.1.0
+same_length c = c.run_passed-ran.auto.points
 
 same-length_2 : tie.Need-shape_of-lengths-then-ran-ne0
-same-length_2 c = c.before.before.before.before.before.run_passed-ran.auto.1.1.1.1.1.0
+same-length_2 c = c.run_passed-ran.auto.lengths
 
 returns_2 : tie.Need-returns-then-ran-ne0
 returns_2 c =
@@ -68,45 +68,45 @@ close-requires : tie.Need-close-requires
 close-requires c κs =
     let k = c.before.before.before.before.before.before in
     let s = start k in
-    (s.requires.0, ran_ok s.args.base.now s.args.check.now s.requires.0 (started_of s.args.started) s.requires.1.0 k.before.before.before.before.if-started-ne0.false (asked s) (answer k) k.run_passed-ran.ensures c.before.if-ran-ne0.false)
+    (s.requires.0, ran_ok s.args.base.now s.args.check.now s.requires.0 (started_of s.args.started) s.requires.1.0 k.if-started-ne0.false (asked s) (answer k) k.run_passed-ran.ensures c.if-ran-ne0.false)
 
 enum-known-total : tie.Need-enum_known-total
-enum-known-total c = c.match.keys1
+enum-known-total c = c.in-Whole-1.keys1
 
 enum_told : tie.Need-enum_told-1
-enum_told c = c.match.keys2
+enum_told c = c.in_default-1.keys2
 
 same-length-3 : tie.Need-shape_of-points-in_default
-same-length-3 c = (ran c.before.before).run_passed-ran.auto.1.1.1.1.0
+same-length-3 c = (ran c.before).run_passed-ran.auto.points
 
 same-length-4 : tie.Need-shape_of-lengths-in_default
-same-length-4 c = (ran c.before.before).run_passed-ran.auto.1.1.1.1.1.0
+same-length-4 c = (ran c.before).run_passed-ran.auto.lengths
 
 returns_3 : tie.Need-returns-in_default
 returns_3 c =
-    let d = c.before.before in
+    let d = c.before in
     let k = ran d in
     let s = start k in
-    no_closing (array s) (started_of s.args.started) s.requires.1.0 (asked s) (answer k) k.run_passed-ran.ensures (sym c.enum_told-1.given.1 ∙ d.close.ensures) _ _
+    no_closing (array s) (started_of s.args.started) s.requires.1.0 (asked s) (answer k) k.run_passed-ran.ensures (sym c.in_default.is ∙ d.close.ensures) _ _
 
 add-t18 : tie.Need-overflow_add-result
 add-t18 c =
-    let d = c.before.before.before.before.before in
-    two_fit (ran d).run_passed-ran.result.total-1 c.before.before.before.total-1.given.0.0 (words-total (ran d)) (closing_total c.before.before.before)
+    let d = c.before.before.before in
+    two_fit (ran d).run_passed-ran.result.total c.in-Whole.total (words-total (ran d)) (closing_total c.before.before)
 
 same-length-5 : tie.Need-shape_of-points
-same-length-5 c = (ran c.before.before.before.before.before).run_passed-ran.auto.1.1.1.1.0
+same-length-5 c = (ran c.before.before.before).run_passed-ran.auto.points
 
 same-length-6 : tie.Need-shape_of-lengths
-same-length-6 c = (ran c.before.before.before.before.before).run_passed-ran.auto.1.1.1.1.1.0
+same-length-6 c = (ran c.before.before.before).run_passed-ran.auto.lengths
 
 returns-4 : tie.Need-returns
 returns-4 c =
-    let t = c.before.before.before in
-    let d = t.before.before in
+    let t = c.before.before in
+    let d = t.before in
     let k = ran d in
     let s = start k in
-    all_three (array s) (started_of s.args.started) s.requires.1.0 (asked s) (answer k) k.run_passed-ran.ensures k.before.before.before.before.if-started-ne0.false d.before.before.if-ran-ne0.false _ _ (sym t.total-1.given.1 ∙ d.close.ensures) _ (two-added k.run_passed-ran.result.total-1 t.total-1.given.0.0 (words-total k) (closing_total t))
+    all_three (array s) (started_of s.args.started) s.requires.1.0 (asked s) (answer k) k.run_passed-ran.ensures k.if-started-ne0.false d.if-ran-ne0.false _ _ (sym t.in-Whole.is ∙ d.close.ensures) _ (two-added k.run_passed-ran.result.total t.in-Whole.total (words-total k) (closing_total t))
 
 pub score_sentence_spec : {M : Type 1} → statement M
 score_sentence_spec =

@@ -17,7 +17,7 @@ cast-if1 c = search rules
 returns : tie.Need-returns-then-z
 unfolding if_held between
 returns c =
-    let e : le_z least_number c.before.args.z ≡ false = omega zarith in
+    let e : le_z least_number c.args.z ≡ false = omega zarith in
     rw e refl
 
 cast-if2 : tie.Need-overflow_cast-t-2-2
@@ -26,7 +26,7 @@ cast-if2 c = search rules
 returns_2 : tie.Need-returns-then-z-2
 unfolding if_held between
 returns_2 c =
-    let z = c.before.before.args.z in
+    let z = c.args.z in
     let e : le_z z greatest_number ≡ false = omega zarith in
     rw (and_no (le_z least_number z) (le_z z greatest_number) e) refl
 
@@ -36,10 +36,10 @@ cast-t4 c = omega zarith
 returns_3 : tie.Need-returns
 unfolding if_held between
 returns_3 c =
-    let z = c.before.before.args.z in
+    let z = c.args.z in
     let l : le_z least_number z ≡ true = omega zarith in
     let h : le_z z greatest_number ≡ true = omega zarith in
-    rw (l, h) (ap Number (to_z-of_z (cast-t4 c) ∙ to_z-of_z c.before.before.ranges.z))
+    rw (l, h) (ap Number (to_z-of_z (cast-t4 c) ∙ to_z-of_z c.ranges.z))
 
 pub if_held_spec : {M : Type 1} → statement M
 if_held_spec = tie.close (tie.spec cast-if1 returns cast-if2 returns_2 cast-t4 returns_3)

@@ -12,15 +12,15 @@ signed-length-requires c κs = search rules
 
 put-spaces-requires : tie.Need-put_spaces-start-requires
 put-spaces-requires c κs =
-    let a = c.before.before.before.args in
-    omega (arith, length-justified a.width (signed a.negative a.size), c.before.signed_length-taken.ensures, c.before.before.before.requires)
+    let a = c.args in
+    omega (arith, length-justified a.width (signed a.negative a.size), c.signed_length-taken.ensures, c.requires)
 
 put-signed-requires : tie.Need-put_signed-requires
 put-signed-requires c κs =
     let p = c.before.before.before in
     let s = p.before.before in
-    let a = s.before.before.args in
-    omega (arith, length-justified a.width (signed a.negative a.size), s.signed_length-taken.ensures, p.put_spaces-start.ensures.0, p.put_spaces-start.auto.1.1.0, s.before.before.requires)
+    let a = s.args in
+    omega (arith, length-justified a.width (signed a.negative a.size), s.signed_length-taken.ensures, p.put_spaces-start.ensures.0, p.put_spaces-start.auto.out, s.requires)
 
 same_length : tie.Need-shape_of-out
 same_length c = search rules
@@ -30,10 +30,10 @@ returns c =
     let g = c.before.before in
     let p = g.before.before.before.before in
     let s = p.before.before in
-    let a = s.before.before.args in
+    let a = s.args in
     let n = s.signed_length-taken.ensures in (
       omega (arith, length-justified a.width (signed a.negative a.size), n, p.put_spaces-start.ensures.0, g.put_signed.ensures.0),
-      g.put_signed.ensures.1 ∙ rw (p.put_spaces-start.ensures.1, p.put_spaces-start.ensures.0, n) (sym (sets-justified a.out-1.now a.at a.width (signed a.negative a.size))),
+      g.put_signed.ensures.1 ∙ rw (p.put_spaces-start.ensures.1, p.put_spaces-start.ensures.0, n) (sym (sets-justified a.out.now a.at a.width (signed a.negative a.size))),
     )
 
 pub put_column_spec : {M : Type 1} → statement M

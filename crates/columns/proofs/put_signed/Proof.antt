@@ -11,9 +11,9 @@ use Rattle.columns.proofs.put_signed.Statement.{statement}
 use Rattle.columns.proofs.put_signed.Tie as tie
 
 -- there is room for the minus and the digits
-room : (c : tie.Then-negative) → c.before.before.args.at + suc (length (digits c.before.before.args.size)) ≤ length c.before.before.args.out.now
+room : (c : tie.Then-negative) → c.args.at + suc (length (digits c.args.size)) ≤ length c.args.out.now
 unfolding signed
-room c = rw c.if-negative.true at c.before.before.requires
+room c = rw c.if-negative.true at c.requires
 
 slice-write-out : tie.Need-bounds-out-at
 slice-write-out c = let h = room c in omega arith
@@ -26,26 +26,26 @@ put-digits-requires c κs = let h = room c.before in simp length-set (omega arit
 
 put-digits-requires-2 : tie.Need-put_digits-requires-else-negative
 unfolding signed
-put-digits-requires-2 c κs = rw c.before.if-negative.false at c.before.before.before.requires
+put-digits-requires-2 c κs = rw c.if-negative.false at c.requires
 
 same_length : tie.Need-shape_of-out-then-negative
 same_length c =
-    let a = c.before.before.before.before.before.before.args in
-    c.before.before.put_digits.auto.1.0 ∙ length-set a.out-1.now a.at 45
+    let a = c.args in
+    c.put_digits.auto.out ∙ length-set a.out.now a.at 45
 
 returns : tie.Need-returns-then-negative
 unfolding signed
 returns c =
     let p = c.before.before in
-    let a = p.before.before.before.before.args in
-    rw (p.before.before.if-negative.true, ← add-one a.at) (omega (arith, p.put_digits.ensures.0), p.put_digits.ensures.1)
+    let a = p.args in
+    rw p.if-negative.true (omega (arith, p.put_digits.ensures.0), rw (add-one a.at) at p.put_digits.ensures.1)
 
 same-length_2 : tie.Need-shape_of-out-else-negative
 same-length_2 c = search rules
 
 returns_2 : tie.Need-returns-else-negative
 unfolding signed
-returns_2 c = rw c.before.before.before.before.if-negative.false c.before.before.put_digits-else-negative.ensures
+returns_2 c = rw c.if-negative.false c.put_digits-else-negative.ensures
 
 pub put_signed_spec : {M : Type 1} → statement M
 put_signed_spec =

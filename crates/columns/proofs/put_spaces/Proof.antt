@@ -39,7 +39,7 @@ loop-less c = omega arith
 loop-again : tie.Need-loop-used-preserved invariant-loop decreases-loop
 loop-again c =
     let l = c.before in
-    let a = l.before.args in
+    let a = l.args in
     record {
       left = l.loop-used.invariant.left ∙ sets-replicate l.loop-used.out l.loop-used.place l.loop-used.used a.width 32 c.loop-used-test.true;
       room = omega arith;
@@ -47,12 +47,12 @@ loop-again c =
     }
 
 same_length : tie.Need-shape_of-out invariant-loop decreases-loop
-same_length c = c.before.loop-used.invariant.long
+same_length c = c.loop-used.invariant.long
 
 returns : tie.Need-returns invariant-loop decreases-loop
 returns c =
     let l = c.before in
-    (omega arith, sym (l.loop-used.invariant.left ∙ sets-none l.loop-used.out l.loop-used.place l.loop-used.used l.before.args.width 32 c.loop-used-test.false))
+    (omega arith, sym (l.loop-used.invariant.left ∙ sets-none l.loop-used.out l.loop-used.place l.loop-used.used l.args.width 32 c.loop-used-test.false))
 
 pub put_spaces_spec : {M : Type 1} → statement M
 put_spaces_spec =

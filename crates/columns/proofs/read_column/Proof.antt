@@ -19,7 +19,7 @@ read width text r e = (e, subst (ColumnMeans width text) (sym e) (column_means w
 
 returns : tie.Need-returns-then-text-width
 unfolding read_column
-returns c = let a = c.before.before.args in read a.width a.text.now NotInForm (rw (ne_eqb (length a.text.now) a.width c.if-text-width.true) refl)
+returns c = let a = c.args in read a.width a.text.now NotInForm (rw (ne_eqb (length a.text.now) a.width c.if-text-width.true) refl)
 
 skip-spaces-requires : tie.Need-skip_spaces-start-requires
 skip-spaces-requires c κs = search rules
@@ -41,8 +41,8 @@ unfolding read_column
 returns_2 c =
     let s = c.before.before in
     let b = s.before in
-    let width = b.before.before.args.width in
-    let text = b.before.before.args.text.now in
+    let width = b.args.width in
+    let text = b.args.text.now in
     read width text c.read_numeral.result
     (c.read_numeral.ensures ∙ ap read_numeral (part_to_end text s.skip_spaces-start.result ∙ s.skip_spaces-start.ensures.1)
     ∙ rw (eq-eqb (length text) width b.if-text-width.false) refl)

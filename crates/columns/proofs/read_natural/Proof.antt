@@ -21,14 +21,14 @@ is-natural-requires c κs = search rules
 
 returns : tie.Need-returns-then-not-is_natural
 unfolding read_natural
-returns c = rw (sym c.before.is_natural.ensures ∙ not-true _ c.if-not-is_natural.true) refl
+returns c = rw (sym c.is_natural.ensures ∙ c.if-not-is_natural.true) refl
 
 value-requires : tie.Need-value-requires
-value-requires c κs = (natural-all _ (sym c.before.is_natural.ensures ∙ not-false _ c.if-not-is_natural.false), omega (arith, c.before.before.before.requires))
+value-requires c κs = (natural-all _ (sym c.is_natural.ensures ∙ c.if-not-is_natural.false), omega (arith, c.requires))
 
 -- so many digits make a number that 63 bits hold
-small : (c : tie.After-value) → 10 ^ length c.before.before.before.before.args.text.now ≤ 10 ^ most_digits
-small c = pow-le-pow_right (omega arith) {j = most_digits} c.before.before.before.before.requires
+small : (c : tie.After-value) → 10 ^ length c.args.text.now ≤ 10 ^ most_digits
+small c = pow-le-pow_right (omega arith) {j = most_digits} c.requires
 
 cast-if-held : tie.Need-overflow_cast-value
 cast-if-held c = omega (zarith, small c)
@@ -40,8 +40,8 @@ returns_2 : tie.Need-returns
 unfolding read_natural
 returns_2 c =
     let v = c.before in
-    rw (sym v.before.before.is_natural.ensures ∙ not-false _ v.before.if-not-is_natural.false)
-    (c.if_held_lem.ensures ∙ ap if_held (to_z_pos w64 (omega (arith, small v)) ∙ ap pos v.value.ensures.0))
+    rw (sym v.is_natural.ensures ∙ v.if-not-is_natural.false)
+    (c.if_held.ensures ∙ ap if_held (to_z_pos w64 (omega (arith, small v)) ∙ ap pos v.value.ensures.0))
 
 pub read_natural_spec : {M : Type 1} → statement M
 read_natural_spec =

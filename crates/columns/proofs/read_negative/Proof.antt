@@ -23,24 +23,24 @@ is-natural-requires c κs = search rules
 
 returns : tie.Need-returns-then-not-is_natural
 unfolding read_negative
-returns c = rw (sym c.before.is_natural.ensures ∙ not-true _ c.if-not-is_natural.true) refl
+returns c = rw (sym c.is_natural.ensures ∙ c.if-not-is_natural.true) refl
 
 value-requires : tie.Need-value-size-requires
-value-requires c κs = (natural-all _ (sym c.before.is_natural.ensures ∙ not-false _ c.if-not-is_natural.false), omega (arith, c.before.before.before.requires))
+value-requires c κs = (natural-all _ (sym c.is_natural.ensures ∙ c.if-not-is_natural.false), omega (arith, c.requires))
 
 -- the text is a number
-natural : (c : tie.After-value-size) → is_natural c.before.before.before.before.args.text.now ≡ true
-natural c = sym c.before.before.is_natural.ensures ∙ not-false _ c.before.if-not-is_natural.false
+natural : (c : tie.After-value-size) → is_natural c.args.text.now ≡ true
+natural c = sym c.is_natural.ensures ∙ c.if-not-is_natural.false
 
 returns_2 : tie.Need-returns-then-size-eq0
 unfolding read_negative
 returns_2 c =
     let v = c.before in
-    rw (natural v, eq-eqb (value_from 0 v.before.before.before.before.args.text.now) 0 (sym v.value-size.ensures.0 ∙ c.if-size-eq0.true)) refl
+    rw (natural v, eq-eqb (value_from 0 v.args.text.now) 0 (sym v.value-size.ensures.0 ∙ c.if-size-eq0.true)) refl
 
 -- so many digits make a number that 63 bits hold
-small : (c : tie.After-value-size) → 10 ^ length c.before.before.before.before.args.text.now ≤ 10 ^ most_digits
-small c = pow-le-pow_right (omega arith) {j = most_digits} c.before.before.before.before.requires
+small : (c : tie.After-value-size) → 10 ^ length c.args.text.now ≤ 10 ^ most_digits
+small c = pow-le-pow_right (omega arith) {j = most_digits} c.requires
 
 cast-if-held : tie.Need-overflow_cast-size
 cast-if-held c = omega (zarith, small c.before)
@@ -48,7 +48,7 @@ cast-if-held c = omega (zarith, small c.before)
 sub-if-held : tie.Need-overflow_sub-size
 sub-if-held c =
     let s = small c.before in
-    let t : to_z w64 c.before.value-size.result ≡ pos c.before.value-size.result = to_z_pos w64 (omega arith) in
+    let t : to_z w64 c.value-size.result ≡ pos c.value-size.result = to_z_pos w64 (omega arith) in
     omega (zarith, t)
 
 if-held-requires : tie.Need-if_held-requires
@@ -60,10 +60,10 @@ returns_3 c =
     let b = c.before in
     let v = b.before in
     let r = v.value-size.ensures in
-    let text = v.before.before.before.before.args.text.now in
+    let text = v.args.text.now in
     let t : to_z w64 v.value-size.result ≡ pos (value_from 0 text) = to_z_pos w64 (omega (arith, small v)) ∙ ap pos r.0 in
     rw (natural v, ne_eqb (value_from 0 text) 0 (λ e. b.if-size-eq0.false (r.0 ∙ e)))
-    (c.if_held_lem.ensures ∙ ap if_held (to_z-of_z (sub-if-held b) ∙ ap (λ (y : ℤ). pos 0 -ℤ y) t ∙ +ℤ_idl (neg_ℤ (pos (value_from 0 text)))))
+    (c.if_held.ensures ∙ ap if_held (to_z-of_z (sub-if-held b) ∙ ap (λ (y : ℤ). pos 0 -ℤ y) t ∙ +ℤ_idl (neg_ℤ (pos (value_from 0 text)))))
 
 pub read_negative_spec : {M : Type 1} → statement M
 read_negative_spec =

@@ -8,7 +8,7 @@ use Rattle.columns.proofs.read_numeral.Statement.{statement}
 use Rattle.columns.proofs.read_numeral.Tie as tie
 
 returns : tie.Need-returns-then-text-eq0
-returns c = sym (numeral-none c.before.before.args.text.now c.if-text-eq0.true)
+returns c = sym (numeral-none c.args.text.now c.if-text-eq0.true)
 
 shared-slice-read-if2 : tie.Need-bounds-text-0
 shared-slice-read-if2 c = search rules
@@ -28,8 +28,8 @@ read-negative-requires c κs = search rules
 returns_2 : tie.Need-returns-then-text-eq45
 returns_2 c =
     let b = c.before.before.before.before in
-    let text = b.before.before.args.text.now in
-    c.read_negative.ensures ∙ ap read_negative (part_to_end text 1) ∙ sym (numeral-minus text b.if-text-eq0.false c.before.before.if-text-eq45.true)
+    let text = b.args.text.now in
+    c.read_negative.ensures ∙ ap read_negative (part_to_end text 1) ∙ sym (numeral-minus text b.if-text-eq0.false c.if-text-eq45.true)
 
 read-natural-requires : tie.Need-read_natural-requires
 read-natural-requires c κs = search rules
@@ -37,7 +37,7 @@ read-natural-requires c κs = search rules
 returns_3 : tie.Need-returns
 returns_3 c =
     let b = c.before.before.before in
-    c.read_natural.ensures ∙ sym (numeral-other b.before.before.args.text.now b.if-text-eq0.false c.before.if-text-eq45.false)
+    c.read_natural.ensures ∙ sym (numeral-other b.args.text.now b.if-text-eq0.false c.if-text-eq45.false)
 
 pub read_numeral_spec : {M : Type 1} → statement M
 read_numeral_spec =

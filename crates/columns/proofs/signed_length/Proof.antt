@@ -10,18 +10,18 @@ count-digits-requires : tie.Need-count_digits-requires
 count-digits-requires c κs = search rules
 
 add-result : tie.Need-overflow_add-result
-add-result c = omega (arith, digits_le 19 c.before.before.args.size (omega arith))
+add-result c = omega (arith, digits_le 19 c.args.size (omega arith))
 
 count-digits-requires-2 : tie.Need-count_digits-requires-else-negative
 count-digits-requires-2 c κs = search rules
 
 returns : tie.Need-returns-then-negative
 unfolding signed
-returns c = rw c.before.if-negative.true (omega (arith, c.count_digits.ensures))
+returns c = rw c.if-negative.true (omega (arith, c.count_digits.ensures))
 
 returns_2 : tie.Need-returns-else-negative
 unfolding signed
-returns_2 c = rw c.before.if-negative.false c.count_digits-else-negative.ensures
+returns_2 c = rw c.if-negative.false c.count_digits-else-negative.ensures
 
 pub signed_length_spec : {M : Type 1} → statement M
 signed_length_spec =

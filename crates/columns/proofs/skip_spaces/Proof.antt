@@ -24,7 +24,7 @@ shared-slice-read-if1 c = search rules
 returns : tie.Need-returns-then-text-i-ne32 invariant-loop decreases-loop
 returns c =
     let l = c.before.before.before in
-    (search rules, sym (l.loop-i.invariant.1 ∙ no_space l.before.args.text.now l.loop-i.i (search rules) c.if-text-i-ne32.true))
+    (search rules, sym (l.loop-i.invariant.1 ∙ no_space l.args.text.now l.loop-i.i (search rules) c.if-text-i-ne32.true))
 
 add-i : tie.Need-overflow_add-i invariant-loop decreases-loop
 add-i c = search rules
@@ -35,12 +35,12 @@ loop-less c = search rules
 loop-again : tie.Need-loop-i-preserved invariant-loop decreases-loop
 loop-again c =
     let l = c.before.before.before in
-    (search rules, l.loop-i.invariant.1 ∙ a_space l.before.args.text.now l.loop-i.i (search rules) c.if-text-i-ne32.false)
+    (search rules, l.loop-i.invariant.1 ∙ a_space l.args.text.now l.loop-i.i (search rules) c.if-text-i-ne32.false)
 
 returns_2 : tie.Need-returns invariant-loop decreases-loop
 returns_2 c =
     let l = c.before in
-    (search rules, sym (l.loop-i.invariant.1 ∙ no_more l.before.args.text.now l.loop-i.i (search rules)))
+    (search rules, sym (l.loop-i.invariant.1 ∙ no_more l.args.text.now l.loop-i.i (search rules)))
 
 pub skip_spaces_spec : {M : Type 1} → statement M
 skip_spaces_spec =

@@ -31,19 +31,19 @@ add-t : tie.Need-overflow_add-t invariant-loop decreases-loop
 add-t c = search rules
 
 loop-less : tie.Need-loop-t-smaller invariant-loop decreases-loop
-loop-less c = omega (arith, c.loop-t-test.true, c.before.loop-t.invariant.same_length)
+loop-less c = omega (arith, c.loop-t-test.true, c.loop-t.invariant.same_length)
 
 loop-again : tie.Need-loop-t-preserved invariant-loop decreases-loop
-loop-again c = written_next _ _ _ _ _ (pos 0) c.before.loop-t.invariant c.loop-t-test.true refl
+loop-again c = written_next _ _ _ _ _ (pos 0) c.loop-t.invariant c.loop-t-test.true refl
 
 same_length : tie.Need-shape_of-numbers invariant-loop decreases-loop
-same_length c = c.before.loop-t.invariant.same_length
+same_length c = c.loop-t.invariant.same_length
 
 returns : tie.Need-returns invariant-loop decreases-loop
 returns c =
     let l = c.before in
-    let numbers = l.before.args.numbers.now in
-    written_all _ _ _ _ l.loop-t.invariant c.loop-t-test.false ∙ map_same _ numbers ∙ ap (replicate (length numbers)) (to_z-of_z l.before.ranges.value)
+    let numbers = l.args.numbers.now in
+    written_all _ _ _ _ l.loop-t.invariant c.loop-t-test.false ∙ map_same _ numbers ∙ ap (replicate (length numbers)) (to_z-of_z l.ranges.value)
 
 pub fill_spec : {M : Type 1} → statement M
 fill_spec =

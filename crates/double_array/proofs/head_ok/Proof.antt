@@ -43,10 +43,10 @@ returns c =
     let s = c.before.before.before.before in
     let b = s.args.base.now in
     let k = s.args.check.now in
-    let f : SFits w32 (get_or b 0 (pos 0)) = sfits_of c.before.result-1.given in
+    let f : SFits w32 (get_or b 0 (pos 0)) = sfits_of c.result-1.given in
     let g : SFits w32 (get_or k 1 (pos 0)) = sfits_of c.result-2-1.given in
-    let o : SFits w32 (get_or k 0 (pos 0)) = sfits_of c.before.before.before.head-1.given in
-    let r : SFits w32 (get_or b 1 (pos 0)) = sfits_of c.before.before.rows-1.given in
+    let o : SFits w32 (get_or k 0 (pos 0)) = sfits_of c.head-1.given in
+    let r : SFits w32 (get_or b 1 (pos 0)) = sfits_of c.rows-1.given in
     rw (get_or-inside k 0 free_check (pos 0) (omega arith), get_or-inside k 1 free_check (pos 0) (omega arith))
     (simp (bits_test {b = pos 1} f (sfits_lit tt), bits_test {b = negsuc 0} g (sfits_lit tt), to_z-of_z o, to_z-of_z r)
     (regroup (eq_z (get_or b 0 (pos 0)) (pos 1)) (le_z (head_check 1) (get_or k 0 (pos 0))) (le_z (get_or k 0 (pos 0)) (head_check order_limit)) (eq_z (get_or k 1 (pos 0)) (negsuc 0)) (le_z (pos 3) (get_or b 1 (pos 0))) (le_z (get_or b 1 (pos 0)) (pos row_limit))))

@@ -12,14 +12,14 @@ sizes-ok-requires c κs = search rules
 head-ok-requires : tie.Need-head_ok-requires
 head-ok-requires c κs =
     let s = c.before.before in
-    let z = sizes_told s.args.base.now s.args.check.now (sym c.before.sizes_ok.ensures ∙ c.if-sizes_ok.true) in
+    let z = sizes_told s.args.base.now s.args.check.now (sym c.sizes_ok.ensures ∙ c.if-sizes_ok.true) in
     omega arith
 
 returns : tie.Need-returns-then-sizes_ok
-returns c = rw (sym c.before.before.sizes_ok.ensures ∙ c.before.if-sizes_ok.true) c.head_ok.ensures
+returns c = rw (sym c.sizes_ok.ensures ∙ c.if-sizes_ok.true) c.head_ok.ensures
 
 returns_2 : tie.Need-returns-else-sizes_ok
-returns_2 c = rw (sym c.before.sizes_ok.ensures ∙ c.if-sizes_ok.false) c.if-sizes_ok.false
+returns_2 c = rw (sym c.sizes_ok.ensures ∙ c.if-sizes_ok.false) c.if-sizes_ok.false
 
 pub is_array_spec : {M : Type 1} → statement M
 is_array_spec = tie.close (tie.spec sizes-ok-requires head-ok-requires returns returns_2)

@@ -42,7 +42,7 @@ cast_t c = let f = d_fits c.before in to_nat tt f (omega zarith)
 
 -- an item at that index, read back from its bits
 item-is : (l : List ℤ) {z : ℤ} → SFits w32 z → mag (get_or l (nat_abs (to_z w32 (of_z w32 z))) (pos 0)) < 2147483648 → to_z w32 (of_z w32 (get_or l (nat_abs (to_z w32 (of_z w32 z))) (pos 0))) ≡ get_or l (nat_abs z) (pos 0)
-item-is l f m = to_z-of_z (sfits_of m) ∙ ap (λ (y : ℤ). get_or l (nat_abs y) (pos 0)) (to_z-of_z f)
+item-is l f m = to_z-of_z {w = w32} (sfits_of m) ∙ ap (λ (y : ℤ). get_or l (nat_abs y) (pos 0)) (to_z-of_z {w = w32} f)
 
 returns_2 : tie.Need-returns-then-check-t
 unfolding kept_marker
@@ -50,7 +50,7 @@ returns_2 c =
     let f = d_fits c.before.before in
     let s = c.before.before.before in
     let l : le_z (pos 1) (d s) ≡ true = omega zarith in
-    let h : length s.args.check.now ≤ nat_abs (d s) = simp (to_z-of_z f) at c.if-check-t.true in
+    let h : length s.args.check.now ≤ nat_abs (d s) = simp (to_z-of_z {w = w32} f) at c.if-check-t.true in
     let e : lt_z (d s) (pos (length s.args.check.now)) ≡ false = omega (zarith, abs (d s)) in
     rw (l, e)
 
@@ -76,10 +76,10 @@ returns_3 c =
     let s = e.before.before.before in
     let f = d_fits e.before.before in
     let l : le_z (pos 1) (d s) ≡ true = omega zarith in
-    let h : nat_abs (d s) < length s.args.check.now = simp (to_z-of_z f) at e.if-check-t.false in
+    let h : nat_abs (d s) < length s.args.check.now = simp (to_z-of_z {w = w32} f) at e.if-check-t.false in
     let u : lt_z (d s) (pos (length s.args.check.now)) ≡ true = omega (zarith, abs (d s)) in
-    let k = item-is s.args.check.now f c.before.before.marker_of-arg-1.given in
-    let v = item-is s.args.base.now f c.before.marker_of-arg-2-1.given in
+    let k = item-is s.args.check.now f c.marker_of-arg-1.given in
+    let v = item-is s.args.base.now f c.marker_of-arg-2-1.given in
     rw (l, u, get_or-inside s.args.check.now (nat_abs (d s)) free_check (pos 0) h, c.marker_of.ensures, k, v)
 
 pub kept_marker_spec : {M : Type 1} → statement M

@@ -19,8 +19,8 @@ key-next-requires c κs = c.front_key.ensures.1
 next-bound-requires : tie.Need-next_bound-requires
 next-bound-requires c κs =
     let f = c.before in
-    let b = f.before.requires.2 in (
-      f.before.requires.1,
+    let b = f.requires.2 in (
+      f.requires.1,
       record {
         order = b.within;
         within = omega arith;
@@ -35,7 +35,7 @@ returns c =
     let f = c.before.before in
     let s = f.before in
     let t = s.args.table.now in
-    let b = c.before.key_next-k.ensures ∙ ap (λ (k : ℕ). k + radix) f.front_key.ensures.0 in
+    let b = c.key_next-k.ensures ∙ ap (λ (k : ℕ). k + radix) f.front_key.ensures.0 in
     stretch t s.args.i s.args.from c.next_bound.result s.requires.1 (omega arith) s.requires.2
     (subst (λ (k : ℕ). Bracket t k c.next_bound.result c.next_bound.result) b c.next_bound.ensures)
 

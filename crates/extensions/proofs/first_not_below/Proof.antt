@@ -61,22 +61,22 @@ abbrev start : tie.After-key_less → tie.Start
 start c = c.before.before.before.before.before
 
 -- the row at hand is compared with k
-less : (c : tie.After-key_less) → ltb (row_key (start c).args.table.now c.before.before.last_not_above-last.result) (key_of (start c).args.k.high (start c).args.k.low) ≡ c.key_less.result
-less c = sym (c.key_less.ensures ∙ ap (λ (x : ℕ). ltb x (key_of (start c).args.k.high (start c).args.k.low)) c.before.row_key.ensures)
+less : (c : tie.After-key_less) → ltb (row_key (start c).args.table.now c.last_not_above-last.result) (key_of (start c).args.k.high (start c).args.k.low) ≡ c.key_less.result
+less c = sym (c.key_less.ensures ∙ ap (λ (x : ℕ). ltb x (key_of (start c).args.k.high (start c).args.k.low)) c.row_key.ensures)
 
 add-result : tie.Need-overflow_add-result
 unfolding rows_of
-add-result c = let w = c.before.before.before.last_not_above-last.ensures.within in omega arith
+add-result c = let w = c.last_not_above-last.ensures.within in omega arith
 
 returns_2 : tie.Need-returns-then-key_less
 returns_2 c =
     let d = c.before in
-    bound_after _ (start d).requires _ _ d.before.before.last_not_above-last.ensures (ltb-true _ _ (less d ∙ c.if-key_less.true))
+    bound_after _ (start d).requires _ _ d.last_not_above-last.ensures (ltb-true _ _ (less d ∙ c.if-key_less.true))
 
 returns_3 : tie.Need-returns
 returns_3 c =
     let d = c.before in
-    bound_here _ (start d).requires _ _ d.before.before.last_not_above-last.ensures (ltb-false _ _ (less d ∙ c.if-key_less.false))
+    bound_here _ (start d).requires _ _ d.last_not_above-last.ensures (ltb-false _ _ (less d ∙ c.if-key_less.false))
 
 pub first_not_below_spec : {M : Type 1} → statement M
 first_not_below_spec =

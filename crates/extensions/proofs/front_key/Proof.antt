@@ -12,8 +12,8 @@ use Rattle.extensions.proofs.front_key.Tie as tie
 row-key-requires : tie.Need-row_key-requires
 row-key-requires c κs = search rules
 
-limit : (c : tie.After-row_key) → row_key c.before.args.table.now c.before.args.i < radix * low_limit
-limit c = row-key_limit _ _ c.before.requires.1
+limit : (c : tie.After-row_key) → row_key c.args.table.now c.args.i < radix * low_limit
+limit c = row-key_limit _ _ c.requires.1
 
 key-shifted-requires : tie.Need-key_shifted-requires
 key-shifted-requires c κs = let l = limit c in omega (arith, c.row_key.ensures)

@@ -23,21 +23,21 @@ loop-holds c = c.requires.1
 
 row-key-requires : tie.Need-row_key-requires invariant-loop decreases-loop
 unfolding rows_of
-row-key-requires c κs = (omega arith, c.before.before.requires.0.row c.before.loop-to.to c.loop-to-test.true)
+row-key-requires c κs = (omega arith, c.requires.0.row c.loop-to.to c.loop-to-test.true)
 
 key-less-requires : tie.Need-key_less-requires invariant-loop decreases-loop
 key-less-requires c κs = tt
 
-less : (c : tie.After-key_less invariant-loop decreases-loop) → ltb (row_key c.before.before.before.before.args.table.now c.before.before.before.loop-to.to) (key_of c.before.before.before.before.args.k.high c.before.before.before.before.args.k.low) ≡ c.key_less.result
+less : (c : tie.After-key_less invariant-loop decreases-loop) → ltb (row_key c.args.table.now c.loop-to.to) (key_of c.args.k.high c.args.k.low) ≡ c.key_less.result
 less c =
     let s = c.before.before.before.before in
-    sym (c.key_less.ensures ∙ ap (λ (x : ℕ). ltb x (key_of s.args.k.high s.args.k.low)) c.before.row_key.ensures)
+    sym (c.key_less.ensures ∙ ap (λ (x : ℕ). ltb x (key_of s.args.k.high s.args.k.low)) c.row_key.ensures)
 
 returns : tie.Need-returns-then-not-key_less invariant-loop decreases-loop
 returns c =
     let d = c.before in
     let l = d.before.before.before in
-    bracket-down _ l.before.requires.0 _ _ _ _ l.loop-to.invariant (omega arith) d.before.before.loop-to-test.true (ltb-false _ _ (less d ∙ not-true _ c.if-not-key_less.true))
+    bracket-down _ l.requires.0 _ _ _ _ l.loop-to.invariant (omega arith) d.loop-to-test.true (ltb-false _ _ (less d ∙ c.if-not-key_less.true))
 
 add-to : tie.Need-overflow_add-to invariant-loop decreases-loop
 unfolding rows_of
@@ -50,10 +50,10 @@ loop-again : tie.Need-loop-to-preserved invariant-loop decreases-loop
 loop-again c =
     let d = c.before in
     let l = d.before.before.before in
-    bracket-up _ l.before.requires.0 _ _ _ _ l.loop-to.invariant d.before.before.loop-to-test.true (ltb-true _ _ (less d ∙ not-false _ c.if-not-key_less.false))
+    bracket-up _ l.requires.0 _ _ _ _ l.loop-to.invariant d.loop-to-test.true (ltb-true _ _ (less d ∙ c.if-not-key_less.false))
 
 returns_2 : tie.Need-returns invariant-loop decreases-loop
-returns_2 c = bracket-end _ _ _ _ c.before.loop-to.invariant c.loop-to-test.false
+returns_2 c = bracket-end _ _ _ _ c.loop-to.invariant c.loop-to-test.false
 
 pub next_bound_spec : {M : Type 1} → statement M
 next_bound_spec =

@@ -26,7 +26,7 @@ element-write-near : tie.Need-bounds-near-k-2
 element-write-near c = search rules
 
 returns : tie.Need-returns
-returns c = rw c.before.before.with_zeros-bound.ensures at c.first_from-row.ensures
+returns c = rw c.with_zeros-bound.ensures at c.first_from-row.ensures
 
 pub bound_of_spec : {M : Type 1} → statement M
 bound_of_spec =

@@ -22,8 +22,8 @@ loop-holds c = λ place f. f
 next-row-requires : tie.Need-next_row-next-requires invariant-loop decreases-loop
 next-row-requires c κs =
     let l = c.before.before in
-    let p = l.before.requires in
-    let a = filling_asks _ p.0 _ _ _ _ _ (l.loop-words.invariant p.1.0 p.1.1) c.before.loop-words-test.true in
+    let p = l.requires in
+    let a = filling_asks _ p.0 _ _ _ _ _ (l.loop-words.invariant p.1.0 p.1.1) c.loop-words-test.true in
     (checked-good true _ p.0, a.0, a.1, a.2, a.3, a.4)
 
 returns : tie.Need-returns-then-next-rows invariant-loop decreases-loop
@@ -35,7 +35,7 @@ returns c place f =
       floor_high = l.loop-words.from.high;
       floor_low = l.loop-words.from.low;
       filling = l.loop-words.invariant place f;
-      one = λ h. c.before.if-next-rows.true;
+      one = λ h. c.if-next-rows.true;
       best = λ h. d.next_row-next.ensures;
     }
 
@@ -43,19 +43,19 @@ with-zeros-requires : tie.Need-with_zeros-from-requires invariant-loop decreases
 with-zeros-requires c κs =
     let d = c.before.before in
     let l = d.before.before.before in
-    let p = l.before.requires in
-    zeros-room _ p.0 _ _ _ _ _ (l.loop-words.invariant p.1.0 p.1.1) d.before.before.loop-words-test.true
+    let p = l.requires in
+    zeros-room _ p.0 _ _ _ _ _ (l.loop-words.invariant p.1.0 p.1.1) d.loop-words-test.true
 
 add_words : tie.Need-overflow_add-words invariant-loop decreases-loop
 add_words c =
     let d = c.before.before.before.before in
     let l = d.before.before.before in
-    let p = l.before.requires in
-    let a = filling_asks _ p.0 _ _ _ _ _ (l.loop-words.invariant p.1.0 p.1.1) d.before.before.loop-words-test.true in
+    let p = l.requires in
+    let a = filling_asks _ p.0 _ _ _ _ _ (l.loop-words.invariant p.1.0 p.1.1) d.loop-words-test.true in
     omega (arith, a.1, a.2)
 
 loop-less : tie.Need-loop-words-smaller invariant-loop decreases-loop
-loop-less c = let l = c.before.before.before.before.before.before.loop-words-test.true in omega arith
+loop-less c = let l = c.loop-words-test.true in omega arith
 
 loop-again : tie.Need-loop-words-preserved invariant-loop decreases-loop
 unfolding rows_of
@@ -63,7 +63,7 @@ loop-again c place f =
     let d = c.before.before.before.before in
     let l = d.before.before.before in
     let b = d.next_row-next.ensures in
-    filling-longer _ l.before.requires.0 _ _ _ _ _ (l.loop-words.invariant place f) d.before.before.loop-words-test.true _ _ _ b (le_antisymm b.least.within c.before.before.if-next-rows.false) _ _ c.before.with_zeros-from.ensures
+    filling-longer _ l.requires.0 _ _ _ _ _ (l.loop-words.invariant place f) d.loop-words-test.true _ _ _ b (le_antisymm b.least.within c.if-next-rows.false) _ _ c.with_zeros-from.ensures
 
 returns_2 : tie.Need-returns invariant-loop decreases-loop
 returns_2 c place f =

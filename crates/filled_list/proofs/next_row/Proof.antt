@@ -32,8 +32,8 @@ loop-holds c = record { from = omega arith; to = omega arith; best = best-start 
 
 better-requires : tie.Need-better-best-requires invariant-loop decreases-loop
 better-requires c κs =
-    let v = c.before.before.loop-k.invariant in
-    let p = c.before.before.before.requires in
+    let v = c.loop-k.invariant in
+    let p = c.requires in
     (p.0, p.1, v.from, omega arith, p.4, p.5, v.best)
 
 add-k : tie.Need-overflow_add-k invariant-loop decreases-loop
@@ -46,7 +46,7 @@ loop-again : tie.Need-loop-k-preserved invariant-loop decreases-loop
 loop-again c = let e = c.better-best.ensures in record { from = omega arith; to = omega arith; best = best_as _ _ _ _ _ _ _ _ (sym (add-one _)) e }
 
 returns : tie.Need-returns invariant-loop decreases-loop
-returns c = let v = c.before.loop-k.invariant in let l = c.loop-k-test.false in best_as _ _ _ _ _ _ _ _ (ended v l) v.best
+returns c = let v = c.loop-k.invariant in let l = c.loop-k-test.false in best_as _ _ _ _ _ _ _ _ (ended v l) v.best
 
 pub next_row_spec : {M : Type 1} → statement M
 next_row_spec =

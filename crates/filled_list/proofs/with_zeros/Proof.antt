@@ -28,7 +28,7 @@ loop-holds c = record { within = omega arith; left = zeros-none _ _; room = c.re
 
 key-shifted-requires : tie.Need-key_shifted-shifted-requires invariant-loop decreases-loop
 key-shifted-requires c κs =
-    let v = c.before.loop-i.invariant in
+    let v = c.loop-i.invariant in
     room-left _ _ _ _ c.loop-i-test.true (room_of v)
 
 add-i : tie.Need-overflow_add-i invariant-loop decreases-loop
@@ -40,7 +40,7 @@ loop-less c = omega arith
 loop-again : tie.Need-loop-i-preserved invariant-loop decreases-loop
 loop-again c =
     let d = c.before in
-    let v = d.before.loop-i.invariant in
+    let v = d.loop-i.invariant in
     let l = d.loop-i-test.true in
     record {
       within = omega arith;
@@ -50,7 +50,7 @@ loop-again c =
 
 returns : tie.Need-returns invariant-loop decreases-loop
 returns c =
-    let v = c.before.loop-i.invariant in
+    let v = c.loop-i.invariant in
     zeros-end _ _ _ c.loop-i-test.false ∙ v.left
 
 pub with_zeros_spec : {M : Type 1} → statement M

@@ -17,7 +17,7 @@ refusal-of-requires c κs = search rules
 check-needed-requires : tie.Need-check_needed-requires
 check-needed-requires c κs =
     let r = c.before in
-    checked-number true _ (ap number_of (sym r.before.check_for.ensures) ∙ sym r.refusal_of-listed.ensures.0 ∙ c.if-number-eq0.true)
+    checked-number true _ (ap number_of (sym r.check_for.ensures) ∙ sym r.refusal_of-listed.ensures.0 ∙ c.if-number-eq0.true)
 
 returns : tie.Need-returns-then-number-eq0
 returns c = search rules
@@ -25,7 +25,7 @@ returns c = search rules
 returns_2 : tie.Need-returns
 returns_2 c =
     let r = c.before in
-    let v = r.before.check_for.ensures in
+    let v = r.check_for.ensures in
     checks-listed _ _ _ _ _ (r.refusal_of-listed.ensures.0 ∙ ap number_of v) (r.refusal_of-listed.ensures.1 ∙ ap place_of v) c.if-number-eq0.false
 
 pub check_all_spec : {M : Type 1} → statement M

@@ -21,7 +21,7 @@ length-of-requires c κs = let s = (checked-size true _ c.requires).0 in omega a
 
 count-rows-requires : tie.Need-count_rows-counted-requires
 unfolding order_of rows_of
-count-rows-requires c κs = (c.before.requires, c.length_of_lem.ensures.0)
+count-rows-requires c κs = (c.requires, c.length_of.ensures.0)
 
 needing-row-requires : tie.Need-needing_row-i-requires
 needing-row-requires c κs = search rules
@@ -31,7 +31,7 @@ add-refused c = search rules
 
 cast-refused : tie.Need-overflow_cast-i
 unfolding rows_of
-cast-refused c = let s = (checked-size true _ c.before.before.before.before.requires).1 in let l = c.if-i-rows.true in omega arith
+cast-refused c = let s = (checked-size true _ c.requires).1 in let l = c.if-i-rows.true in omega arith
 
 refused-requires : tie.Need-refused-requires
 refused-requires c κs = search rules
@@ -42,12 +42,12 @@ returns c =
     let i = c.before in
     let f = i.before in
     let r = c.refused.ensures in
-    checks_as _ _ _ _ _ _ _ r.0 r.1 (checks-five _ _ f.before.before.before.requires _ f.needing_row-i.ensures _ i.if-i-rows.true)
+    checks_as _ _ _ _ _ _ _ r.0 r.1 (checks-five _ _ f.requires _ f.needing_row-i.ensures _ i.if-i-rows.true)
 
 -- no row needs what is out of range
-passed : (c : tie.Else-i-rows) → c.before.needing_row-i.result ≡ rows_of c.before.before.before.before.args.table.now
+passed : (c : tie.Else-i-rows) → c.needing_row-i.result ≡ rows_of c.args.table.now
 unfolding rows_of
-passed c = le_antisymm c.before.needing_row-i.ensures.within c.if-i-rows.false
+passed c = le_antisymm c.needing_row-i.ensures.within c.if-i-rows.false
 
 refused-requires-2 : tie.Need-refused-requires-then-count-gt-ROW_LIMIT
 refused-requires-2 c κs = search rules
@@ -57,7 +57,7 @@ returns_2 c =
     let d = c.before.before in
     let f = d.before in
     let r = c.refused-then-count-gt-ROW_LIMIT.ensures in
-    checks_as _ _ _ _ _ _ _ r.0 r.1 (checks-many _ _ f.before.before.before.requires _ f.needing_row-i.ensures (passed d) _ f.before.count_rows-counted.ensures.rows_are _ c.before.if-count-gt-ROW_LIMIT.true)
+    checks_as _ _ _ _ _ _ _ r.0 r.1 (checks-many _ _ f.requires _ f.needing_row-i.ensures (passed d) _ f.count_rows-counted.ensures.rows_are _ c.if-count-gt-ROW_LIMIT.true)
 
 refused-requires-3 : tie.Need-refused-requires-then-size-count
 refused-requires-3 c κs = search rules
@@ -74,14 +74,14 @@ returns_3 c =
     let d = e.before in
     let f = d.before in
     let r = c.refused-then-size-count.ensures in
-    checks_as _ _ _ _ _ _ _ r.0 r.1 (checks-short _ _ f.before.before.before.requires _ f.needing_row-i.ensures (passed d) _ f.before.count_rows-counted.ensures.rows_are e.if-count-gt-ROW_LIMIT.false _ (short c.before.if-size-count.true))
+    checks_as _ _ _ _ _ _ _ r.0 r.1 (checks-short _ _ f.requires _ f.needing_row-i.ensures (passed d) _ f.count_rows-counted.ensures.rows_are e.if-count-gt-ROW_LIMIT.false _ (short c.if-size-count.true))
 
 returns-4 : tie.Need-returns
 returns-4 c =
     let e = c.before in
     let d = e.before in
     let f = d.before in
-    checks-none _ _ f.before.before.before.requires _ f.needing_row-i.ensures (passed d) _ f.before.count_rows-counted.ensures.rows_are e.if-count-gt-ROW_LIMIT.false (enough c.if-size-count.false)
+    checks-none _ _ f.requires _ f.needing_row-i.ensures (passed d) _ f.count_rows-counted.ensures.rows_are e.if-count-gt-ROW_LIMIT.false (enough c.if-size-count.false)
 
 pub check_needed_spec : {M : Type 1} → statement M
 check_needed_spec =

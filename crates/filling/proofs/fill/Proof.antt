@@ -14,12 +14,12 @@ check-all-requires c κs = search rules
 
 returns : tie.Need-returns-then-checked-ne0
 returns c =
-    let o = outcome_refused _ _ _ _ _ c.before.before.check_all-checked.ensures c.if-checked-ne0.true in
+    let o = outcome_refused _ _ _ _ _ c.check_all-checked.ensures c.if-checked-ne0.true in
     (o, fill_means _ _ _ _ _ _ o)
 
 -- nothing refuses it
-fills : (c : tie.Else-checked-ne0) → Fills c.before.before.before.args.table.now (length c.before.before.before.args.filled.now)
-fills c = fill_accepted _ _ (c.before.before.check_all-checked.ensures.accepted c.if-checked-ne0.false)
+fills : (c : tie.Else-checked-ne0) → Fills c.args.table.now (length c.args.filled.now)
+fills c = fill_accepted _ _ (c.check_all-checked.ensures.accepted c.if-checked-ne0.false)
 
 sub-last : tie.Need-overflow_sub-last
 unfolding rows_of
@@ -31,14 +31,14 @@ length-of-requires c κs = let h = (checked-size _ _ (fills c).checked).0 in ome
 
 write-rows-requires : tie.Need-write_rows-requires
 unfolding rows_of order_of
-write-rows-requires c κs = let f = fills c.before.before in (f.checked, c.before.length_of_lem.ensures.0, f.fits)
+write-rows-requires c κs = let f = fills c.before.before in (f.checked, c.length_of.ensures.0, f.fits)
 
 -- where nothing refuses it, from the end
 abbrev passed : tie.After-struct_known-2-1 → tie.Else-checked-ne0
 passed c = c.before.before.before.before.before
 
 cast-t11 : tie.Need-overflow_cast-result
-cast-t11 c = let e = passed c in omega (arith, e.before.before.check_all-checked.ensures.rows_are e.if-checked-ne0.false, (fills e).few)
+cast-t11 c = let e = passed c in omega (arith, e.before.before.check_all-checked.ensures.rows_are e.if-checked-ne0.left, (fills e).few)
 
 same_length : tie.Need-shape_of-filled
 same_length c = search rules
@@ -46,7 +46,7 @@ same_length c = search rules
 returns_2 : tie.Need-returns
 returns_2 c =
     let e = passed c in
-    let o = outcome_accepted _ _ _ _ _ e.before.before.check_all-checked.ensures e.if-checked-ne0.false _ c.before.before.write_rows.ensures in
+    let o = outcome_accepted _ _ _ _ _ e.check_all-checked.ensures e.if-checked-ne0.false _ c.write_rows.ensures in
     (o, fill_means _ _ _ _ _ _ o)
 
 pub fill_spec : {M : Type 1} → statement M

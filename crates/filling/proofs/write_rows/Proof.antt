@@ -33,18 +33,18 @@ abbrev decreases-loop : tie.decreases-loop-next
 decreases-loop table n filled₀ near₀ next₀ start₀ filled near next start = 8 * rows_of (filled_table table) - start
 
 next-end-requires : tie.Need-next_end-next-requires invariant-loop decreases-loop
-next-end-requires c κs = let p = c.before.requires in (p.0, (0, filling-starts _ p.0 _ p.1))
+next-end-requires c κs = let p = c.requires in (p.0, (0, filling-starts _ p.0 _ p.1))
 
 loop-holds : tie.Need-loop-next-init invariant-loop decreases-loop
 loop-holds c =
-    let p = c.before.before.requires in
+    let p = c.requires in
     record { checked = p.0; place = 0; next = c.next_end-next.ensures 0 (filling-starts _ p.0 _ p.1); writing = writing_starts _ p.0 _ p.2 }
 
 abbrev lent : tie.In-loop-next invariant-loop decreases-loop → List ℤ
-lent c = c.before.before.before.before.before.args.table.now
+lent c = c.args.table.now
 
 abbrev under : (c : tie.In-loop-next invariant-loop decreases-loop) → let l = c.before.before in Under (lent c) l.before.before.before.args.filled.now l.before.before.before.args.n l.loop-next.next.words l.loop-next.next.row l.loop-next.next.key.high l.loop-next.next.key.low l.loop-next.start l.loop-next.filled
-under c = c.before.before.loop-next.invariant
+under c = c.loop-next.invariant
 
 found : (c : tie.In-loop-next invariant-loop decreases-loop) → let l = c.before.before in ((under c).place < rows_of (filled_table (lent c))) × (words (filled_table (lent c)) (under c).place ≡ last_words (lent c) l.loop-next.next.row l.loop-next.next.words)
 found c = let v = under c in next-words _ v.checked _ _ _ _ _ _ v.next c.loop-next-test.true
@@ -75,7 +75,7 @@ write-row-requires c κs =
     let d = c.before.before in
     let v = under d in
     let l = d.loop-next-test.true in
-    (best-end _ v.checked _ _ _ _ _ _ v.next.filling.some (v.next.best l) (v.next.one l) _ c.before.length_of_lem.ensures.0, rw (length-take, length-drop) (omega (arith, (room d).0)))
+    (best-end _ v.checked _ _ _ _ _ _ v.next.filling.some (v.next.best l) (v.next.one l) _ c.length_of-k.ensures.0, rw (length-take, length-drop) (omega (arith, (room d).0)))
 
 key-after-requires : tie.Need-key_after-requires invariant-loop decreases-loop
 key-after-requires c κs = let t = c.before.before.before.before in let v = under t in next-high _ v.checked _ _ _ _ _ _ v.next t.loop-next-test.true
@@ -84,7 +84,7 @@ next-end-requires-2 : tie.Need-next_end-next-requires-in-loop-next invariant-loo
 next-end-requires-2 c κs =
     let t = c.before.before.before.before.before.before in
     let v = under t in
-    (v.checked, (v.place + 1, next_on _ v.checked _ _ _ _ _ _ v.next t.loop-next-test.true _ _ c.before.key_after.ensures))
+    (v.checked, (v.place + 1, next_on _ v.checked _ _ _ _ _ _ v.next t.loop-next-test.true _ _ c.key_after.ensures))
 
 loop-less : tie.Need-loop-next-smaller invariant-loop decreases-loop
 loop-less c = let t = c.before.before.before.before.before.before.before in omega (arith, (found t).0, (under t).writing.at)
@@ -105,11 +105,11 @@ loop-again c =
     }
 
 same_length : tie.Need-shape_of-filled invariant-loop decreases-loop
-same_length c = let v = c.before.before.loop-next.invariant in writing_length _ v.checked _ _ _ _ v.writing v.next.filling.bracket.within
+same_length c = let v = c.loop-next.invariant in writing_length _ v.checked _ _ _ _ v.writing v.next.filling.bracket.within
 
 returns : tie.Need-returns invariant-loop decreases-loop
 returns c =
-    let v = c.before.before.loop-next.invariant in
+    let v = c.loop-next.invariant in
     writing_ends _ v.checked _ _ _ _ v.writing v.next.filling.bracket.within (filling-ends _ v.checked _ _ _ _ _ v.next.filling c.loop-next-test.false)
 
 pub write_rows_spec : {M : Type 1} → statement M

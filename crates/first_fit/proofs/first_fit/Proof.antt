@@ -51,7 +51,7 @@ free-holds c N b room L = passed_none N room (fits room (words c.before)) (d_tak
 
 next-requires : tie.Need-next-d-requires invariant_behind decreases_behind invariant-loop decreases-loop invariant_free decreases_free
 next-requires c κs =
-    let p = c.before.before.requires.1 in
+    let p = c.requires.1 in
     let P = c.free.invariant p.N p.b p.c p.linked in
     record { N = p.N; b = p.b; c = p.c; check = _; linked = p.linked; inside = P.inside; member = P.member }
 
@@ -64,18 +64,18 @@ module _ (n : tie.After-next-d invariant_behind decreases_behind invariant-loop 
   start = n.before.before.before
 
   abbrev d : ℕ
-  d = n.next-d.result
+  d = n.next.result
 
   passed : PassedTo N room (fits room (words start)) n.before.free.d
   passed = n.before.free.inv N b room L
 
   -- where the chain leads
   led : d ≡ next_free N room n.before.free.d
-  led = n.next-d.ensures N b room _ L passed.inside passed.member
+  led = n.next.ensures N b room _ L passed.inside passed.member
 
   -- the search has come there
   come : Searched N room (fits room (words start)) d
-  come = subst (Searched N room (fits room (words start))) (sym led) passed.next-d
+  come = subst (Searched N room (fits room (words start))) (sym led) passed.next
 
   module _ (i : d < N) where
     less : length start.args.base.now - d < length start.args.base.now - n.before.free.d
@@ -89,8 +89,8 @@ module _ (n : tie.After-next-d invariant_behind decreases_behind invariant-loop 
     free = come.free i
 
     -- the last child's slot may be tested before all
-    tested_first : (behind : Bool) → all_open room behind d (words start) ≡ all_open room behind d (n.before.before.last_word-last.result ∷ words start)
-    tested_first behind = n.before.before.last_word-last.ensures.same room behind d (open_yes room d come.positive free)
+    tested_first : (behind : Bool) → all_open room behind d (words start) ≡ all_open room behind d (n.before.before.last_word.result ∷ words start)
+    tested_first behind = n.before.before.last_word.ensures.same room behind d (open_yes room d come.positive free)
 
     finds : (behind : Bool) → all_open room behind d (words start) ≡ true → all_open room true d (words start) ≡ behind → FoundFit N room start.args.rows.now d behind
     finds behind h s =
@@ -98,21 +98,21 @@ module _ (n : tie.After-next-d invariant_behind decreases_behind invariant-loop 
         record { d_is = e; side_is = λ l. sym s ∙ ap (side_at room (words start)) (omega (arith, e)) }
 
 -- d is a slot
-inside : (e : tie.Else-d-check invariant_behind decreases_behind invariant-loop decreases-loop invariant_free decreases_free) {N : ℕ} {b room : Room} → Holds e.before N b room → e.before.next-d.result < N
+inside : (e : tie.Else-d-check invariant_behind decreases_behind invariant-loop decreases-loop invariant_free decreases_free) {N : ℕ} {b room : Room} → Holds e.before N b room → e.next-d.result < N
 inside e L = omega (arith, e.if-d-check.false, (come e.before L).within, linked-check-length L)
 
-positive : (e : tie.Else-d-check invariant_behind decreases_behind invariant-loop decreases-loop invariant_free decreases_free) → 1 ≤ e.before.next-d.result
-positive e = (come e.before e.before.before.before.before.requires.1.linked).positive
+positive : (e : tie.Else-d-check invariant_behind decreases_behind invariant-loop decreases-loop invariant_free decreases_free) → 1 ≤ e.next-d.result
+positive e = (come e.before e.requires.1.linked).positive
 
 few : (n : tie.After-next-d invariant_behind decreases_behind invariant-loop decreases-loop invariant_free decreases_free) → n.next-d.result ≤ slot_limit
-few n = let p = n.before.before.before.requires.1 in omega (arith, (come n p.linked).within, p.linked.size)
+few n = let p = n.requires.1 in omega (arith, (come n p.linked).within, p.linked.size)
 
 -- ---- the pass behind d
 
 behind-holds : tie.Need-behind-init invariant_behind decreases_behind invariant-loop decreases-loop invariant_free decreases_free
 unfolding rows_of
 behind-holds c =
-    let rows = c.before.before.before.before.args.rows.now in
+    let rows = c.args.rows.now in
     let e : length rows / 8 - 0 ≡ length rows / 8 = omega arith in
     (omega arith, λ N b room L. rw e (tested_first c.before L (inside c L) true))
 
@@ -126,11 +126,11 @@ tested_behind c {N} {b} {room} L = sym (c.is_open_behind.ensures N b room _ L)
 
 -- a child is left
 left : (e : tie.Else-k-count invariant_behind decreases_behind invariant-loop decreases-loop invariant_free decreases_free) → let l = e.before.before.before in l.behind.k < length l.before.before.before.before.before.args.rows.now / 8
-left e = omega (arith, e.before.before.before.behind.invariant.0, e.if-k-count.false)
+left e = omega (arith, e.behind.invariant.0, e.if-k-count.false)
 
 oldest-word-requires : tie.Need-oldest_word-w-requires invariant_behind decreases_behind invariant-loop decreases-loop invariant_free decreases_free
 unfolding rows_of
-oldest-word-requires c κs = (c.before.before.before.before.before.before.before.before.requires.0, left c)
+oldest-word-requires c κs = (c.requires.0, left c)
 
 add-k : tie.Need-overflow_add-k invariant_behind decreases_behind invariant-loop decreases-loop invariant_free decreases_free
 add-k c = search rules
@@ -146,7 +146,7 @@ behind-again c =
       omega (arith, left e),
       λ N b room L.
           subst (λ (w : ℕ). all_open room true n.next-d.result (words (start n L)) ≡ all_open room true n.next-d.result (w ∷ oldest_from (start n L).args.rows.now (l.behind.k + 1) (length (start n L).args.rows.now / 8 - (l.behind.k + 1)))) (sym c.oldest_word-w.ensures.0)
-          (l.behind.invariant.1 N b room L ∙ open_step _ _ _ _ _ _ _ (left e) (tested_behind e.before.before L ∙ not-false _ e.before.if-not-is_open_behind.false)),
+          (l.behind.invariant.1 N b room L ∙ open_step _ _ _ _ _ _ _ (left e) (tested_behind e.before.before L ∙ e.if-not-is_open_behind.false)),
     )
 
 -- where it leaves, the d
@@ -154,7 +154,7 @@ abbrev chosen : tie.Then-not-is_open_behind invariant_behind decreases_behind in
 chosen c = c.before.before.before
 
 closed : (c : tie.Then-not-is_open_behind invariant_behind decreases_behind invariant-loop decreases-loop invariant_free decreases_free) {N : ℕ} {b room : Room} → let n = (chosen c).before in Holds n N b room → all_open room true n.next-d.result (words n.before.before.before) ≡ false
-closed c {N} {b} {room} L = c.before.before.behind.invariant.1 N b room L ∙ open_fails _ _ _ _ _ _ _ (tested_behind c.before L ∙ not-true _ c.if-not-is_open_behind.true)
+closed c {N} {b} {room} L = c.before.before.behind.invariant.1 N b room L ∙ open_fails _ _ _ _ _ _ _ (tested_behind c.before L ∙ c.if-not-is_open_behind.true)
 
 -- ---- the pass ahead of d
 
@@ -182,27 +182,27 @@ tested c {N} {b} {room} L = sym (c.is_free.ensures N b room _ L (omega (arith, p
 
 opened : (c : tie.Else-not-is_free invariant_behind decreases_behind invariant-loop decreases-loop invariant_free decreases_free) {N : ℕ} {b room : Room} → let n = (chosen (gone c.before)).before in
     Holds n N b room → is_open room (child_slot false n.next-d.result c.before.before.loop-w.w) ≡ true
-opened c L = open_yes _ _ (omega (arith, positive (chosen (gone c.before)))) (tested c.before L ∙ not-false _ c.if-not-is_free.false)
+opened c L = open_yes _ _ (omega (arith, positive (chosen (gone c.before)))) (tested c.before L ∙ c.if-not-is_free.false)
 
 -- the d does not fit
 missed : (c : tie.Then-not-is_free invariant_behind decreases_behind invariant-loop decreases-loop invariant_free decreases_free) {N : ℕ} {b room : Room} → let n = (chosen (gone c.before)).before in Holds n N b room → fits room (words n.before.before.before) n.next-d.result ≡ false
 missed c {N} {b} {room} L =
     sides_taken _ _ _ (closed (gone c.before) L)
-    (c.before.before.loop-w.invariant.2 N b room L ∙ open_fails _ _ _ _ _ _ _ (open_taken _ _ (tested c.before L ∙ not-true _ c.if-not-is_free.true)))
+    (c.before.before.loop-w.invariant.2 N b room L ∙ open_fails _ _ _ _ _ _ _ (open_taken _ _ (tested c.before L ∙ c.if-not-is_free.true)))
 
 free-less : tie.Need-free-smaller invariant_behind decreases_behind invariant-loop decreases-loop invariant_free decreases_free
-free-less c = let e = chosen (gone c.before) in let L = e.before.before.before.before.requires.1.linked in less e.before L (inside e L)
+free-less c = let e = chosen (gone c.before) in let L = e.before.before.before.before.pre.1.linked in less e.before L (inside e L)
 
 free-again : tie.Need-free-preserved invariant_behind decreases_behind invariant-loop decreases-loop invariant_free decreases_free
 free-again c N b room L = let e = chosen (gone c.before) in goes_on e.before L (inside e L) (missed c L)
 
 -- a child is left
-left-ahead : (e : tie.Else-k-count-2 invariant_behind decreases_behind invariant-loop decreases-loop invariant_free decreases_free) → let l = e.before.before.before in l.loop-w.k < length (start (chosen l.before).before (chosen l.before).before.before.before.before.requires.1.linked).args.rows.now / 8
-left-ahead e = omega (arith, e.before.before.before.loop-w.invariant.0, e.if-k-count-2.false)
+left-ahead : (e : tie.Else-k-count-2 invariant_behind decreases_behind invariant-loop decreases-loop invariant_free decreases_free) → let l = e.before.before.before in l.loop-w.k < length (start (chosen l.before).before (chosen l.before).requires.1.linked).args.rows.now / 8
+left-ahead e = omega (arith, e.loop-w.invariant.0, e.if-k-count-2.false)
 
 oldest-word-requires-2 : tie.Need-oldest_word-w-requires-in-loop-w invariant_behind decreases_behind invariant-loop decreases-loop invariant_free decreases_free
 unfolding rows_of
-oldest-word-requires-2 c κs = ((chosen c.before.before.before.before).before.before.before.before.requires.0, left-ahead c)
+oldest-word-requires-2 c κs = ((chosen c.before.before.before.before).requires.0, left-ahead c)
 
 add-k-2 : tie.Need-overflow_add-k-in-loop-w invariant_behind decreases_behind invariant-loop decreases-loop invariant_free decreases_free
 add-k-2 c = search rules
@@ -237,7 +237,7 @@ returns c N b room L =
 returns_2 : tie.Need-returns-then-k-count invariant_behind decreases_behind invariant-loop decreases-loop invariant_free decreases_free
 returns_2 c N b room L =
     let l = c.before.before.before in
-    let h = l.behind.invariant.1 N b room L ∙ open_end _ _ _ _ _ _ _ (omega (arith, c.if-k-count.true)) (tested_behind c.before.before L ∙ not-false _ c.before.if-not-is_open_behind.false) in
+    let h = l.behind.invariant.1 N b room L ∙ open_end _ _ _ _ _ _ _ (omega (arith, c.if-k-count.true)) (tested_behind c.before.before L ∙ c.if-not-is_open_behind.false) in
     finds l.before.before L (inside l.before L) true h h
 
 returns_3 : tie.Need-returns-then-k-count-2 invariant_behind decreases_behind invariant-loop decreases-loop invariant_free decreases_free

@@ -21,8 +21,8 @@ decreases-loop work₀ rows behind d k₀ work k = length work₀ - k
 loop-holds : tie.Need-loop-k-init invariant-loop decreases-loop
 loop-holds c = giving_none _ _ _ _
 
-inside : (c : tie.In-loop-k invariant-loop decreases-loop) → c.before.loop-k.k < rows_of c.before.before.before.args.rows.now
-inside c = omega (arith, c.loop-k-test.true, c.before.before.before.requires.0.1, c.before.loop-k.invariant.same_length)
+inside : (c : tie.In-loop-k invariant-loop decreases-loop) → c.loop-k.k < rows_of c.args.rows.now
+inside c = omega (arith, c.loop-k-test.true, c.requires.0.1, c.loop-k.invariant.same_length)
 
 oldest-word-requires : tie.Need-oldest_word-requires invariant-loop decreases-loop
 oldest-word-requires c κs = let s = c.before.before.before in (s.requires.0.0, inside c)
@@ -32,16 +32,16 @@ child-slot-requires c κs =
     let s = c.before.before.before.before in (
       s.requires.0.2,
       c.oldest_word.ensures.1,
-      λ e. rw c.oldest_word.ensures.0 (s.requires.1.room e c.before.before.loop-k.k (inside c.before)),
+      λ e. rw c.oldest_word.ensures.0 (s.requires.1.room e c.loop-k.k (inside c.before)),
     )
 
-child-is : (c : tie.After-child_slot-t invariant-loop decreases-loop) → c.child_slot-t.result ≡ child_slot c.before.before.before.before.before.args.behind c.before.before.before.before.before.args.d (word_of (field c.before.before.before.before.before.args.rows.now c.before.before.before.loop-k.k 1))
-child-is c = let s = c.before.before.before.before.before in c.child_slot-t.ensures ∙ ap (child_slot s.args.behind s.args.d) c.before.oldest_word.ensures.0
+child-is : (c : tie.After-child_slot-t invariant-loop decreases-loop) → c.child_slot-t.result ≡ child_slot c.args.behind c.args.d (word_of (field c.args.rows.now c.loop-k.k 1))
+child-is c = let s = c.before.before.before.before.before in c.child_slot-t.ensures ∙ ap (child_slot s.args.behind s.args.d) c.oldest_word.ensures.0
 
 child-few : (c : tie.After-child_slot-t invariant-loop decreases-loop) → c.child_slot-t.result ≤ slot_limit + word_limit
 child-few c =
     let s = c.before.before.before.before.before in
-    omega (arith, c.child_slot-t.ensures, child-slot-high s.args.behind s.args.d c.before.oldest_word.result, c.before.oldest_word.ensures.1, s.requires.0.2)
+    omega (arith, c.child_slot-t.ensures, child-slot-high s.args.behind s.args.d c.oldest_word.result, c.oldest_word.ensures.1, s.requires.0.2)
 
 cast-work : tie.Need-overflow_cast-work invariant-loop decreases-loop
 cast-work c = omega (arith, child-few c)
@@ -56,18 +56,18 @@ add-k : tie.Need-overflow_add-k invariant-loop decreases-loop
 add-k c = search rules
 
 loop-less : tie.Need-loop-k-smaller invariant-loop decreases-loop
-loop-less c = omega (arith, c.before.before.loop-k-test.true, c.before.before.before.loop-k.invariant.same_length)
+loop-less c = omega (arith, c.loop-k-test.true, c.loop-k.invariant.same_length)
 
 loop-again : tie.Need-loop-k-preserved invariant-loop decreases-loop
 loop-again c =
     let l = c.before.before.before in
-    giving_next _ _ _ _ _ _ _ l.loop-k.invariant c.before.before.loop-k-test.true (child-is c)
+    giving_next _ _ _ _ _ _ _ l.loop-k.invariant c.loop-k-test.true (child-is c)
 
 same_length : tie.Need-shape_of-work invariant-loop decreases-loop
-same_length c = c.before.loop-k.invariant.same_length
+same_length c = c.loop-k.invariant.same_length
 
 returns : tie.Need-returns invariant-loop decreases-loop
-returns c = giving_end _ _ _ _ _ _ c.before.loop-k.invariant (omega (arith, c.loop-k-test.false, c.before.loop-k.invariant.same_length))
+returns c = giving_end _ _ _ _ _ _ c.loop-k.invariant (omega (arith, c.loop-k-test.false, c.loop-k.invariant.same_length))
 
 pub give_slots_spec : {M : Type 1} → statement M
 give_slots_spec =

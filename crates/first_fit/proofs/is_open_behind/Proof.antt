@@ -25,7 +25,7 @@ open_is room t l = rw (le-leb 1 t l)
 returns_2 : tie.Need-returns
 returns_2 c N b room base L =
     let s = c.before.before in
-    let p : 1 ≤ s.args.d - s.args.w = omega (arith, c.before.if-d-w.false) in
+    let p : 1 ≤ s.args.d - s.args.w = omega (arith, c.if-d-w.false) in
     c.is_free.ensures N b room base L p ∙ sym (open_is room _ p)
 
 pub is_open_behind_spec : {M : Type 1} → statement M

@@ -13,7 +13,7 @@ larger-requires : tie.Need-larger-requires
 larger-requires c κs = search rules
 
 returns : tie.Need-returns-then-behind
-returns c = let s = c.before.before in rw c.before.if-behind.true (omega (arith, c.larger.ensures, reach-behind s.args.top s.args.d (oldest_of s.args.rows.now)))
+returns c = let s = c.before.before in rw c.if-behind.true (omega (arith, c.larger.ensures, reach-behind s.args.top s.args.d (oldest_of s.args.rows.now)))
 
 last-word-requires : tie.Need-last_word-requires
 last-word-requires c κs = search rules
@@ -28,7 +28,7 @@ larger-requires-2 : tie.Need-larger-requires-2
 larger-requires-2 c κs = search rules
 
 returns_2 : tie.Need-returns
-returns_2 c = let s = c.before.before.before in rw c.before.before.if-behind.false (omega (arith, c.larger-2.ensures, c.before.last_word.ensures.farthest s.requires.1 s.args.top s.args.d))
+returns_2 c = let s = c.before.before.before in rw c.if-behind.false (omega (arith, c.larger-2.ensures, c.last_word.ensures.farthest s.requires.1 s.args.top s.args.d))
 
 pub new_top_spec : {M : Type 1} → statement M
 new_top_spec =

@@ -33,7 +33,7 @@ unfolding field
 fits c = sfits_of c.result-1.given
 
 in_words : (c : tie.After-result-1) → between (pos 0) (pos word_limit) (word c.before) ≡ true
-in_words c = c.before.requires.0.word c.before.args.k c.before.requires.1
+in_words c = c.requires.0.word c.args.k c.requires.1
 
 cast-result : tie.Need-overflow_cast-result
 unfolding field

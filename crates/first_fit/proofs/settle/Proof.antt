@@ -32,7 +32,7 @@ loop-holds c N b room z S F = owning_none S F
 
 oldest-word-requires : tie.Need-oldest_word-requires invariant-loop decreases-loop
 unfolding rows_of
-oldest-word-requires c κs = (c.before.before.before.before.requires.0, c.loop-k-test.true)
+oldest-word-requires c κs = (c.requires.0, c.loop-k-test.true)
 
 abbrev start : tie.At-loop-k invariant-loop decreases-loop → tie.Start invariant-loop decreases-loop
 start l = l.before.before.before
@@ -42,7 +42,7 @@ so_far : (l : tie.At-loop-k invariant-loop decreases-loop) → let s = start l i
     Owning s.requires.1.0 s.requires.1.1 s.requires.1.2 s.args.rows.now s.args.behind s.args.d s.args.node.slot l.loop-k.base l.loop-k.check l.loop-k.k
 so_far l = let p = (start l).requires.1 in l.loop-k.invariant p.0 p.1 p.2 _ p.3 p.4
 
-left : (c : tie.In-loop-k invariant-loop decreases-loop) → c.before.loop-k.k < rows_of (start c.before).args.rows.now
+left : (c : tie.In-loop-k invariant-loop decreases-loop) → c.loop-k.k < rows_of (start c.before).args.rows.now
 unfolding rows_of
 left c = c.loop-k-test.true
 
@@ -57,11 +57,11 @@ child-slot-requires c κs =
     let i = c.before in
     let s = start i.before in
     let slots = slots_open s.requires.1.2 s.args.behind s.args.d s.args.rows.now s.requires.1.4.opened in
-    (omega (arith, few s), c.oldest_word.ensures.1, λ e. rw c.oldest_word.ensures.0 (slots.room e i.before.loop-k.k (left i)))
+    (omega (arith, few s), c.oldest_word.ensures.1, λ e. rw c.oldest_word.ensures.0 (slots.room e i.loop-k.k (left i)))
 
 child-is : (c : tie.After-child_slot-t invariant-loop decreases-loop) → let l = c.before.before.before in let s = start l in
     c.child_slot-t.result ≡ child_slot s.args.behind s.args.d (word_of (field s.args.rows.now l.loop-k.k 1))
-child-is c = let s = start c.before.before.before in c.child_slot-t.ensures ∙ ap (child_slot s.args.behind s.args.d) c.before.oldest_word.ensures.0
+child-is c = let s = start c.before.before.before in c.child_slot-t.ensures ∙ ap (child_slot s.args.behind s.args.d) c.oldest_word.ensures.0
 
 cast-take : tie.Need-overflow_cast-slot invariant-loop decreases-loop
 cast-take c = record { sfits = omega (arith, few (start c.before.before.before.before.before)) }
@@ -92,16 +92,16 @@ loop-again : tie.Need-loop-k-preserved invariant-loop decreases-loop
 loop-again c N b room z S F =
     let k = c.before.before in
     let i = k.before.before.before.before.before in
-    owning_next (i.before.loop-k.invariant N b room z S F) (left i) S.children (λ L free. took k L free)
+    owning_next (i.loop-k.invariant N b room z S F) (left i) S.children (λ L free. took k L free)
 
-ended : (a : tie.After-loop-k invariant-loop decreases-loop) → rows_of (start a.before).args.rows.now ≤ a.before.loop-k.k
+ended : (a : tie.After-loop-k invariant-loop decreases-loop) → rows_of (start a.before).args.rows.now ≤ a.loop-k.k
 unfolding rows_of
 ended a = a.loop-k-test.false
 
-load_is : (s : tie.After-struct_told-2-1 invariant-loop decreases-loop) → to_z w32 (of_z w32 s.before.before.args.node.load) ≡ s.before.before.args.node.load
+load_is : (s : tie.After-struct_told-2-1 invariant-loop decreases-loop) → to_z w32 (of_z w32 s.args.node.load) ≡ s.args.node.load
 load_is s = to_z-of_z {w = w32} (sfits_of s.struct_told-2-1.given.1.1.0.1)
 
-mark-is : (s : tie.After-struct_told-2-1 invariant-loop decreases-loop) → to_z w32 (of_z w32 s.before.before.args.node.mark) ≡ s.before.before.args.node.mark
+mark-is : (s : tie.After-struct_told-2-1 invariant-loop decreases-loop) → to_z w32 (of_z w32 s.args.node.mark) ≡ s.args.node.mark
 mark-is s = to_z-of_z {w = w32} (sfits_of s.struct_told-2-1.given.1.0.1)
 
 take-requires-2 : tie.Need-take-requires-2 invariant-loop decreases-loop

@@ -48,10 +48,10 @@ returns : tie.Need-returns-then-not-is_array
 returns c =
     let k = c.before.before in
     let s = k.before.before in
-    answers s.args.base.now s.args.check.now s.args.words.now _ (c.refused.ensures ∙ no-array _ _ _ (sym k.is_array.ensures ∙ not-true k.is_array.result c.before.if-not-is_array.true))
+    answers s.args.base.now s.args.check.now s.args.words.now _ (c.refused.ensures ∙ no-array _ _ _ (sym k.is_array.ensures ∙ c.if-not-is_array.true))
 
-array : (c : tie.Else-not-is_array) → is_array c.before.before.before.args.base.now c.before.before.before.args.check.now ≡ true
-array c = sym c.before.is_array.ensures ∙ not-false c.before.is_array.result c.if-not-is_array.false
+array : (c : tie.Else-not-is_array) → is_array c.args.base.now c.args.check.now ≡ true
+array c = sym c.is_array.ensures ∙ c.if-not-is_array.false
 
 refused-requires-2 : tie.Need-refused-requires-then-words-gt-RUN_LIMIT
 refused-requires-2 c κs = search rules
@@ -60,13 +60,13 @@ returns_2 : tie.Need-returns-then-words-gt-RUN_LIMIT
 returns_2 c =
     let e = c.before.before in
     let s = e.before.before.before in
-    answers s.args.base.now s.args.check.now s.args.words.now _ (c.refused-then-words-gt-RUN_LIMIT.ensures ∙ too_many _ _ _ (array e) c.before.if-words-gt-RUN_LIMIT.true)
+    answers s.args.base.now s.args.check.now s.args.words.now _ (c.refused-then-words-gt-RUN_LIMIT.ensures ∙ too_many _ _ _ (array e) c.if-words-gt-RUN_LIMIT.true)
 
 order-of-requires : tie.Need-order_of-order-requires
 order-of-requires c κs = let s = c.before.before.before.before in (opened-head s.args.base.now s.args.check.now (array c.before)).order
 
 scored-requires : tie.Need-scored-requires
-scored-requires c κs = (array c.before.before, (c.order_of-order.ensures, c.before.if-words-gt-RUN_LIMIT.false))
+scored-requires c κs = (array c.before.before, (c.order_of-order.ensures, c.if-words-gt-RUN_LIMIT.false))
 
 returns_3 : tie.Need-returns
 returns_3 c =

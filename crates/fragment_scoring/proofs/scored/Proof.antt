@@ -33,7 +33,7 @@ returns c =
     let s = k.before.before.before in
     let S = store_in s.args.base.now s.args.check.now in
     let ws = s.args.words.now in
-    c.refused.ensures ∙ ap crossed (sym (summed-refused s.args.order ws nine_zeros k.sum_words-ran.result (run_over S ws empty 1) (summed-empty S ws _ _ k.before.empty.ensures k.sum_words-ran.ensures) c.before.if-ran-ne0.true))
+    c.refused.ensures ∙ ap crossed (sym (summed-refused s.args.order ws nine_zeros k.sum_words-ran.result (run_over S ws empty 1) (summed-empty S ws _ _ k.empty.ensures k.sum_words-ran.ensures) c.if-ran-ne0.true))
 
 kept-fragment-requires : tie.Need-kept_fragment-requires
 kept-fragment-requires c κs =
@@ -48,9 +48,9 @@ returns_2 c =
     let S = store_in s.args.base.now s.args.check.now in
     let ws = s.args.words.now in
     let x = k.sum_words-ran.result in
-    let fits : SFits w64 x.total = sfits_of c.before.struct_told-1.given.1.1.0.1 in
-    ap (λ (f : Fragment). record { number = 0; place = 0; fragment = f }) (c.kept_fragment.ensures ∙ ap (λ (z : ℤ). to_numbers (scored_fragment s.args.order ws z (numbers_of x.end-1))) (to_z-of_z fits))
-    ∙ ap crossed (sym (summed-scored s.args.order ws nine_zeros x (run_over S ws empty 1) (summed-empty S ws _ _ k.before.empty.ensures k.sum_words-ran.ensures) e.if-ran-ne0.false))
+    let fits : SFits w64 x.total = sfits_of c.struct_told-1.given.1.1.0.1 in
+    ap (λ (f : Fragment). record { number = 0; place = 0; fragment = f }) (c.kept_fragment.ensures ∙ ap (λ (z : ℤ). to_numbers (scored_fragment s.args.order ws z (numbers_of x.end))) (to_z-of_z fits))
+    ∙ ap crossed (sym (summed-scored s.args.order ws nine_zeros x (run_over S ws empty 1) (summed-empty S ws _ _ k.empty.ensures k.sum_words-ran.ensures) e.if-ran-ne0.false))
 
 pub scored_spec : {M : Type 1} → statement M
 scored_spec =

@@ -19,7 +19,7 @@ word-at-requires-4 c κs = search rules
 
 returns : tie.Need-returns
 unfolding four_places
-returns c = same-four c.before.before.before.word_at.ensures c.before.before.word_at-2.ensures c.before.word_at-3.ensures c.word_at-4.ensures
+returns c = same-four c.word_at.ensures c.word_at-2.ensures c.word_at-3.ensures c.word_at-4.ensures
 
 pub first_words_spec : {M : Type 1} → statement M
 first_words_spec =

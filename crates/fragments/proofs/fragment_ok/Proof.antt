@@ -40,7 +40,7 @@ returns c =
     let t = k.before.before.before in
     let s = t.before.before in
     let f = s.args.fragment in
-    three_tests f.kept _ _ k.kept_of.ensures t.state_ok_lem.ensures (c.total_ok-total_ok.ensures ∙ ap (λ (z : ℤ). leb (nat_abs z) (f.count * (s.args.order * largest_backoff))) (to_z-of_z (total-fits s)))
+    three_tests f.kept _ _ k.kept_of.ensures t.state_ok-state_ok.ensures (c.total_ok-total_ok.ensures ∙ ap (λ (z : ℤ). leb (nat_abs z) (f.count * (s.args.order * largest_backoff))) (to_z-of_z (total-fits s)))
     ∙ sym (fragment_ok_tests s.args.order f)
 
 pub fragment_ok_spec : {M : Type 1} → statement M

@@ -33,7 +33,7 @@ returns c =
       total = to_z-of_z s.ranges.total i;
       count = length s.args.words.now;
       kept = (c.kept_of.ensures ∙ sym (length-take (s.args.order - 1) s.args.words.now)) i;
-      first = c.before.first_words-first.ensures i;
+      first = c.first_words-first.ensures i;
       state = sym (state_from-numbers s.args.end (four s)) i;
     }
 

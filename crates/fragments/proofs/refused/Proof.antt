@@ -21,7 +21,7 @@ returns : tie.Need-returns
 unfolding no_words four_places
 returns c =
     let state : c.empty.result ≡ state_from nine_zeros = sym (state_from-numbers c.empty.result (four c)) ∙ ap state_from c.empty.ensures in
-    λ i. record { number = c.before.args.number; place = c.before.args.place; fragment = record { total = pos 0; count = 0; kept = 0; first = 0 ∷ 0 ∷ 0 ∷ 0 ∷ []; state = state i } }
+    λ i. record { number = c.args.number; place = c.args.place; fragment = record { total = pos 0; count = 0; kept = 0; first = 0 ∷ 0 ∷ 0 ∷ 0 ∷ []; state = state i } }
 
 pub refused_spec : {M : Type 1} → statement M
 refused_spec = tie.close (tie.spec empty-requires returns)

@@ -24,8 +24,8 @@ abbrev wanted : tie.Start invariant-loop decreases-loop → ℤ
 wanted s = to_z w64 (of_z w64 s.args.total)
 
 -- the sentence of this turn is in the group
-inside : (l : tie.At-loop-s invariant-loop decreases-loop) → l.loop-s.at < length l.before.args.totals.now
-inside l = omega (arith, l.loop-s.invariant.1.at-is, l.before.requires.0.inside l.loop-s.s l.loop-s.invariant.0)
+inside : (l : tie.At-loop-s invariant-loop decreases-loop) → l.loop-s.at < length l.args.totals.now
+inside l = omega (arith, l.loop-s.invariant.1.at-is, l.requires.0.inside l.loop-s.s l.loop-s.invariant.0)
 
 loop-holds : tie.Need-loop-s-init invariant-loop decreases-loop
 loop-holds c = (omega (arith, c.requires.0.two), search_begins c.args.totals.now c.args.first c.args.weight (wanted c))
@@ -39,7 +39,7 @@ mul-if1 c = let h = inside c.before in search rules
 shared-slice-copy-out-if1 : tie.Need-bounds-totals-at invariant-loop decreases-loop
 shared-slice-copy-out-if1 c = inside c.before
 
-read_fits : (c : tie.After-t11-1 invariant-loop decreases-loop) → SFits w64 (get_or c.before.before.before.args.totals.now c.before.before.loop-s.at (pos 0))
+read_fits : (c : tie.After-t11-1 invariant-loop decreases-loop) → SFits w64 (get_or c.args.totals.now c.loop-s.at (pos 0))
 read_fits c = sfits_of c.t11-1.given
 
 returns : tie.Need-returns-then-totals-at invariant-loop decreases-loop
@@ -53,13 +53,13 @@ add_at : tie.Need-overflow_add-at invariant-loop decreases-loop
 add_at c =
     let i = c.before.before in
     let l = i.before in
-    omega (arith, l.loop-s.invariant.1.at-is, l.before.requires.0.inside (l.loop-s.s + 1) i.loop-s-test.true)
+    omega (arith, l.loop-s.invariant.1.at-is, l.requires.0.inside (l.loop-s.s + 1) i.loop-s-test.true)
 
 add-s : tie.Need-overflow_add-s-in-loop-s invariant-loop decreases-loop
-add-s c = omega (arith, c.before.before.loop-s-test.true)
+add-s c = omega (arith, c.loop-s-test.true)
 
 loop-less : tie.Need-loop-s-smaller invariant-loop decreases-loop
-loop-less c = omega (arith, c.before.before.before.loop-s.invariant.0)
+loop-less c = omega (arith, c.loop-s.invariant.0)
 
 loop-again : tie.Need-loop-s-preserved invariant-loop decreases-loop
 loop-again c =

@@ -31,8 +31,8 @@ begins : (c : tie.Start invariant-loop decreases-loop) → c.args.first < length
 begins c = omega (arith, c.requires.1.inside 0 (omega (arith, c.requires.1.two)))
 
 -- the sentence of this turn
-inside : (c : tie.In-loop-s invariant-loop decreases-loop) → c.before.loop-s.at + c.before.before.before.args.weight < length c.before.before.before.args.totals.now
-inside c = omega (arith, c.before.loop-s.invariant.step, c.before.before.before.requires.1.inside c.before.loop-s.s c.loop-s-test.true)
+inside : (c : tie.In-loop-s invariant-loop decreases-loop) → c.loop-s.at + c.args.weight < length c.args.totals.now
+inside c = omega (arith, c.loop-s.invariant.step, c.requires.1.inside c.loop-s.s c.loop-s-test.true)
 
 mul_low : tie.Need-offset_bounds-totals-first invariant-loop decreases-loop
 mul_low c = let h = begins c in search rules
@@ -40,7 +40,7 @@ mul_low c = let h = begins c in search rules
 shared-slice-copy-out-low : tie.Need-bounds-totals-first invariant-loop decreases-loop
 shared-slice-copy-out-low c = begins c
 
-low_fits : (c : tie.After-low-1 invariant-loop decreases-loop) → SFits w64 (get_or c.before.args.totals.now c.before.args.first (pos 0))
+low_fits : (c : tie.After-low-1 invariant-loop decreases-loop) → SFits w64 (get_or c.args.totals.now c.args.first (pos 0))
 low_fits c = sfits_of c.low-1.given
 
 loop-holds : tie.Need-loop-s-init invariant-loop decreases-loop
@@ -58,17 +58,17 @@ shared-slice-copy-out-total : tie.Need-bounds-totals-at invariant-loop decreases
 shared-slice-copy-out-total c = inside c
 
 add-s : tie.Need-overflow_add-s invariant-loop decreases-loop
-add-s c = omega (arith, c.before.before.before.loop-s-test.true)
+add-s c = omega (arith, c.loop-s-test.true)
 
 loop-less : tie.Need-loop-s-smaller invariant-loop decreases-loop
-loop-less c = omega (arith, c.before.before.before.loop-s-test.true)
+loop-less c = omega (arith, c.loop-s-test.true)
 
-total-fits : (c : tie.After-total-1 invariant-loop decreases-loop) → SFits w64 (get_or c.before.before.before.before.args.totals.now (c.before.before.loop-s.at + c.before.before.before.before.args.weight) (pos 0))
+total-fits : (c : tie.After-total-1 invariant-loop decreases-loop) → SFits w64 (get_or c.args.totals.now (c.loop-s.at + c.args.weight) (pos 0))
 total-fits c = sfits_of c.total-1.given
 
 -- the total of this turn, by its place in the group
-new-total : (c : tie.After-total-1 invariant-loop decreases-loop) → to_z w64 (of_z w64 (total_at c.before.before.before.before.args.totals.now (c.before.before.loop-s.at + c.before.before.before.before.args.weight))) ≡ total_at c.before.before.before.before.args.totals.now (c.before.before.before.before.args.first + c.before.before.loop-s.s * c.before.before.before.before.args.weight)
-new-total c = to_z-of_z (total-fits c) ∙ ap (total_at c.before.before.before.before.args.totals.now) c.before.before.loop-s.invariant.step
+new-total : (c : tie.After-total-1 invariant-loop decreases-loop) → to_z w64 (of_z w64 (total_at c.args.totals.now (c.loop-s.at + c.args.weight))) ≡ total_at c.args.totals.now (c.args.first + c.loop-s.s * c.args.weight)
+new-total c = to_z-of_z (total-fits c) ∙ ap (total_at c.args.totals.now) c.loop-s.invariant.step
 
 loop-again : tie.Need-loop-s-preserved invariant-loop decreases-loop
 loop-again c =
@@ -78,27 +78,27 @@ loop-again c =
     let l = i.before in
     let s = l.before.before in
     let x = total_at s.args.totals.now (s.args.first + l.loop-s.s * s.args.weight) in
-    let low : Chosen (lt_z x (to_z w64 l.loop-s.low)) x (to_z w64 l.loop-s.low) (to_z w64 j.if-total-low.low-1) =
+    let low : Chosen (lt_z x (to_z w64 l.loop-s.low-bits)) x (to_z w64 l.loop-s.low-bits) (to_z w64 j.if-total-low.low) =
     ⊎_elim
     (λ w. inl (rw (new-total t) at w.0.true, ap (to_z w64) w.1 ∙ new-total t))
     (λ w. inr (rw (new-total t) at w.0.left, ap (to_z w64) w.1))
-    j.if-total-low.branch in
-    let high : Chosen (lt_z (to_z w64 l.loop-s.high) x) x (to_z w64 l.loop-s.high) (to_z w64 c.if-high-total.high) =
+    j.if-total-low.branch-raw in
+    let high : Chosen (lt_z (to_z w64 l.loop-s.high-bits) x) x (to_z w64 l.loop-s.high-bits) (to_z w64 c.if-high-total.high) =
     ⊎_elim
     (λ w. inl (rw (new-total t) at w.0.true, ap (to_z w64) w.1 ∙ new-total t))
     (λ w. inr (rw (new-total t) at w.0.left, ap (to_z w64) w.1))
-    c.if-high-total.branch in
+    c.if-high-total.branch-raw in
     record {
-      spans = spans-more s.args.totals.now s.args.first s.args.weight l.loop-s.s (to_z w64 l.loop-s.low) (to_z w64 l.loop-s.high) l.loop-s.invariant.spans (to_z w64 j.if-total-low.low-1) (to_z w64 c.if-high-total.high) low high;
+      spans = spans-more s.args.totals.now s.args.first s.args.weight l.loop-s.s (to_z w64 l.loop-s.low-bits) (to_z w64 l.loop-s.high-bits) l.loop-s.invariant.spans (to_z w64 j.if-total-low.low) (to_z w64 c.if-high-total.high) low high;
       few = omega (arith, i.loop-s-test.true);
       step = omega (arith, l.loop-s.invariant.step);
     }
 
 -- all of the group are passed
-whole : (c : tie.After-loop-s invariant-loop decreases-loop) → Spans c.before.before.before.args.totals.now c.before.before.before.args.first c.before.before.before.args.weight c.before.before.before.args.count (to_z w64 c.before.loop-s.low) (to_z w64 c.before.loop-s.high)
+whole : (c : tie.After-loop-s invariant-loop decreases-loop) → Spans c.args.totals.now c.args.first c.args.weight c.args.count (to_z w64 c.loop-s.low-bits) (to_z w64 c.loop-s.high-bits)
 whole c =
     let l = c.before in
-    let e : l.loop-s.s ≡ l.before.before.args.count = omega (arith, l.loop-s.invariant.few, c.loop-s-test.false) in
+    let e : l.loop-s.s ≡ l.args.count = omega (arith, l.loop-s.invariant.few, c.loop-s-test.false) in
     rw e at l.loop-s.invariant.spans
 
 sub-t12 : tie.Need-overflow_sub-result invariant-loop decreases-loop

@@ -11,7 +11,7 @@ cast-if1 : tie.Need-overflow_cast-two
 cast-if1 c = search rules
 
 returns : tie.Need-returns-then-order-two
-returns c = rw (le-leb _ _ c.before.if-order-two.true)
+returns c = rw (le-leb _ _ c.if-order-two.true)
 
 returns_2 : tie.Need-returns-else-order-two
 returns_2 c = rw (lt-leb _ _ c.if-order-two.false)

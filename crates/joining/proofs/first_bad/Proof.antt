@@ -12,23 +12,23 @@ fragment-ok-requires : tie.Need-fragment_ok-requires
 fragment-ok-requires c κs = search rules
 
 returns : tie.Need-returns-then-not-fragment_ok
-returns c = rw (sym c.before.fragment_ok.ensures ∙ not-true c.before.fragment_ok.result c.if-not-fragment_ok.true)
+returns c = rw (sym c.fragment_ok.ensures ∙ c.if-not-fragment_ok.true)
 
 fragment-ok-requires-2 : tie.Need-fragment_ok-requires-2
 fragment-ok-requires-2 c κs = search rules
 
 -- the first passes
-first_passes : (c : tie.Else-not-fragment_ok) → fragment_ok c.before.before.args.order (fragment_in c.before.before.args.one) ≡ true
-first_passes c = sym c.before.fragment_ok.ensures ∙ not-false c.before.fragment_ok.result c.if-not-fragment_ok.false
+first_passes : (c : tie.Else-not-fragment_ok) → fragment_ok c.args.order (fragment_in c.args.one) ≡ true
+first_passes c = sym c.fragment_ok.ensures ∙ c.if-not-fragment_ok.false
 
-second_is : (c : tie.After-fragment_ok-2) (t : Bool) → c.fragment_ok-2.result ≡ t → fragment_ok c.before.before.before.args.order (fragment_in c.before.before.before.args.two) ≡ t
+second_is : (c : tie.After-fragment_ok-2) (t : Bool) → c.fragment_ok-2.result ≡ t → fragment_ok c.args.order (fragment_in c.args.two) ≡ t
 second_is c t e = sym c.fragment_ok-2.ensures ∙ e
 
 returns_2 : tie.Need-returns-then-not-fragment_ok-2
-returns_2 c = let k = c.before in rw (first_passes k.before, second_is k _ (not-true k.fragment_ok-2.result c.if-not-fragment_ok-2.true))
+returns_2 c = let k = c.before in rw (first_passes k.before, second_is k _ c.if-not-fragment_ok-2.true)
 
 returns_3 : tie.Need-returns
-returns_3 c = let k = c.before in rw (first_passes k.before, second_is k _ (not-false k.fragment_ok-2.result c.if-not-fragment_ok-2.false))
+returns_3 c = let k = c.before in rw (first_passes k.before, second_is k _ c.if-not-fragment_ok-2.false)
 
 pub first_bad_spec : {M : Type 1} → statement M
 first_bad_spec =

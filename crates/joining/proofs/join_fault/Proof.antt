@@ -14,10 +14,10 @@ is-array-requires c κs = search rules
 returns : tie.Need-returns-then-not-is_array
 returns c =
     let s = c.before.before in
-    rw (opened-none s.args.base.now s.args.check.now (sym c.before.is_array.ensures ∙ not-true c.before.is_array.result c.if-not-is_array.true))
+    rw (opened-none s.args.base.now s.args.check.now (sym c.is_array.ensures ∙ c.if-not-is_array.true))
 
-array : (c : tie.Else-not-is_array) → is_array c.before.before.args.base.now c.before.before.args.check.now ≡ true
-array c = sym c.before.is_array.ensures ∙ not-false c.before.is_array.result c.if-not-is_array.false
+array : (c : tie.Else-not-is_array) → is_array c.args.base.now c.args.check.now ≡ true
+array c = sym c.is_array.ensures ∙ c.if-not-is_array.false
 
 order-of-requires : tie.Need-order_of-order-requires
 order-of-requires c κs = let s = c.before.before in (opened-head s.args.base.now s.args.check.now (array c)).order
@@ -37,7 +37,7 @@ returns_2 c =
     let o = k.before in
     let s = o.before.before.before in
     c.pair_fault.ensures
-    ∙ rw (k.first_bad_lem.ensures, o.order_of-order.ensures, opened_some s.args.base.now s.args.check.now (array o.before))
+    ∙ rw (k.first_bad.ensures, o.order_of-order.ensures, opened_some s.args.base.now s.args.check.now (array o.before))
 
 pub join_fault_spec : {M : Type 1} → statement M
 join_fault_spec =

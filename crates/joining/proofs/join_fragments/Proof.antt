@@ -40,28 +40,28 @@ refused-requires c κs = search rules
 
 returns : tie.Need-returns-in-Refused
 returns c =
-    let f = c.before.before in
-    let k = f.before.before in
+    let f = c.before in
+    let k = f.before in
     let s = k.before in
-    answers s _ (c.refused.ensures ∙ ap crossed (sym (fault_refuses (fragment_in s.args.one) (fragment_in s.args.two) (opened s.args.base.now s.args.check.now) _ _ (sym k.join_fault-fault.ensures ∙ f.fault-1.given.1))))
+    answers s _ (c.refused.ensures ∙ ap crossed (sym (fault_refuses (fragment_in s.args.one) (fragment_in s.args.two) (opened s.args.base.now s.args.check.now) _ _ (sym k.join_fault-fault.ensures ∙ f.in-Refused.is))))
 
 enum_told : tie.Need-enum_told-1
 enum_told c = search rules
 
 -- nothing refuses the join before a word is scored
-none_refuses : (c : tie.In_default) → join_fault (opened c.before.before.before.args.base.now c.before.before.before.args.check.now) (fragment_in c.before.before.before.args.one) (fragment_in c.before.before.before.args.two) ≡ Accepted
-none_refuses c = sym c.before.before.join_fault-fault.ensures ∙ c.enum_told-1.given.1
+none_refuses : (c : tie.In_default) → join_fault (opened c.args.base.now c.args.check.now) (fragment_in c.args.one) (fragment_in c.args.two) ≡ Accepted
+none_refuses c = sym c.join_fault-fault.ensures ∙ c.in_default.is
 
 order-of-requires : tie.Need-order_of-order-requires
 order-of-requires c κs =
-    let s = c.before.before.before in
+    let s = c.before.before in
     let base = s.args.base.now in
     let check = s.args.check.now in
     (opened-head base check (fault_array (fragment_in s.args.one) (fragment_in s.args.two) base check (none_refuses c))).order
 
 join-passed-requires : tie.Need-join_passed-requires
 join-passed-requires c κs =
-    let s = c.before.before.before.before in
+    let s = c.before.before.before in
     let base = s.args.base.now in
     let check = s.args.check.now in
     let a = fragment_in s.args.one in
@@ -71,7 +71,7 @@ join-passed-requires c κs =
 returns_2 : tie.Need-returns
 returns_2 c =
     let o = c.before in
-    let s = o.before.before.before.before in
+    let s = o.before.before.before in
     let base = s.args.base.now in
     let check = s.args.check.now in
     let a = fragment_in s.args.one in

@@ -52,7 +52,7 @@ abbrev store : tie.Start → Store
 store s = store_in s.args.base.now s.args.check.now
 
 abbrev state : tie.Start → State
-state s = state_in (numbers_of s.args.one.state-1)
+state s = state_in (numbers_of s.args.one.state)
 
 words_are : (s : tie.Start) → kept_in s.args.two.kept s.args.two.first ≡ words s
 words_are s = kept_in-within s.args.two.kept s.args.two.first (within s)
@@ -60,14 +60,14 @@ words_are s = kept_in-within s.args.two.kept s.args.two.first (within s)
 words-few : (s : tie.Start) → length (words s) ≤ 4
 words-few s = omega (arith, length-take s.args.two.kept s.args.two.first, kept-few s)
 
-state_passes : (s : tie.Start) → state_ok s.args.order (numbers_of s.args.one.state-1) ≡ true
+state_passes : (s : tie.Start) → state_ok s.args.order (numbers_of s.args.one.state) ≡ true
 state_passes s = end_ok s.args.order (fragment_in s.args.one) s.requires.1.1.first
 
-four : (s : tie.Start) → Four s.args.one.state-1
+four : (s : tie.Start) → Four s.args.one.state
 four s = record { words = search rules; backoffs = search rules }
 
 state_bounded : (s : tie.Start) → Bounded (s.args.order - 1) (state s)
-state_bounded s = state_ok_bounded s.args.order (numbers_of s.args.one.state-1) (length-numbers s.args.one.state-1 (four s)) (order_in_lem s).1 (state_passes s)
+state_bounded s = state_ok_bounded s.args.order (numbers_of s.args.one.state) (length-numbers s.args.one.state (four s)) (order_in_lem s).1 (state_passes s)
 
 cast-kept : tie.Need-overflow_cast-kept
 cast-kept c = search rules
@@ -102,23 +102,23 @@ returns : tie.Need-returns-then-not-again
 returns c =
     let k = c.before.before.before in
     let s = entry k in
-    c.refused.ensures ∙ ap crossed (sym (rescored_refused s.args.order (fragment_in s.args.one) (fragment_in s.args.two) k.rescore-again.result (alone s) (after s) (again k) (not-true k.rescore-again.result.sound c.before.if-not-again.true)))
+    c.refused.ensures ∙ ap crossed (sym (rescored_refused s.args.order (fragment_in s.args.one) (fragment_in s.args.two) k.rescore-again.result (alone s) (after s) (again k) c.if-not-again.true))
 
 -- both scorings are sound, and their totals small
-sound : (c : tie.Else-not-again) → c.before.before.rescore-again.result.sound ≡ true
-sound c = not-false c.before.before.rescore-again.result.sound c.if-not-again.false
+sound : (c : tie.Else-not-again) → c.rescore-again.result.sound ≡ true
+sound c = c.if-not-again.false
 
-small : (c : tie.Else-not-again) → (nat_abs c.before.before.rescore-again.result.less ≤ 4 * most_points) × (nat_abs c.before.before.rescore-again.result.plus ≤ 4 * most_points)
+small : (c : tie.Else-not-again) → (nat_abs c.rescore-again.result.less ≤ 4 * most_points) × (nat_abs c.rescore-again.result.plus ≤ 4 * most_points)
 small c =
     let k = c.before.before in
     let s = entry k in
     let n = s.requires.1.0 in
     totals_small s.args.base.now s.args.check.now (rw n at (order_in_lem s).1) (words s) (words-few s) (state s) (subst (λ (m : ℕ). Bounded (m - 1) (state s)) n (state_bounded s)) k.rescore-again.result k.rescore-again.ensures (sound c)
 
-less_fits : (c : tie.After-struct_told-2-1) → SFits w64 c.before.before.before.before.before.rescore-again.result.less
-less_fits c = sfits_of c.before.struct_told-1.given.1.0.1
+less_fits : (c : tie.After-struct_told-2-1) → SFits w64 c.rescore-again.result.less
+less_fits c = sfits_of c.struct_told-1.given.1.0.1
 
-plus-fits : (c : tie.After-struct_told-2-1) → SFits w64 c.before.before.before.before.before.rescore-again.result.plus
+plus-fits : (c : tie.After-struct_told-2-1) → SFits w64 c.rescore-again.result.plus
 plus-fits c = sfits_of c.struct_told-2-1.given.1.1.0.1
 
 merge-requires : tie.Need-merge-requires
@@ -138,7 +138,7 @@ returns_2 c =
     let n = s.args.order in
     let r = k.rescore-again.result in
     ap (λ (f : Fragment). record { number = 0; place = 0; fragment = f })
-    (c.merge.ensures ∙ ap₂ (λ (x y : ℤ). to_numbers (joined_fragment n a b x y (numbers_of r.end-1))) (to_z-of_z (less_fits t)) (to_z-of_z (plus-fits t)))
+    (c.merge.ensures ∙ ap₂ (λ (x y : ℤ). to_numbers (joined_fragment n a b x y (numbers_of r.end))) (to_z-of_z (less_fits t)) (to_z-of_z (plus-fits t)))
     ∙ ap crossed (sym (rescored_joined n a b r (alone s) (after s) (again k) (sound e)))
 
 pub join_passed_spec : {M : Type 1} → statement M

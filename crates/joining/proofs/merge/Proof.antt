@@ -27,21 +27,21 @@ use Rattle.joining.proofs.merge.Tie as tie
 -- ---- what 21 left of both
 
 kept-one : (s : tie.Start) → s.args.one.kept ≡ min (s.args.order - 1) s.args.one.count
-kept-one s = sym (length-kept_in s.args.one.kept s.args.one.first-1) ∙ kept-words s.args.order (fragment_in s.args.one) s.requires.1.0.first-1
+kept-one s = sym (length-kept_in s.args.one.kept s.args.one.first) ∙ kept-words s.args.order (fragment_in s.args.one) s.requires.1.0.first
 
 kept-two : (s : tie.Start) → s.args.two.kept ≡ min (s.args.order - 1) s.args.two.count
-kept-two s = sym (length-kept_in s.args.two.kept s.args.two.first-1) ∙ kept-words s.args.order (fragment_in s.args.two) s.requires.1.0.second
+kept-two s = sym (length-kept_in s.args.two.kept s.args.two.first) ∙ kept-words s.args.order (fragment_in s.args.two) s.requires.1.0.second
 
-places-one : (s : tie.Start) → length s.args.one.first-1 ≡ 4
+places-one : (s : tie.Start) → length s.args.one.first ≡ 4
 places-one s = search rules
 
-places-two : (s : tie.Start) → length s.args.two.first-1 ≡ 4
+places-two : (s : tie.Start) → length s.args.two.first ≡ 4
 places-two s = search rules
 
-within-one : (s : tie.Start) → s.args.one.kept ≤ length s.args.one.first-1
+within-one : (s : tie.Start) → s.args.one.kept ≤ length s.args.one.first
 within-one s = omega (arith, kept-one s, places-one s, s.requires.0)
 
-within-two : (s : tie.Start) → s.args.two.kept ≤ length s.args.two.first-1
+within-two : (s : tie.Start) → s.args.two.kept ≤ length s.args.two.first
 within-two s = omega (arith, kept-two s, places-two s, s.requires.0)
 
 -- ---- the total
@@ -58,7 +58,7 @@ both s = s.args.one.total +ℤ s.args.two.total
 -- both totals lie within what 21 and 14 leave
 bounds : (s : tie.Start) → (nat_abs s.args.one.total ≤ s.args.one.count * most_points) × ((nat_abs s.args.two.total ≤ s.args.two.count * most_points) × (s.args.one.count + s.args.two.count ≤ run_limit))
 bounds s = (
-  total_bound s.args.order (fragment_in s.args.one) s.requires.1.0.first-1 s.requires.0.1,
+  total_bound s.args.order (fragment_in s.args.one) s.requires.1.0.first s.requires.0.1,
   (total_bound s.args.order (fragment_in s.args.two) s.requires.1.0.second s.requires.0.1, s.requires.1.0.few),
 )
 
@@ -149,8 +149,8 @@ returns c =
       total = sum_back (fits_one s) (fits-two s) s.fits.less s.fits.plus (both_fit s) (less_fits s) (total-fits s) i;
       count = one.count + two.count;
       kept = (c.kept_of.ensures ∙ kept) i;
-      first = (e.before.first_words-first.ensures ∙ ap₂ (λ (x y : List ℕ). four_places (take (s.args.order - 1) (x ++ y))) (sym (kept_in-within one.kept one.first-1 (within-one s))) (sym (kept_in-within two.kept two.first-1 (within-two s)))) i;
-      state = (e.end_of_lem.ensures ∙ from-cond (leb (s.args.order - 1) two.count) two.state s.args.end (state-two s) (state-end s)) i;
+      first = (e.first_words-first.ensures ∙ ap₂ (λ (x y : List ℕ). four_places (take (s.args.order - 1) (x ++ y))) (sym (kept_in-within one.kept one.first-1 (within-one s))) (sym (kept_in-within two.kept two.first-1 (within-two s)))) i;
+      state = (e.end_of-state.ensures ∙ from-cond (leb (s.args.order - 1) two.count) two.state s.args.end (state-two s) (state-end s)) i;
     }
 
 pub merge_spec : {M : Type 1} → statement M

@@ -9,13 +9,13 @@ add_words : tie.Need-overflow_add-words
 add_words c = search rules
 
 returns : tie.Need-returns-then-bad-ne0
-returns c = rw (ne_eqb c.before.args.bad 0 c.if-bad-ne0.true)
+returns c = rw (ne_eqb c.args.bad 0 c.if-bad-ne0.true)
 
 returns_2 : tie.Need-returns-then-words
-returns_2 c = rw (eq-eqb c.before.before.args.bad 0 c.before.if-bad-ne0.false, lt-ltb run_limit _ c.if-words.true)
+returns_2 c = rw (eq-eqb c.args.bad 0 c.if-bad-ne0.false, lt-ltb run_limit _ c.if-words.true)
 
 returns_3 : tie.Need-returns
-returns_3 c = rw (eq-eqb c.before.before.args.bad 0 c.before.if-bad-ne0.false, le-ltb run_limit _ c.if-words.false)
+returns_3 c = rw (eq-eqb c.args.bad 0 c.if-bad-ne0.false, le-ltb run_limit _ c.if-words.false)
 
 pub pair_fault_spec : {M : Type 1} → statement M
 pair_fault_spec = tie.close (tie.spec add_words returns returns_2 returns_3)

@@ -21,7 +21,7 @@ sum-words-requires : tie.Need-sum_words-alone-requires
 sum-words-requires c κs = let s = c.before.before in (s.requires.0, (s.requires.1.0, (rw c.empty.ensures (zeros_ok s.args.order), s.requires.1.1.1)))
 
 sum-words-requires-2 : tie.Need-sum_words-after-requires
-sum-words-requires-2 c κs = c.before.before.before.requires
+sum-words-requires-2 c κs = c.requires
 
 returns : tie.Need-returns
 returns c =
@@ -30,10 +30,10 @@ returns c =
     let s = first.before.before.before in
     let S = store_in s.args.base.now s.args.check.now in
     let ws = s.args.words.now in
-    let less : SFits w64 first.sum_words-alone.result.total = sfits_of c.before.struct_told-1.given.1.1.0.1 in
+    let less : SFits w64 first.sum_words-alone.result.total = sfits_of c.struct_told-1.given.1.1.0.1 in
     let plus : SFits w64 second.sum_words-after.result.total = sfits_of c.struct_told-2-1.given.1.1.0.1 in
     rw (to_z-of_z less, to_z-of_z plus)
-    (rescored_as nine_zeros (numbers_of s.args.state) first.sum_words-alone.result second.sum_words-after.result (run_over S ws empty 1) (run_over S ws (state_in (numbers_of s.args.state)) 1) (summed-empty S ws _ _ first.before.empty.ensures first.sum_words-alone.ensures) second.sum_words-after.ensures)
+    (rescored_as nine_zeros (numbers_of s.args.state) first.sum_words-alone.result second.sum_words-after.result (run_over S ws empty 1) (run_over S ws (state_in (numbers_of s.args.state)) 1) (summed-empty S ws _ _ first.empty.ensures first.sum_words-alone.ensures) second.sum_words-after.ensures)
 
 pub rescore_spec : {M : Type 1} → statement M
 rescore_spec = tie.close (tie.spec

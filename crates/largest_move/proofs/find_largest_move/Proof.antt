@@ -64,31 +64,31 @@ abbrev counted : tie.After-struct_known-2-1 → tie.After-list_counted-counted
 counted k = listing k.before.before
 
 usable-is : (k : tie.After-struct_known-2-1) → (counted k).list_counted-counted.result.usable ≡ length (usable_over (array (start (counted k))))
-usable-is k = (counted k).list_counted-counted.ensures.1 k.before.if-listing-ne0.false
+usable-is k = (counted k).list_counted-counted.ensures.1 k.if-listing-ne0.false
 
 sized : (k : tie.After-struct_known-2-1) → Sized (start (counted k)).args.k (length (usable_over (array (start (counted k))))) (length (start (counted k)).args.words.now) (length (start (counted k)).args.totals.now)
 sized k =
     let a = counted k in
     let s = start a in
-    sizes s.args.base.now s.args.check.now s.args.k s.args.words.now s.args.totals.now _ a.list_counted-counted.ensures.0 k.before.if-listing-ne0.false
+    sizes s.args.base.now s.args.check.now s.args.k s.args.words.now s.args.totals.now _ a.list_counted-counted.ensures.0 k.if-listing-ne0.false
 
 returns_2 : tie.Need-returns-then-counted-lt2
 returns_2 c =
     let k = c.before.before in
     let a = counted k in
     let s = start a in
-    let none = named_none (array s) s.args.k (sized k).some (omega (arith, usable-is k, c.before.if-counted-lt2.true)) in
-    found-answers s.args.base.now s.args.check.now s.args.k s.args.words.now s.args.totals.now _ a.list_counted-counted.ensures.0 _ k.before.if-listing-ne0.false (c.unnamed-then-counted-lt2.ensures ∙ ap move_of (sym none))
+    let none = named_none (array s) s.args.k (sized k).some (omega (arith, usable-is k, c.if-counted-lt2.true)) in
+    found-answers s.args.base.now s.args.check.now s.args.k s.args.words.now s.args.totals.now _ a.list_counted-counted.ensures.0 _ k.if-listing-ne0.false (c.unnamed-then-counted-lt2.ensures ∙ ap move_of (sym none))
 
 cast-sentences : tie.Need-overflow_cast-sentences
 cast-sentences c = search rules
 
 -- as many totals as sentences
-long : (k : tie.After-struct_known-2-1) → (counted k).list_counted-counted.result.listing-1.sentences ≤ length (counted k).list_counted-counted.new.1.1.1.1.0
+long : (k : tie.After-struct_known-2-1) → (counted k).list_counted-counted.result.listing.sentences ≤ length (counted k).list_counted-counted.new.totals
 long k =
     let a = counted k in
     let s = start a in
-    omega (arith, (sized k).totals_fit, sentences_are s.args.base.now s.args.check.now s.args.k s.args.words.now s.args.totals.now _ a.list_counted-counted.ensures.0 k.before.if-listing-ne0.false)
+    omega (arith, (sized k).totals_fit, sentences_are s.args.base.now s.args.check.now s.args.k s.args.words.now s.args.totals.now _ a.list_counted-counted.ensures.0 k.if-listing-ne0.false)
 
 slice-reshare-prefix-largest-pair : tie.Need-slice_bounds-largest_pair-end
 slice-reshare-prefix-largest-pair c = long c.before.before
@@ -102,9 +102,9 @@ largest-pair-requires c κs =
     let k = e.before in
     let a = counted k in
     let s = start a in
-    let z = k.before.if-listing-ne0.false in (
+    let z = k.if-listing-ne0.false in (
       totals_small s.args.base.now s.args.check.now s.args.k s.args.words.now s.args.totals.now _ a.list_counted-counted.ensures.0 z (long k),
-      is-listing s.args.base.now s.args.check.now s.args.k s.args.words.now s.args.totals.now _ a.list_counted-counted.ensures.0 z (long k) _ (usable-is k) e.if-counted-lt2.false,
+      is-listing s.args.base.now s.args.check.now s.args.k s.args.words.now s.args.totals.now _ a.list_counted-counted.ensures.0 z (long k) _ (usable-is k) e.if2.false,
     )
 
 -- ---- what the search found
@@ -117,14 +117,14 @@ within f =
     let k = known f in
     let a = counted k in
     let s = start a in
-    found_within s.args.base.now s.args.check.now s.args.k s.args.words.now s.args.totals.now _ a.list_counted-counted.ensures.0 k.before.if-listing-ne0.false (long k) f.largest_pair-largest.result _ (usable-is k) f.largest_pair-largest.ensures
+    found_within s.args.base.now s.args.check.now s.args.k s.args.words.now s.args.totals.now _ a.list_counted-counted.ensures.0 k.if-listing-ne0.false (long k) f.largest_pair-largest.result _ (usable-is k) f.largest_pair-largest.ensures
 
 found : (f : tie.After-largest_pair-largest) → f.largest_pair-largest.result ≡ largest_pair (sentences_over (array (start (counted (known f)))) (start (counted (known f))).args.k) (sentence_total (array (start (counted (known f)))))
 found f =
     let k = known f in
     let a = counted k in
     let s = start a in
-    found-largest s.args.base.now s.args.check.now s.args.k s.args.words.now s.args.totals.now _ a.list_counted-counted.ensures.0 k.before.if-listing-ne0.false (long k) f.largest_pair-largest.result _ (usable-is k) f.largest_pair-largest.ensures
+    found-largest s.args.base.now s.args.check.now s.args.k s.args.words.now s.args.totals.now _ a.list_counted-counted.ensures.0 k.if-listing-ne0.false (long k) f.largest_pair-largest.result _ (usable-is k) f.largest_pair-largest.ensures
 
 cast-t18 : tie.Need-overflow_cast-result
 cast-t18 c = omega (arith, (within c.before).first)
@@ -144,7 +144,7 @@ returns_3 c =
     let k = known f in
     let a = counted k in
     let s = start a in
-    found-answers s.args.base.now s.args.check.now s.args.k s.args.words.now s.args.totals.now _ a.list_counted-counted.ensures.0 _ k.before.if-listing-ne0.false
+    found-answers s.args.base.now s.args.check.now s.args.k s.args.words.now s.args.totals.now _ a.list_counted-counted.ensures.0 _ k.if-listing-ne0.false
     (returned f.largest_pair-largest.result _ (found f) _ (to_z-of_z (sfits_of c.struct_told-1.given.0.1)))
 
 pub find_largest_move_spec : {M : Type 1} → statement M

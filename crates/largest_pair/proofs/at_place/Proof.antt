@@ -24,7 +24,7 @@ abbrev decreases-loop : tie.decreases-loop-block
 decreases-loop totals weight count kept₀ block₀ kept block = length totals - block
 
 -- the block of this turn
-this : (c : tie.In-loop-block invariant-loop decreases-loop) → IsBlock c.before.before.args.totals.now c.before.before.args.count c.before.before.args.weight c.before.loop-block.block
+this : (c : tie.In-loop-block invariant-loop decreases-loop) → IsBlock c.args.totals.now c.args.count c.args.weight c.loop-block.block
 this c =
     let l = c.before in
     let s = l.before in
@@ -34,7 +34,7 @@ loop-holds : tie.Need-loop-block-init invariant-loop decreases-loop
 loop-holds c = record { number = 0; at = omega arith; within = omega arith; so_far = c.requires.1.1 }
 
 with-block-requires : tie.Need-with_block-kept-requires invariant-loop decreases-loop
-with-block-requires c κs = (c.before.before.requires.0, (this c, c.before.loop-block.invariant.so_far))
+with-block-requires c κs = (c.requires.0, (this c, c.loop-block.invariant.so_far))
 
 mul-block : tie.Need-overflow_mul-block invariant-loop decreases-loop
 mul-block c = omega (arith, (this c.before).inside)

@@ -15,7 +15,7 @@ use Rattle.largest_pair.proofs.keep.Tie as tie
 abbrev start : tie.After-struct_told-2-1 → tie.Start
 start t = t.before.before.before.before
 
-kept-fits : (t : tie.After-struct_told-1) → SFits w64 t.before.before.args.kept.distance
+kept-fits : (t : tie.After-struct_told-1) → SFits w64 t.args.kept.distance
 kept-fits t = sfits_of t.struct_told-1.given.0.1
 
 next_fits : (t : tie.After-struct_told-2-1) → SFits w64 (start t).args.next.distance

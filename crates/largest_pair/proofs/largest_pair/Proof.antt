@@ -34,10 +34,10 @@ at-place-requires c κs =
     (s.requires.0, (place_at_lem s.args.totals.now s.args.count s.args.k l.loop-place.place l.loop-place.weight s.requires.1 c.loop-place-test.true l.loop-place.invariant.weight_is, l.loop-place.invariant.so_far))
 
 -- the weight of the next place
-next_weight : (c : tie.In-loop-place invariant-loop decreases-loop) → c.before.loop-place.weight * c.before.before.args.count ≡ c.before.before.args.count ^ suc c.before.loop-place.place
+next_weight : (c : tie.In-loop-place invariant-loop decreases-loop) → c.loop-place.weight * c.args.count ≡ c.args.count ^ suc c.loop-place.place
 next_weight c =
     let l = c.before in
-    let v = l.before.args.count in
+    let v = l.args.count in
     ap (λ n. n * v) l.loop-place.invariant.weight_is ∙ sym (pow-suc v l.loop-place.place)
 
 mul-weight : tie.Need-overflow_mul-weight invariant-loop decreases-loop
@@ -48,16 +48,16 @@ mul-weight c =
     omega (arith, next_weight i, few-sentences s.args.count (suc l.loop-place.place) s.requires.1.few (omega (arith, i.loop-place-test.true, s.requires.1.short)))
 
 add-place : tie.Need-overflow_add-place invariant-loop decreases-loop
-add-place c = omega (arith, c.before.loop-place-test.true)
+add-place c = omega (arith, c.loop-place-test.true)
 
 loop-less : tie.Need-loop-place-smaller invariant-loop decreases-loop
-loop-less c = omega (arith, c.before.loop-place-test.true)
+loop-less c = omega (arith, c.loop-place-test.true)
 
 loop-again : tie.Need-loop-place-preserved invariant-loop decreases-loop
 loop-again c =
     let i = c.before in
     let l = i.before in
-    record { within = omega (arith, i.loop-place-test.true); weight_is = next_weight i ∙ ap (λ n. l.before.args.count ^ n) (sym (add-one l.loop-place.place)); so_far = c.at_place-kept.ensures }
+    record { within = omega (arith, i.loop-place-test.true); weight_is = next_weight i ∙ ap (λ n. l.args.count ^ n) (sym (add-one l.loop-place.place)); so_far = c.at_place-kept.ensures }
 
 returns : tie.Need-returns invariant-loop decreases-loop
 returns c =

@@ -27,7 +27,7 @@ ranged t = t.before.before
 range_fits : (t : tie.After-struct_told-1) → SFits w64 (ranged t).range_of-range.result.distance
 range_fits t = sfits_of t.struct_told-1.given.1.1.0.1
 
-kept-fits : (t : tie.After-struct_told-2-1) → SFits w64 (ranged t.before.before).before.args.kept.distance
+kept-fits : (t : tie.After-struct_told-2-1) → SFits w64 (ranged t.before.before).args.kept.distance
 kept-fits t = sfits_of t.struct_told-2-1.given.0.1
 
 range_far : (t : tie.After-struct_told-1) → to_z w64 (of_z w64 (ranged t).range_of-range.result.distance) ≡ (ranged t).range_of-range.result.high -ℤ (ranged t).range_of-range.result.low
@@ -70,7 +70,7 @@ returns_3 : tie.Need-returns
 returns_3 c =
     let p = c.before in
     let s = (ranged (tested p.before.before).before.before).before in
-    rw c.keep.ensures (group_seen s.args.totals.now s.args.count s.args.weight s.args.first s.requires.1.0 s.args.kept p.group_pair-next.result s.requires.1.1 p.group_pair-next.ensures)
+    rw c.keep.ensures (group_seen s.args.totals.now s.args.count s.args.weight s.args.first s.pre.1.0 s.args.kept p.group_pair-next.result s.pre.1.1 p.group_pair-next.ensures)
 
 pub with_group_spec : {M : Type 1} → statement M
 with_group_spec =

@@ -15,10 +15,10 @@ table-fits-requires : tie.Need-table_fits-requires
 table-fits-requires c κs = search rules
 
 returns : tie.Need-returns-then-not-table_fits
-returns c = (sym (verdict-refused _ _ (sym c.before.table_fits.ensures ∙ not-true _ c.if-not-table_fits.true)), λ z. absurd (accepted-refused _ _ z))
+returns c = (sym (verdict-refused _ _ (sym c.table_fits.ensures ∙ c.if-not-table_fits.true)), λ z. absurd (accepted-refused _ _ z))
 
-fits : (c : tie.Else-not-table_fits) → table_fits (length c.before.before.before.args.table.now) ≡ true
-fits c = sym c.before.table_fits.ensures ∙ not-false _ c.if-not-table_fits.false
+fits : (c : tie.Else-not-table_fits) → table_fits (length c.args.table.now) ≡ true
+fits c = sym c.table_fits.ensures ∙ c.if-not-table_fits.false
 
 sub-length-of : tie.Need-overflow_sub-table
 sub-length-of c = (fitting_table _ (fits c)).0
@@ -28,7 +28,7 @@ length-of-requires c κs = let s = fitting_table _ (fits c) in omega (arith, s.0
 
 check-rows-requires : tie.Need-check_rows-requires
 unfolding order_of rows_of
-check-rows-requires c κs = let n = c.before in (fits n.before, n.length_of_lem.ensures.0, n.before.before.before.before.requires)
+check-rows-requires c κs = let n = c.before in (fits n.before, n.length_of-n.ensures.0, n.before.before.before.before.requires)
 
 same_length : tie.Need-shape_of-marks
 same_length c = search rules

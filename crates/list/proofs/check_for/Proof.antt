@@ -10,7 +10,7 @@ check-and-mark-requires : tie.Need-check_and_mark-requires
 check-and-mark-requires c κs = search rules
 
 returns : tie.Need-returns
-returns c = c.before.check_and_mark.ensures.0
+returns c = c.check_and_mark.ensures.0
 
 pub check_for_spec : {M : Type 1} → statement M
 check_for_spec =

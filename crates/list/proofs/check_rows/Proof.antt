@@ -49,19 +49,19 @@ loop-holds c =
       marks = λ a. marked-none _ s.args.marks.now s.requires.2;
     }
 
-inside : (c : tie.In-loop-i invariant-loop decreases-loop) → c.before.loop-i.i < rows_of c.before.before.before.args.table.now
+inside : (c : tie.In-loop-i invariant-loop decreases-loop) → c.loop-i.i < rows_of c.args.table.now
 unfolding rows_of
 inside c = c.loop-i-test.true
 
-few : (c : tie.In-loop-i invariant-loop decreases-loop) → c.before.loop-i.i < row_limit
+few : (c : tie.In-loop-i invariant-loop decreases-loop) → c.loop-i.i < row_limit
 unfolding rows_of
-few c = omega (arith, (fitting_table _ c.before.before.before.requires.0).1, inside c)
+few c = omega (arith, (fitting_table _ c.requires.0).1, inside c)
 
 shorter-rows-requires : tie.Need-shorter_rows-shorter-requires invariant-loop decreases-loop
 shorter-rows-requires c κs = row_in _ _ (inside c)
 
 row-fault-requires : tie.Need-row_fault-checked-requires invariant-loop decreases-loop
-row-fault-requires c κs = (row_in _ _ (inside c.before), c.before.before.loop-i.invariant.good)
+row-fault-requires c κs = (row_in _ _ (inside c.before), c.loop-i.invariant.good)
 
 add-t12 : tie.Need-overflow_add-result invariant-loop decreases-loop
 add-t12 c = omega (arith, few c.before.before.before.before)
@@ -70,12 +70,12 @@ cast-t13 : tie.Need-overflow_cast-result invariant-loop decreases-loop
 cast-t13 c = omega (arith, few c.before.before.before.before)
 
 same_length : tie.Need-shape_of-marks-then-checked-ne0 invariant-loop decreases-loop
-same_length c = c.before.before.before.before.before.loop-i.invariant.long
+same_length c = c.loop-i.invariant.long
 
 returns : tie.Need-returns-then-checked-ne0 invariant-loop decreases-loop
 returns c =
     let r = c.before.before in
-    let l = r.before.before.before.loop-i in
+    let l = r.loop-i in
     let e = r.row_fault-checked.ensures.0 in
     let v = l.invariant.rest ∙ scan_fault _ _ _ _ _ (inside r.before.before) (λ z. c.if-checked-ne0.true (e ∙ z)) ∙ ap (λ (f : ℕ). Refused f (l.i + 1)) (sym e) in
     (sym v, λ z. absurd (accepted-refused _ _ z))
@@ -103,38 +103,38 @@ loop-again c =
     let p = passed-row _ _ _ _ e in
     record {
       within = omega (arith, h);
-      long = omega (arith, m.mark_continued.auto.1.1.0, l.loop-i.invariant.long);
+      long = omega (arith, m.mark_continued.auto.marks, l.loop-i.invariant.long);
       good = good_more _ _ l.loop-i.invariant.good p.fields.good p.after;
       rest = l.loop-i.invariant.rest ∙ scan_pass _ _ _ _ _ h e;
       marks = λ a.
-          let f : m.mark_continued.new.1.1.0 ≡ mark_found (find_in t (without_last t i)) l.loop-i.marks = m.mark_continued.ensures ∙ ap (λ (f : Found). mark_found f l.loop-i.marks) (r.row_fault-checked.ensures.1 d.if-checked-ne0.false ∙ checked-before s.args.filling t a i h) in
-          rw f (marked_more t (checked-good s.args.filling t a) i l.loop-i.marks (l.loop-i.invariant.marks-1 a));
+          let f : m.mark_continued.new.marks ≡ mark_found (find_in t (without_last t i)) l.loop-i.marks = m.mark_continued.ensures ∙ ap (λ (f : Found). mark_found f l.loop-i.marks) (r.row_fault-checked.ensures.1 d.if-checked-ne0.false ∙ checked-before s.args.filling t a i h) in
+          rw f (marked_more t (checked-good s.args.filling t a) i l.loop-i.marks (l.loop-i.invariant.marks a));
     }
 
-passed-all : (c : tie.After-loop-i invariant-loop decreases-loop) → c.before.loop-i.i ≡ rows_of c.before.before.before.args.table.now
+passed-all : (c : tie.After-loop-i invariant-loop decreases-loop) → c.loop-i.i ≡ rows_of c.args.table.now
 unfolding rows_of
-passed-all c = omega (arith, c.before.loop-i.invariant.within, c.loop-i-test.false)
+passed-all c = omega (arith, c.loop-i.invariant.within, c.loop-i-test.false)
 
 reserved-listed-requires : tie.Need-reserved_listed-requires invariant-loop decreases-loop
-reserved-listed-requires c κs = rw (passed-all c) at c.before.loop-i.invariant.good
+reserved-listed-requires c κs = rw (passed-all c) at c.loop-i.invariant.good
 
 abbrev last : Bool → Verdict
 last b = cond b Accepted (Refused reserved_word 0)
 
-ended : (c : tie.After-reserved_listed invariant-loop decreases-loop) → verdict_for c.before.before.before.before.args.filling c.before.before.before.before.args.table.now ≡ last c.reserved_listed.result
-ended c = c.before.before.loop-i.invariant.rest ∙ scan-end _ _ _ _ _ (omega (arith, passed-all c.before)) ∙ ap (λ (b : Bool). last b) (sym c.reserved_listed.ensures)
+ended : (c : tie.After-reserved_listed invariant-loop decreases-loop) → verdict_for c.args.filling c.args.table.now ≡ last c.reserved_listed.result
+ended c = c.loop-i.invariant.rest ∙ scan-end _ _ _ _ _ (omega (arith, passed-all c.before)) ∙ ap (λ (b : Bool). last b) (sym c.reserved_listed.ensures)
 
 same-length_2 : tie.Need-shape_of-marks-then-reserved_listed invariant-loop decreases-loop
-same-length_2 c = c.before.before.before.loop-i.invariant.long
+same-length_2 c = c.loop-i.invariant.long
 
 returns_2 : tie.Need-returns-then-reserved_listed invariant-loop decreases-loop
 returns_2 c =
     let r = c.before in
     let a = ended r ∙ ap (λ (b : Bool). last b) c.if-reserved_listed.true in
-    (sym a, λ z. rw (passed-all r.before) at (r.before.before.loop-i.invariant.marks-1 a))
+    (sym a, λ z. rw (passed-all r.before) at (r.loop-i.invariant.marks a))
 
 same-length-3 : tie.Need-shape_of-marks invariant-loop decreases-loop
-same-length-3 c = c.before.before.before.loop-i.invariant.long
+same-length-3 c = c.loop-i.invariant.long
 
 returns_3 : tie.Need-returns invariant-loop decreases-loop
 returns_3 c = (sym (ended c.before ∙ ap (λ (b : Bool). last b) c.if-reserved_listed.false), λ z. absurd (accepted-refused _ _ z))

@@ -7,7 +7,7 @@ use Rattle.list.proofs.mark_continued.Statement.{statement}
 use Rattle.list.proofs.mark_continued.Tie as tie
 
 returns : tie.Need-returns-then-marks-j
-returns c = let a = c.before.args in sym (mark-outside a.i a.j a.marks.now c.if-marks-j.true)
+returns c = let a = c.args in sym (mark-outside a.i a.j a.marks.now c.if-marks-j.true)
 
 slice-write-marks : tie.Need-bounds-marks-j
 slice-write-marks c = search rules
@@ -16,10 +16,10 @@ same_length : tie.Need-shape_of-marks
 same_length c = search rules
 
 returns_2 : tie.Need-returns-then-j-i
-returns_2 c = let a = c.before.before.args in rw (lt-ltb a.j a.i c.if-j-i.true)
+returns_2 c = let a = c.args in rw (lt-ltb a.j a.i c.if-j-i.true)
 
 returns_3 : tie.Need-returns-else-j-i
-returns_3 c = let a = c.before.before.args in rw (le-ltb a.j a.i c.if-j-i.false)
+returns_3 c = let a = c.args in rw (le-ltb a.j a.i c.if-j-i.false)
 
 pub mark_continued_spec : {M : Type 1} → statement M
 mark_continued_spec =

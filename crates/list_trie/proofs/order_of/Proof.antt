@@ -19,7 +19,7 @@ length-of-requires c κs = omega (arith, some c)
 
 returns : tie.Need-returns
 unfolding order_of rows_of
-returns c = c.length_of_lem.ensures
+returns c = c.length_of.ensures
 
 pub order_of_spec : {M : Type 1} → statement M
 order_of_spec = tie.close (tie.spec sub-length-of length-of-requires returns)

@@ -34,7 +34,7 @@ abbrev decreases-loop : tie.decreases-loop-i
 decreases-loop table first base₀ work i₀ base i = rows_of table - i
 
 loop-holds : tie.Need-loop-i-init invariant-loop decreases-loop
-loop-holds c = record { low = omega arith; within = c.before.requires.0.1.within; top-is = refl; filled = λ N check F. F }
+loop-holds c = record { low = omega arith; within = c.requires.0.1.within; top-is = refl; filled = λ N check F. F }
 
 abbrev start : tie.At-loop-i invariant-loop decreases-loop → tie.Start invariant-loop decreases-loop
 start l = l.before.before
@@ -49,38 +49,38 @@ before l = (start l).requires.1.2
 held : (l : tie.At-loop-i invariant-loop decreases-loop) → Filled (table l) (start l).requires.1.0 (placed_nodes (table l) (l.loop-i.i + 1)) l.loop-i.base (start l).requires.1.1 (start l).args.work.now
 held l = l.loop-i.invariant.filled _ _ (before l)
 
-inside : (c : tie.In-loop-i invariant-loop decreases-loop) → c.before.loop-i.i < rows_of (table c.before)
+inside : (c : tie.In-loop-i invariant-loop decreases-loop) → c.loop-i.i < rows_of (table c.before)
 inside c = omega (arith, c.loop-i-test.true, (held c.before).each)
 
 -- row i has n words
-longest : (c : tie.In-loop-i invariant-loop decreases-loop) → length_of (table c.before) c.before.loop-i.i ≡ order_of (table c.before)
+longest : (c : tie.In-loop-i invariant-loop decreases-loop) → length_of (table c.before) c.loop-i.i ≡ order_of (table c.before)
 longest c =
     let s = start c.before in
-    longest-row (table c.before) s.requires.0.0 s.args.first s.requires.0.1 c.before.loop-i.i c.before.loop-i.invariant.low (inside c)
+    longest-row (table c.before) s.requires.0.0 s.args.first s.requires.0.1 c.loop-i.i c.loop-i.invariant.low (inside c)
 
 field-requires : tie.Need-field-requires invariant-loop decreases-loop
-field-requires c κs = (row_in (table c.before) c.before.loop-i.i (inside c), lit< tt)
+field-requires c κs = (row_in (table c.before) c.loop-i.i (inside c), lit< tt)
 
 -- what is read of the row, as it is handed on
-p-is : (c : tie.After-field invariant-loop decreases-loop) → to_z w32 (of_z w32 c.field.result) ≡ probability_at (table c.before.before) c.before.before.loop-i.i
+p-is : (c : tie.After-field invariant-loop decreases-loop) → to_z w32 (of_z w32 c.field.result) ≡ probability_at (table c.before.before) c.loop-i.i
 p-is c = to_z-of_z {w = w32} {z = c.field.result} (sfits_of c.field.type_inv) ∙ c.field.ensures
 
 marker-check-requires : tie.Need-marker_check-mark-requires invariant-loop decreases-loop
 marker-check-requires c κs =
     let i = c.before in
-    rw (p-is c) (accepted-row (table i.before) (start i.before).requires.0.0 i.before.loop-i.i (inside i)).fields.probability
+    rw (p-is c) (accepted-row (table i.before) (start i.before).requires.0.0 i.loop-i.i (inside i)).fields.probability
 
-mark-is : (c : tie.After-marker_check-mark invariant-loop decreases-loop) → to_z w32 (of_z w32 c.marker_check_lem.result) ≡ marker_check (probability_at (table c.before.before.before) c.before.before.before.loop-i.i)
-mark-is c = to_z-of_z {w = w32} {z = c.marker_check_lem.result} (sfits_of c.marker_check_lem.type_inv) ∙ c.marker_check_lem.ensures ∙ ap marker_check (p-is c.before)
+mark-is : (c : tie.After-marker_check-mark invariant-loop decreases-loop) → to_z w32 (of_z w32 c.marker_check-mark.result) ≡ marker_check (probability_at (table c.before.before.before) c.loop-i.i)
+mark-is c = to_z-of_z {w = w32} {z = c.marker_check-mark.result} (sfits_of c.marker_check-mark.type_inv) ∙ c.marker_check-mark.ensures ∙ ap marker_check (p-is c.before)
 
 mul-set-base : tie.Need-offset_bounds-work-i invariant-loop decreases-loop
 mul-set-base c = search rules
 
 shared-slice-read-set-base : tie.Need-bounds-work-i invariant-loop decreases-loop
-shared-slice-read-set-base c = c.before.before.before.before.loop-i-test.true
+shared-slice-read-set-base c = c.loop-i-test.true
 
 cast-set-base : tie.Need-overflow_cast-work invariant-loop decreases-loop
-cast-set-base c = omega (arith, c.shared_slice_known-in-loop-i-1.given c.before.before.before.before.before.loop-i.i)
+cast-set-base c = omega (arith, c.shared_slice_known-in-loop-i-1.given c.loop-i.i)
 
 set-base-requires : tie.Need-set_base-requires invariant-loop decreases-loop
 set-base-requires c κs =
@@ -104,14 +104,14 @@ loop-again c =
     let s = start l in
     let t = table l in
     record {
-      low = omega (arith, l.loop-i.inv.low);
+      low = omega (arith, l.loop-i.invariant.low);
       within = omega (arith, inside i);
-      top-is = rw (add-one (l.loop-i.i + 1)) (row-top t s.requires.0.0 l.loop-i.i (inside i) (held l) (longest i) ∙ l.loop-i.inv.top-is);
+      top-is = rw (add-one (l.loop-i.i + 1)) (row-top t s.requires.0.0 l.loop-i.i (inside i) (held l) (longest i) ∙ l.loop-i.invariant.top-is);
       filled = λ N check F.
-          let G = l.loop-i.inv.filled N check F in
+          let G = l.loop-i.invariant.filled N check F in
           rw (add-one (l.loop-i.i + 1))
           (row-bare t s.requires.0.0 l.loop-i.i (inside i) G (longest i) refl (mark-is c.before.before.before.before)
-          (c.before.set_base.ensures N _ _ check G.linked (row-taken t s.requires.0.0 l.loop-i.i (inside i) G _ refl)));
+          (c.set_base.ensures N _ _ check G.linked (row-taken t s.requires.0.0 l.loop-i.i (inside i) G _ refl)));
     }
 
 same_length : tie.Need-shape_of-base invariant-loop decreases-loop

@@ -14,13 +14,13 @@ place-root-requires : tie.Need-place_root-top-requires
 place-root-requires c κs = search rules
 
 same_length : tie.Need-shape_of-base-then-check-top
-same_length c = c.before.before.before.before.before.place_root-top.auto.1.0
+same_length c = c.place_root-top.auto.base
 
 same-length_2 : tie.Need-shape_of-check-then-check-top
-same-length_2 c = c.before.before.before.before.before.place_root-top.auto.1.1.0
+same-length_2 c = c.place_root-top.auto.check
 
 same-length-3 : tie.Need-shape_of-work-then-check-top
-same-length-3 c = c.before.before.before.before.before.place_root-top.auto.1.1.1.0
+same-length-3 c = c.place_root-top.auto.work
 
 returns : tie.Need-returns-then-check-top
 returns c = let r = c.before.before.before.before.before in over_refused 1 (omega (arith, c.if-check-top.true, r.place_root-top.auto.1.1.0)) r.place_root-top.ensures
@@ -33,7 +33,7 @@ room c = let r = c.before.before.before.before.before in omega (arith, c.if-chec
 
 placed : (c : tie.Else-check-top) → let r = c.before.before.before.before.before in let s = r.before.before.before.before.before.before in
     Filled s.args.table.now (length s.args.check.now) (placed_nodes s.args.table.now 1) r.place_root-top.new.1.0 r.place_root-top.new.1.1.0 r.place_root-top.new.1.1.1.0
-placed c = c.before.before.before.before.before.place_root-top.ensures.filled (room c)
+placed c = c.place_root-top.ensures.filled (room c)
 
 order-of-requires : tie.Need-order_of-requires
 order-of-requires c κs = (start c).requires.0.0
@@ -46,7 +46,7 @@ place-rows-requires c κs =
     let b = c.before.before.before in
     let e = b.before.before in
     let r = e.before.before.before.before.before in
-    (((start e).requires.0.0, rw b.before.order_of.ensures.0 at b.rows_below-shorter.ensures, omega (arith, room e, r.place_root-top.ensures.answer), (start e).requires.0.1), filled-here (placed e))
+    (((start e).requires.0.0, rw b.order_of.ensures.0 at b.rows_below-shorter.ensures, omega (arith, room e, r.place_root-top.ensures.answer), (start e).requires.0.1), filled-here (placed e))
 
 same-length-4 : tie.Need-shape_of-base
 same-length-4 c = let r = c.before.before.before.before in r.place_rows.auto.1.1.0 ∙ r.before.before.before.before.before.before.before.before.before.before.before.place_root-top.auto.1.0

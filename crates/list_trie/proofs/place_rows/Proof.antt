@@ -46,7 +46,7 @@ start l = l.before.before.before.before
 abbrev table : tie.At-loop-i invariant-loop decreases-loop → List ℤ
 table l = (start l).args.table.now
 
-inside : (c : tie.In-loop-i invariant-loop decreases-loop) → c.before.loop-i.i < rows_of (table c.before)
+inside : (c : tie.In-loop-i invariant-loop decreases-loop) → c.loop-i.i < rows_of (table c.before)
 inside c = omega (arith, c.loop-i-test.true, (start c.before).requires.0.1.within)
 
 children-end-requires : tie.Need-children_end-to-requires invariant-loop decreases-loop
@@ -73,7 +73,7 @@ work-kept : (l : tie.At-loop-i invariant-loop decreases-loop) → length l.loop-
 work-kept l = l.loop-i.invariant.filled.each ∙ sym (start l).requires.1.each
 
 -- row i's turn
-turn : (c : tie.After-place_row-top invariant-loop decreases-loop) → Tried (table (at c)) (length (start (at c)).args.check.now) (placed_nodes (table (at c)) (suc ((at c).loop-i.i + 1))) c.place_row-top.result c.place_row-top.new.1.1.1.0 c.place_row-top.new.1.1.1.1.0 c.place_row-top.new.1.1.1.1.1.1.0
+turn : (c : tie.After-place_row-top invariant-loop decreases-loop) → Tried (table (at c)) (length (start (at c)).args.check.now) (placed_nodes (table (at c)) (suc ((at c).loop-i.i + 1))) c.place_row-top.result c.place_row-top.new.base c.place_row-top.new.check c.place_row-top.new.work
 turn c =
     let e : (at c).loop-i.i + 2 ≡ suc ((at c).loop-i.i + 1) = omega arith in
     rw (e, filled-check (at c).loop-i.invariant.filled) at c.place_row-top.ensures
@@ -90,7 +90,7 @@ same-length-3 c = let p = c.before.before.before.before.before in p.place_row-to
 returns : tie.Need-returns-then-check-top invariant-loop decreases-loop
 returns c =
     let p = c.before.before.before.before.before in
-    over_refused (suc ((at p).loop-i.i + 1)) (omega (arith, c.if-check-top.true, p.place_row-top.auto.1.1.1.1.0, filled-check (at p).loop-i.invariant.filled)) (turn p)
+    over_refused (suc ((at p).loop-i.i + 1)) (omega (arith, c.if-check-top.true, p.place_row-top.auto.check, filled-check (at p).loop-i.invariant.filled)) (turn p)
 
 add-i : tie.Need-overflow_add-i invariant-loop decreases-loop
 add-i c = search rules
@@ -103,20 +103,20 @@ loop-again c =
     let p = c.before.before.before.before.before in
     let l = at p in
     let T = turn p in
-    let room : p.place_row-top.result ≤ length (start l).args.check.now = omega (arith, c.if-check-top.false, p.place_row-top.auto.1.1.1.1.0, filled-check l.loop-i.inv.filled) in
+    let room : p.place_row-top.result ≤ length (start l).args.check.now = omega (arith, c.if-check-top.false, p.place_row-top.auto.check, filled-check l.loop-i.invariant.filled) in
     record {
-      within = omega (arith, p.before.before.before.before.before.loop-i-test.true);
-      children = λ h. rw (add-one l.loop-i.i) (children-next (table l) (start l).requires.0.0 _ _ _ (omega (arith, h)) (l.loop-i.inv.children (inside p.before.before.before.before.before)) p.before.before.before.before.children_end-to.ensures);
+      within = omega (arith, p.loop-i-test.true);
+      children = λ h. rw (add-one l.loop-i.i) (children-next (table l) (start l).requires.0.0 _ _ _ (omega (arith, h)) (l.loop-i.invariant.children (inside p.before.before.before.before.before)) p.children_end-to.ensures);
       top-is = rw (add-one (l.loop-i.i + 1)) (omega (arith, T.answer));
       filled = rw (add-one (l.loop-i.i + 1)) (T.filled room);
     }
 
 -- the rows of fewer than n words are placed
-short-placed : (c : tie.After-loop-i invariant-loop decreases-loop) → c.before.loop-i.i ≡ (start c.before).args.shorter
-short-placed c = omega (arith, c.loop-i-test.false, c.before.loop-i.invariant.within)
+short-placed : (c : tie.After-loop-i invariant-loop decreases-loop) → c.loop-i.i ≡ (start c.before).args.shorter
+short-placed c = omega (arith, c.loop-i-test.false, c.loop-i.invariant.within)
 
-short-filled : (c : tie.After-loop-i invariant-loop decreases-loop) → Filled (table c.before) (length (start c.before).args.check.now) (placed_nodes (table c.before) ((start c.before).args.shorter + 1)) c.before.loop-i.base c.before.loop-i.check c.before.loop-i.work
-short-filled c = rw (short-placed c) at c.before.loop-i.invariant.filled
+short-filled : (c : tie.After-loop-i invariant-loop decreases-loop) → Filled (table c.before) (length (start c.before).args.check.now) (placed_nodes (table c.before) ((start c.before).args.shorter + 1)) c.loop-i.base c.loop-i.check c.loop-i.work
+short-filled c = rw (short-placed c) at c.loop-i.invariant.filled
 
 place-longest-requires : tie.Need-place_longest-requires invariant-loop decreases-loop
 place-longest-requires c κs =
@@ -125,10 +125,10 @@ place-longest-requires c κs =
     ((s.requires.0.0, s.requires.0.1), (_, _, short-filled e))
 
 same-length-4 : tie.Need-shape_of-base invariant-loop decreases-loop
-same-length-4 c = c.before.place_longest.auto.1.1.0 ∙ base_kept c.before.before.before.before.before
+same-length-4 c = c.place_longest.auto.base ∙ base_kept c.before.before.before.before.before
 
 same-length-5 : tie.Need-shape_of-check invariant-loop decreases-loop
-same-length-5 c = filled-check c.before.before.before.before.before.loop-i.invariant.filled
+same-length-5 c = filled-check c.loop-i.invariant.filled
 
 same-length-6 : tie.Need-shape_of-work invariant-loop decreases-loop
 same-length-6 c = work-kept c.before.before.before.before.before
@@ -140,7 +140,7 @@ returns_2 : tie.Need-returns invariant-loop decreases-loop
 returns_2 c =
     let e = c.before.before.before.before in
     let l = e.before in
-    tried_same (l.loop-i.invariant.top-is ∙ ap (λ (i : ℕ). (placed_nodes (table l) (i + 1)).top) (short-placed e)) (c.before.place_longest.ensures _ _ (short-filled e))
+    tried_same (l.loop.invariant.top-is ∙ ap (λ (i : ℕ). (placed_nodes (table l) (i + 1)).top) (short-placed e)) (c.place_longest.ensures _ _ (short-filled e))
 
 pub place_rows_spec : {M : Type 1} → statement M
 place_rows_spec =

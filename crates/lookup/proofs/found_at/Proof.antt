@@ -19,14 +19,14 @@ enum_told : tie.Need-enum_told-1
 enum_told c = search rules
 
 returns : tie.Need-returns-in_default
-returns c = sym (ap (λ (m : Marker). lookup_of (look_marker m)) c.enum_told-1.given.1)
+returns c = sym (ap (λ (m : Marker). lookup_of (look_marker m)) c.in_default.is)
 
 returns_2 : tie.Need-returns
 returns_2 c =
-    let m = c.before.marker-1.given in
-    let k : SFits w32 m.0.0 = sfits_of c.known_told-1.given.0.1 in
-    let n : SFits w32 m.0.1.0 = sfits_of c.known_told-1.given.1.0.1 in
-    ap₂ (λ (p b : ℤ). Found p b m.0.1.1.0) (to_z-of_z k) (to_z-of_z n) ∙ sym (ap (λ (k : Marker). lookup_of (look_marker k)) m.1)
+    let m = c.in-Sound in
+    let k : SFits w32 m.p = sfits_of m.known_told-1-own.given.0.1 in
+    let n : SFits w32 m.b = sfits_of m.known_told-1-own.given.1.0.1 in
+    ap₂ (λ (p b : ℤ). Found p b m.e) (to_z-of_z {w = w32} k) (to_z-of_z {w = w32} n) ∙ sym (ap (λ (k : Marker). lookup_of (look_marker k)) m.is)
 
 pub found_at_spec : {M : Type 1} → statement M
 found_at_spec = tie.close (tie.spec enum-known-marker enum_told returns returns_2)

@@ -29,47 +29,47 @@ is-array-requires c κs = search rules
 returns : tie.Need-returns-then-not-is_array
 returns c =
     let s = c.before.before.before in
-    let h : is_array s.args.base.now s.args.check.now ≡ false = sym c.before.is_array.ensures ∙ not-true _ c.if-not-is_array.true in
+    let h : is_array s.args.base.now s.args.check.now ≡ false = sym c.is_array.ensures ∙ c.if-not-is_array.true in
     answers s (lookup_no_array s.args.base.now s.args.check.now s.args.words.now h)
 
 cast-if3 : tie.Need-overflow_cast-t-9
 cast-if3 c = search rules
 
-array : (c : tie.Else-not-is_array) → is_array c.before.before.before.args.base.now c.before.before.before.args.check.now ≡ true
-array c = sym c.before.is_array.ensures ∙ not-false _ c.if-not-is_array.false
+array : (c : tie.Else-not-is_array) → is_array c.args.base.now c.args.check.now ≡ true
+array c = sym c.is_array.ensures ∙ c.if-not-is_array.false
 
 returns_2 : tie.Need-returns-then-count-lt1
 returns_2 c =
     let s = c.before.before.before.before in
     answers s
     (⊎_elim
-    (λ v. lookup_nothing s.args.base.now s.args.check.now s.args.words.now (array c.before) v.true)
+    (λ v. lookup_nothing s.args.base.now s.args.check.now s.args.words.now (array c.before) v.if-count-lt1.true)
     (λ v. lookup_above_five s.args.base.now s.args.check.now s.args.words.now (array c.before) (omega zarith))
-    c.if2.branch)
+    c.then-count-lt1.branch-raw)
 
 order-of-requires : tie.Need-order_of-order-requires
 order-of-requires c κs = let s = c.before.before.before.before.before in (opened-head s.args.base.now s.args.check.now (array c.before.before)).order
 
 -- at most five words are left, and the fourth test compares them with the order
-few : (c : tie.Else-count) → length c.before.before.before.before.before.args.words.now ≤ order_limit
+few : (c : tie.Else-count) → length c.args.words.now ≤ order_limit
 few c = omega zarith
 
 returns_3 : tie.Need-returns-then-order-count
 returns_3 c =
     let e = c.before.before in
     let s = e.before.before.before.before.before in
-    let h : order_in s.args.check.now < length s.args.words.now = rw c.before.order_of-order.ensures at c.if-order-count.true in
-    answers s (lookup_above_order s.args.base.now s.args.check.now s.args.words.now (array e.before.before) e.before.if2.false (few e) h)
+    let h : order_in s.args.check.now < length s.args.words.now = rw c.order_of-order.ensures at c.if-order-count.true in
+    answers s (lookup_above_order s.args.base.now s.args.check.now s.args.words.now (array e.before.before) e.if-count-lt1.false (few e) h)
 
 walk-requires : tie.Need-walk-requires
-walk-requires c κs = (array c.before.before.before.before, (c.before.order_of-order.ensures, (c.before.before.before.if2.false, c.if-order-count.false)))
+walk-requires c κs = (array c.before.before.before.before, (c.order_of-order.ensures, (c.if-count-lt1.false, c.if-order-count.false)))
 
 returns-4 : tie.Need-returns
 returns-4 c =
     let e = c.before.before.before in
     let s = e.before.before.before.before.before in
-    let h : length s.args.words.now ≤ order_in s.args.check.now = rw c.before.before.order_of-order.ensures at c.before.if-order-count.false in
-    answers s (lookup_walks s.args.base.now s.args.check.now s.args.words.now (array e.before.before) e.before.if2.false h ∙ sym c.walk.ensures)
+    let h : length s.args.words.now ≤ order_in s.args.check.now = rw c.order_of-order.ensures at c.if-order-count.false in
+    answers s (lookup_walks s.args.base.now s.args.check.now s.args.words.now (array e.before.before) e.if-count-lt1.false h ∙ sym c.walk.ensures)
 
 pub look_up_spec : {M : Type 1} → statement M
 look_up_spec =

@@ -84,10 +84,10 @@ abbrev newest : tie.Start invariant-loop decreases-loop → ℕ
 newest s = get_or s.args.words.now (length s.args.words.now - 1) 0
 
 -- the root's child is what `root_child` answered, and the walk goes on by it
-child-is : (c : tie.After-root_child invariant-loop decreases-loop) (r : Child) → c.root_child.result ≡ r → child_at c.before.before.before.args.base.now c.before.before.before.args.check.now 0 (newest c.before.before.before) ≡ r
+child-is : (c : tie.After-root_child invariant-loop decreases-loop) (r : Child) → c.root_child.result ≡ r → child_at c.args.base.now c.args.check.now 0 (newest c.before.before.before) ≡ r
 child-is c r e = let s = c.before.before.before in sym (root-child s.args.base.now s.args.check.now s.requires.0 (newest s)) ∙ sym c.root_child.ensures ∙ e
 
-begun : (c : tie.After-root_child invariant-loop decreases-loop) (r : Child) → c.root_child.result ≡ r → whole c.before.before.before ≡ down_to r (from c.before.before.before (length c.before.before.before.args.words.now - 1))
+begun : (c : tie.After-root_child invariant-loop decreases-loop) (r : Child) → c.root_child.result ≡ r → whole c.before.before.before ≡ down_to r (from c.before.before.before (length c.args.words.now - 1))
 begun c r e =
     let s = c.before.before.before in
     let words = s.args.words.now in
@@ -97,26 +97,26 @@ begun c r e =
     ∙ ap (λ (k : Child). down_to k (from s (length words - 1))) (child-is c r e)
 
 returns : tie.Need-returns-in_default invariant-loop decreases-loop
-returns c = sym (ap lookup_of (begun c.before.before Nothing c.enum_told-1.given.1))
+returns c = sym (ap lookup_of (begun c.before Nothing c.in_default.is))
 
 loop-holds : tie.Need-loop-left-init invariant-loop decreases-loop
 loop-holds c =
-    let a = c.before in
-    let r = a.before.before in
+    let a = c in
+    let r = a.before in
     let s = r.before.before.before in
     let z = sizes s in
-    let t = a.first-1.given.0.0 in
-    let h = child-inside s.args.base.now s.args.check.now 0 (newest s) t (child-is r (At t) a.first-1.given.1) in
+    let t = a.in-At.first in
+    let h = child-inside s.args.base.now s.args.check.now 0 (newest s) t (child-is r (At t) a.in-At.is) in
     let some = s.requires.1.1.0 in
-    record { inside = omega arith; few = omega arith; rest = begun r (At t) a.first-1.given.1 }
+    record { inside = omega arith; few = omega arith; rest = begun r (At t) a.in-At.is }
 
 -- ---- a node behind which there are more words
 
 abbrev start : tie.At-loop-left invariant-loop decreases-loop → tie.Start invariant-loop decreases-loop
-start l = l.before.before.before.before.before.before.before
+start l = l.before.before.before.before.before
 
 kept-marker-requires : tie.Need-kept_marker-requires invariant-loop decreases-loop
-kept-marker-requires c κs = ((sizes (start c.before)).same, c.before.loop-left.invariant.inside)
+kept-marker-requires c κs = ((sizes (start c.before)).same, c.loop-left.invariant.inside)
 
 enum-told-2 : tie.Need-enum_told-in-Sound invariant-loop decreases-loop
 enum-told-2 c = search rules
@@ -129,32 +129,32 @@ found-at-requires c κs = search rules
 
 -- the node keeps its marker, which is what `kept_marker` answered
 marker_is : (c : tie.After-kept_marker invariant-loop decreases-loop) (m : Marker) → c.kept_marker.result ≡ m
-    → marker_at (start c.before.before).args.base.now (start c.before.before).args.check.now (length (start c.before.before).args.words.now - c.before.before.loop-left.left) c.before.before.loop-left.s ≡ m
+    → marker_at (start c.before.before).args.base.now (start c.before.before).args.check.now (length (start c.before.before).args.words.now - c.loop-left.left) c.loop-left.s ≡ m
 marker_is c m e =
     let l = c.before.before in
     let a = (start l).args in
-    marker_kept a.base.now a.check.now (length a.words.now - l.loop-left.left) l.loop-left.s (λ q. absurd (omega (arith, c.before.loop-left-test.true, l.loop-left.invariant.few, (start l).requires.1.0, (start l).requires.1.1.1)))
+    marker_kept a.base.now a.check.now (length a.words.now - l.loop-left.left) l.loop-left.s (λ q. absurd (omega (arith, c.loop-left-test.true, l.loop-left.invariant.few, (start l).requires.1.0, (start l).requires.1.1.1)))
     ∙ sym c.kept_marker.ensures ∙ e
 
 returns_2 : tie.Need-returns-in_default-kept_marker invariant-loop decreases-loop
 returns_2 c =
-    let k = c.before.before.before in
+    let k = c.before.before in
     let l = k.before.before in
     let a = (start l).args in
     c.found_at.ensures
-    ∙ sym (ap lookup_of (l.loop-left.invariant.rest ∙ look-broken a.base.now a.check.now (length a.words.now - l.loop-left.left) l.loop-left.s (reverse (take l.loop-left.left a.words.now)) (marker_is k Broken c.before.enum_told-in_default-kept_marker-1.given.1)))
+    ∙ sym (ap lookup_of (l.loop-left.invariant.rest ∙ look-broken a.base.now a.check.now (length a.words.now - l.loop-left.left) l.loop-left.s (reverse (take l.loop-left.left a.words.now)) (marker_is k Broken c.in_default-kept_marker.is)))
 
 sub-left-2 : tie.Need-overflow_sub-left-in-loop-left invariant-loop decreases-loop
-sub-left-2 c = c.before.before.before.loop-left-test.true
+sub-left-2 c = c.loop-left-test.true
 
 mul-find-child : tie.Need-offset_bounds-words-left-in-loop-left invariant-loop decreases-loop
 mul-find-child c = search rules
 
 shared-slice-read-find-child : tie.Need-bounds-words-left-in-loop-left invariant-loop decreases-loop
-shared-slice-read-find-child c = let l = c.before.before.before.before.before in omega (arith, l.loop-left.invariant.few)
+shared-slice-read-find-child c = let l = c.before.before.before.before in omega (arith, l.loop-left.invariant.few)
 
 find-child-requires : tie.Need-find_child-requires invariant-loop decreases-loop
-find-child-requires c κs = let l = c.before.before.before.before.before in (l.loop-left.invariant.inside, (sizes (start l)).high)
+find-child-requires c κs = let l = c.before.before.before.before in (l.loop-left.invariant.inside, (sizes (start l)).high)
 
 enum-known-t : tie.Need-enum_known-t invariant-loop decreases-loop
 enum-known-t c = search rules
@@ -163,7 +163,7 @@ enum-told-4 : tie.Need-enum_told-in_default-find_child invariant-loop decreases-
 enum-told-4 c = search rules
 
 abbrev asked : tie.After-find_child invariant-loop decreases-loop → tie.After-kept_marker invariant-loop decreases-loop
-asked c = c.before.before.before.before
+asked c = c.before.before.before
 
 abbrev looped : tie.After-find_child invariant-loop decreases-loop → tie.At-loop-left invariant-loop decreases-loop
 looped c = (asked c).before.before
@@ -173,29 +173,29 @@ onward : (c : tie.After-find_child invariant-loop decreases-loop) (r : Child) �
 onward c r e =
     let l = looped c in
     let a = (start l).args in
-    let m = c.before.before.enum_told-in-Sound-1.given in
-    let few = l.loop-left.inv.few in
-    l.loop-left.inv.rest
-    ∙ turn a.base.now a.check.now a.words.now l.loop-left.s l.loop-left.left m.0.0 m.0.1.0 m.0.1.1.0 m.0.1.1.1.0 (marker_is (asked c) _ m.1) (asked c).before.loop-left-test.true (omega arith)
+    let m = c.in-Sound in
+    let few = l.loop-left.invariant.few in
+    l.loop-left.invariant.rest
+    ∙ turn a.base.now a.check.now a.words.now l.loop-left.s l.loop-left.left m.p m.b m.e m.f (marker_is (asked c) _ m.is) (asked c).loop-left-test.true (omega arith)
     ∙ ap (λ (k : Child). down_to k (from (start l) (l.loop-left.left - 1))) (sym c.find_child.ensures.0 ∙ e)
 
 returns_3 : tie.Need-returns-in_default-find_child invariant-loop decreases-loop
-returns_3 c = sym (ap lookup_of (onward c.before.before Nothing c.enum_told-in_default-find_child-1.given.1))
+returns_3 c = sym (ap lookup_of (onward c.before Nothing c.in_default-find_child.is))
 
 loop-less : tie.Need-loop-left-smaller invariant-loop decreases-loop
-loop-less c = let h = (asked c.before.before.before).before.loop-left-test.true in omega arith
+loop-less c = let h = (asked c.before).loop-left-test.true in omega arith
 
 loop-again : tie.Need-loop-left-preserved invariant-loop decreases-loop
 loop-again c =
-    let r = c.before.before.before in
+    let r = c.before in
     let z = sizes (start (looped r)) in
-    let h = r.find_child.ensures.1 c.before.t-1.given.0.0 c.before.t-1.given.1 in
-    record { inside = omega arith; few = omega (arith, (looped r).loop-left.invariant.few); rest = onward r (At c.before.t-1.given.0.0) c.before.t-1.given.1 }
+    let h = r.find_child.ensures.1 c.in-At-find_child.t c.in-At-find_child.is in
+    record { inside = omega arith; few = omega (arith, (looped r).loop-left.invariant.few); rest = onward r (At c.in-At-find_child.t) c.in-At-find_child.is }
 
 -- ---- the last node
 
 read-marker-requires : tie.Need-read_marker-requires invariant-loop decreases-loop
-read-marker-requires c κs = let s = start c.before in ((sizes s).same, (c.before.loop-left.invariant.inside, s.requires.1.0))
+read-marker-requires c κs = let s = start c.before in ((sizes s).same, (c.loop-left.invariant.inside, s.requires.1.0))
 
 found-at-requires-2 : tie.Need-found_at-requires-2 invariant-loop decreases-loop
 found-at-requires-2 c κs = search rules
@@ -206,7 +206,7 @@ returns-4 c =
     let r = c.before in
     let l = r.before.before in
     let a = (start l).args in
-    let none : l.loop-left.left ≡ 0 = omega (arith, r.before.loop-left-test.false) in
+    let none : l.loop-left.left ≡ 0 = omega (arith, r.loop-left-test.false) in
     let deep : length a.words.now - l.loop-left.left ≡ length a.words.now = omega (arith, none) in
     c.found_at-2.ensures
     ∙ ap (λ (m : Marker). lookup_of (look_marker m)) r.read_marker.ensures

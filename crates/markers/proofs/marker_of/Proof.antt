@@ -83,10 +83,10 @@ range_is s =
 returns : tie.Need-returns-then-not-inside
 returns c =
     let s = c.before in
-    sym (marker_broken s.args.check s.args.base (range_is s ∙ not-true (range_test s) c.if-not-inside.true))
+    sym (marker_broken s.args.check s.args.base (range_is s ∙ c.if-not-inside.true))
 
 range_yes : (c : tie.Else-not-inside) → (in_probability (p c.before) && in_backoff (b c.before)) ≡ true
-range_yes c = range_is c.before ∙ not-false (range_test c.before) c.if-not-inside.false
+range_yes c = range_is c.before ∙ c.if-not-inside.false
 
 -- p is at most 0
 p-high : (c : tie.Else-not-inside) → p c.before ≤ℤ pos 0
@@ -94,7 +94,7 @@ unfolding in_probability
 p-high c = let s = c.before in between-high least_probability (pos 0) (p s) (and_left (in_probability (p s)) (in_backoff (b s)) (range_yes c))
 
 add-p : tie.Need-overflow_add-p
-add-p c = let h = p-high c in omega (zarith, fit c.before.ranges.check, add c.before.args.check (pos 1))
+add-p c = let h = p-high c in omega (zarith, fit c.ranges.check, add c.args.check (pos 1))
 
 upper_fits : (s : tie.Start) → SFits w32 (half s.args.base)
 upper_fits s = shr_fits 2 s.ranges.base

@@ -24,8 +24,8 @@ same_length c = search rules
 same-length_2 : tie.Need-shape_of-check
 same-length_2 c = search rules
 
-head-is : (h : tie.After-head_check-head) → to_z w32 (of_z w32 h.head_check-head.result) ≡ head_check (order_of h.before.before.args.table.now)
-head-is h = to_z-of_z {w = w32} (sfits_of h.head_check-head.type_inv) ∙ h.head_check-head.ensures ∙ ap head_check h.before.order_of.ensures.0
+head-is : (h : tie.After-head_check-head) → to_z w32 (of_z w32 h.head_check-head.result) ≡ head_check (order_of h.args.table.now)
+head-is h = to_z-of_z {w = w32} (sfits_of h.head_check-head.type_inv) ∙ h.head_check-head.ensures ∙ ap head_check h.order_of.ensures.0
 
 returns : tie.Need-returns
 returns c N b room L clear = let u = c.before.before in rw (head-is u.before.before.before) at (u.unlink_all.ensures N b room L clear)

@@ -32,7 +32,7 @@ wiped c = c.before.before.before.before.before.before.before.before
 abbrev start : tie.After-place_nodes-top → tie.Start
 start c = begun (wiped c)
 
-tried : (c : tie.After-place_nodes-top) → Tried (start c).args.table.now (length (start c).args.check.now) (placed_list (start c).args.table.now) c.place_nodes-top.result c.place_nodes-top.new.1.0 c.place_nodes-top.new.1.1.0 c.place_nodes-top.new.1.1.1.1.0
+tried : (c : tie.After-place_nodes-top) → Tried (start c).args.table.now (length (start c).args.check.now) (placed_list (start c).args.table.now) c.place_nodes-top.result c.place_nodes-top.new.base c.place_nodes-top.new.check c.place_nodes-top.new.work
 tried c = rw (filled-check (none (wiped c))) at c.place_nodes-top.ensures
 
 -- where all nodes have room

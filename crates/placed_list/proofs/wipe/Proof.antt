@@ -19,13 +19,13 @@ abbrev based : tie.After-zero → tie.After-fill
 based z = (checked z).before.before.before
 
 same_length : tie.Need-shape_of-base
-same_length c = (based c.before.before).fill.auto.0
+same_length c = (based c.before.before).fill.auto.numbers
 
 same-length_2 : tie.Need-shape_of-check
-same-length_2 c = (checked c.before.before).fill-2.auto.0
+same-length_2 c = (checked c.before.before).fill-2.auto.numbers
 
 same-length-3 : tie.Need-shape_of-work
-same-length-3 c = c.before.before.zero.auto.0
+same-length-3 c = c.zero.auto.work
 
 returns : tie.Need-returns
 returns c = let z = c.before.before in record { base-free = (based z).fill.ensures; check-free = (checked z).fill-2.ensures; items-zero = z.zero.ensures }

@@ -23,20 +23,20 @@ enum-known-verdict : tie.Need-enum_known-verdict
 enum-known-verdict c = search rules
 
 returns : tie.Need-returns-in-Refused
-returns c = answer-list _ _ _ _ _ (sym c.before.before.before.check_list-verdict.ensures.0 ∙ c.before.verdict-1.given.1)
+returns c = answer-list _ _ _ _ _ (sym c.check_list-verdict.ensures.0 ∙ c.in-Refused.is)
 
 enum_told : tie.Need-enum_told-1
 enum_told c = search rules
 
-accepted : (c : tie.In_default) → verdict c.before.before.before.before.before.args.table.now ≡ Accepted
-accepted c = sym c.before.before.check_list-verdict.ensures.0 ∙ c.enum_told-1.given.1
+accepted : (c : tie.In_default) → verdict c.args.table.now ≡ Accepted
+accepted c = sym c.check_list-verdict.ensures.0 ∙ c.in_default.is
 
 run-fault-requires : tie.Need-run_fault-fault-requires
 run-fault-requires c κs = search rules
 
 returns_2 : tie.Need-returns-then-fault-ne0
 unfolding refusal
-returns_2 c = answer-run _ _ _ (accepted c.before.before) _ c.before.run_fault-fault.ensures c.if-fault-ne0.true
+returns_2 c = answer-run _ _ _ (accepted c.before.before) _ c.run_fault-fault.ensures c.if-fault-ne0.true
 
 sub-length-of : tie.Need-overflow_sub-table
 unfolding rows_of
@@ -46,9 +46,9 @@ length-of-requires : tie.Need-length_of-n-requires
 unfolding rows_of
 length-of-requires c κs = let s = accepted-size _ (accepted c.before.before) in omega (arith, s.0, s.2)
 
-no-refusal : (c : tie.Else-fault-ne0) → refusal (run_of c.before.before.before.before.before.before.before.args.words.now c.before.before.before.before.before.before.before.args.points.now c.before.before.before.before.before.before.before.args.lengths.now) ≡ 0
+no-refusal : (c : tie.Else-fault-ne0) → refusal (run_of c.args.words.now c.args.points.now c.args.lengths.now) ≡ 0
 unfolding refusal
-no-refusal c = sym c.before.run_fault-fault.ensures ∙ c.if-fault-ne0.false
+no-refusal c = sym c.run_fault-fault.ensures ∙ c.if-fault-ne0.false
 
 score-words-requires : tie.Need-score_words-total-requires
 unfolding order_of rows_of
@@ -56,7 +56,7 @@ score-words-requires c κs =
     let n = c.before.before in
     let e = n.before in
     let f = fits _ (no-refusal e) in
-    (accepted e.before.before, n.length_of_lem.ensures.0, f.few, f.points-1, f.lengths-1)
+    (accepted e.before.before, n.length_of-n.ensures.0, f.few, f.points-1, f.lengths-1)
 
 same_length : tie.Need-shape_of-points
 same_length c = search rules

@@ -16,7 +16,7 @@ use Rattle.plain.proofs.score_word.Statement.{statement}
 use Rattle.plain.proofs.score_word.Tie as tie
 
 sub-oldest : tie.Need-overflow_sub-oldest
-sub-oldest c = omega (arith, c.before.before.requires.1.few)
+sub-oldest c = omega (arith, c.requires.1.few)
 
 mul-score-after : tie.Need-offset_bounds-words-oldest
 mul-score-after c = search rules
@@ -50,7 +50,7 @@ byte-of-requires c κs =
     let k = s.requires.1 in
     (s.requires.0, (score_is c).row_is.within, rw (score_is c).matched-is (omega (arith, k.few, history-length _ k, text-matched (model_of s.args.table.now) (word_of s.args.word) (in_use s.args.recent))))
 
-points-fits : (c : tie.After-struct_told-1) → SFits w32 c.before.before.score_after-score.result.points
+points-fits : (c : tie.After-struct_told-1) → SFits w32 c.score_after-score.result.points
 points-fits c = sfits_of c.struct_told-1.given.0.1
 
 returns : tie.Need-returns

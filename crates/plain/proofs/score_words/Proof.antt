@@ -74,7 +74,7 @@ slice-set-from-p c = omega (arith, points-length (turn c).loop-i.invariant (star
 slice-write-lengths : tie.Need-bounds-lengths-i invariant-loop decreases-loop
 slice-write-lengths c = omega (arith, lengths-length (turn c).loop-i.invariant (start (turn c)).requires.4)
 
-points-fits : (c : tie.After-struct_told-1 invariant-loop decreases-loop) → SFits w32 c.before.score_next-next.result.points
+points-fits : (c : tie.After-struct_told-1 invariant-loop decreases-loop) → SFits w32 c.score_next-next.result.points
 points-fits c = sfits_of c.struct_told-1.given.0.1
 
 cast-total : tie.Need-overflow_cast-total invariant-loop decreases-loop
@@ -85,7 +85,7 @@ add_total c =
     let l = turn c in
     let s = start l in
     rw (to_z-of_z (cast-total c) ∙ to_z-of_z (points-fits c))
-    (total-added l.loop-i.inv (accepted s) c.before.before.before.before.loop-i-test.true (rw (most-is s) at c.before.score_next-next.ensures) (points-fits c) s.requires.2)
+    (total-added l.loop-i.invariant (accepted s) c.loop-i-test.true (rw (most-is s) at c.score_next-next.ensures) (points-fits c) s.requires.2)
 
 add-i : tie.Need-overflow_step-i invariant-loop decreases-loop
 add-i c = search rules
@@ -99,16 +99,16 @@ loop-again c =
     let l = turn d in
     let s = start l in
     rw (to_z-of_z (add_total d), to_z-of_z (cast-total d), to_z-of_z (points-fits d))
-    (scoring_more l.loop-i.inv (accepted s) d.before.before.before.before.loop-i-test.true (rw (most-is s) at d.before.score_next-next.ensures) (points-fits d) s.requires.3 s.requires.4)
+    (scoring_more l.loop-i.invariant (accepted s) d.loop-i-test.true (rw (most-is s) at d.score_next-next.ensures) (points-fits d) s.requires.3 s.requires.4)
 
 same_length : tie.Need-shape_of-points invariant-loop decreases-loop
-same_length c = points-length c.before.loop-i.invariant (start c.before).requires.3
+same_length c = points-length c.loop-i.invariant (start c.before).requires.3
 
 same-length_2 : tie.Need-shape_of-lengths invariant-loop decreases-loop
-same-length_2 c = lengths-length c.before.loop-i.invariant (start c.before).requires.4
+same-length_2 c = lengths-length c.loop-i.invariant (start c.before).requires.4
 
 returns : tie.Need-returns invariant-loop decreases-loop
-returns c = scored-all c.before.loop-i.invariant c.loop-i-test.false
+returns c = scored-all c.loop-i.invariant c.loop-i-test.false
 
 pub score_words_spec : {M : Type 1} → statement M
 score_words_spec =

@@ -9,7 +9,7 @@ smaller-requires c κs = search rules
 
 returns : tie.Need-returns-then-after_start
 unfolding first_history
-returns c = rw (c.before.if-after_start.true, c.smaller.ensures)
+returns c = rw (c.if-after_start.true, c.smaller.ensures)
 
 returns_2 : tie.Need-returns
 unfolding first_history

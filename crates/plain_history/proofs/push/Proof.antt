@@ -17,7 +17,7 @@ begin-requires c κs = search rules
 
 returns : tie.Need-returns-then-word-eq-END_WORD
 unfolding pushed
-returns c = rw c.before.if-word-eq-END_WORD.true c.begin.ensures
+returns c = rw c.if-word-eq-END_WORD.true c.begin.ensures
 
 array-copy-out-t9 : tie.Need-bounds-old-1
 array-copy-out-t9 c = search rules
@@ -34,16 +34,16 @@ add-smaller c = search rules
 smaller-requires : tie.Need-smaller-requires
 smaller-requires c κs = search rules
 
-fits_1 : (c : tie.After-result-1) → SFits w32 (get_or c.before.before.before.args.recent.words 1 (pos 0))
+fits_1 : (c : tie.After-result-1) → SFits w32 (get_or c.args.recent.words 1 (pos 0))
 fits_1 c = sfits_of c.result-1.given
 
-fits_2 : (c : tie.After-result-2-1) → SFits w32 (get_or c.before.before.before.before.args.recent.words 2 (pos 0))
+fits_2 : (c : tie.After-result-2-1) → SFits w32 (get_or c.args.recent.words 2 (pos 0))
 fits_2 c = sfits_of c.result-2-1.given
 
-fits_3 : (c : tie.After-result-3-1) → SFits w32 (get_or c.before.before.before.before.before.args.recent.words 3 (pos 0))
+fits_3 : (c : tie.After-result-3-1) → SFits w32 (get_or c.args.recent.words 3 (pos 0))
 fits_3 c = sfits_of c.result-3-1.given
 
-four : (c : tie.After-old-1) → length c.before.before.args.recent.words ≡ 4
+four : (c : tie.After-old-1) → length c.args.recent.words ≡ 4
 four c = search rules
 
 returns_2 : tie.Need-returns

@@ -27,7 +27,7 @@ length-byte-requires c κs = search rules
 returns : tie.Need-returns
 returns c =
     let x = c.before in
-    c.length_byte_lem.ensures ∙ rw (to_z-of_z x.before.before.before.ranges.word, x.extended-extended.ensures)
+    c.length_byte.ensures ∙ rw (to_z-of_z x.ranges.word, x.extended-extended.ensures)
 
 pub byte_of_spec : {M : Type 1} → statement M
 byte_of_spec =

@@ -28,27 +28,27 @@ mark s = cond (eqb (word_of s.args.word) unknown_word) 8 0
 
 unknown : (c : tie.Then-word-eq-UNKNOWN_WORD) → mark c.before ≡ 8
 unfolding mark up_to between
-unknown c = let one : SFits w32 (pos 1) = omega zarith in rw (same_bits c.before.ranges.word one c.if-word-eq-UNKNOWN_WORD.true)
+unknown c = let one : SFits w32 (pos 1) = omega zarith in rw (same_bits c.ranges.word one c.if-word-eq-UNKNOWN_WORD.true)
 
 known : (c : tie.Else-word-eq-UNKNOWN_WORD) → mark c.before ≡ 0
 unfolding mark
 known c =
-    rw (ne_eqb (word_of c.before.args.word) 1 (λ e. c.if-word-eq-UNKNOWN_WORD.false (ap (of_z w32) (word_of-some c.before.args.word 0 e))))
+    rw (ne_eqb (word_of c.args.word) 1 (λ e. c.if-word-eq-UNKNOWN_WORD.false (ap (of_z w32) (word_of-some c.args.word 0 e))))
 
-marked : (c : tie.Joined-word-eq-UNKNOWN_WORD) → c.if-word-eq-UNKNOWN_WORD.byte ≡ c.before.args.matched + mark c.before
+marked : (c : tie.Joined-word-eq-UNKNOWN_WORD) → c.if-word-eq-UNKNOWN_WORD.byte ≡ c.args.matched + mark c.before
 marked c =
     ⊎_elim
     (λ w. omega (arith, w.1, unknown (record { before = c.before; if1 = w.0 })))
     (λ w. omega (arith, w.1, known (record { before = c.before; if1 = w.0 })))
-    c.if-word-eq-UNKNOWN_WORD.branch
+    c.if-word-eq-UNKNOWN_WORD.branch-raw
 
 add-byte-2 : tie.Need-overflow_add-byte-then-extended
-add-byte-2 c = ⊎_elim (λ w. omega (arith, w.1)) (λ w. omega (arith, w.1)) c.before.before.if-word-eq-UNKNOWN_WORD.branch
+add-byte-2 c = ⊎_elim (λ w. omega (arith, w.1)) (λ w. omega (arith, w.1)) c.if-word-eq-UNKNOWN_WORD.branch-raw
 
 returns : tie.Need-returns-then-extended
 unfolding length_byte mark
 returns c =
-    omega (arith, marked c.before.before, ap {B = ℕ} (λ (e : Bool). cond e 16 0) c.before.if-extended.true)
+    omega (arith, marked c.before.before, ap {B = ℕ} (λ (e : Bool). cond e 16 0) c.if-extended.true)
 
 returns_2 : tie.Need-returns-else-extended
 unfolding length_byte mark

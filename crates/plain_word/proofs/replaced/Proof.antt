@@ -21,13 +21,13 @@ use Rattle.plain_word.proofs.replaced.Statement.{statement}
 use Rattle.plain_word.proofs.replaced.Tie as tie
 
 returns : tie.Need-returns-then-word-eq0
-returns c = ap pos (sym (replaced-outside _ _ (accepted-model _ c.before.requires) (λ l h. omega arith)))
+returns c = ap pos (sym (replaced-outside _ _ (accepted-model _ c.requires) (λ l h. omega arith)))
 
 cast-if2 : tie.Need-overflow_cast-t-7
 cast-if2 c = search rules
 
 returns_2 : tie.Need-returns-then-word
-returns_2 c = ap pos (sym (replaced-outside _ _ (accepted-model _ c.before.before.requires) (λ l h. omega arith)))
+returns_2 c = ap pos (sym (replaced-outside _ _ (accepted-model _ c.requires) (λ l h. omega arith)))
 
 cast-known : tie.Need-overflow_cast-known
 cast-known c = search rules
@@ -35,24 +35,24 @@ cast-known c = search rules
 slice-aggregate-row-of : tie.Need-slice_bounds-row_of-end
 slice-aggregate-row-of c = search rules
 
-read_back : (c : tie.Else-word) → to_z w32 c.before.before.args.word ≡ pos c.before.before.args.word
+read_back : (c : tie.Else-word) → to_z w32 c.args.word ≡ pos c.args.word
 read_back c = to_z_pos w32 (omega arith)
 
 -- the word as a sequence of one
-one_word : (c : tie.Else-word) → words_of (to_z w32 c.before.before.args.word ∷ []) ≡ c.before.before.args.word ∷ []
+one_word : (c : tie.Else-word) → words_of (to_z w32 c.args.word ∷ []) ≡ c.args.word ∷ []
 unfolding words_of
-one_word c = rw (read_back c) (ap (λ (w : ℕ). w ∷ []) (word_of-pos c.before.before.args.word (omega arith)))
+one_word c = rw (read_back c) (ap (λ (w : ℕ). w ∷ []) (word_of-pos c.args.word (omega arith)))
 
 row_of_requires : tie.Need-row_of-alone-requires
 row_of_requires c κs =
-    let w = c.before.before.before.args.word in
-    (c.before.before.before.requires, rw (one_word c.before) (words_more w [] (omega arith) (omega arith) (unfold are_words in refl)))
+    let w = c.args.word in
+    (c.requires, rw (one_word c.before) (words_more w [] (omega arith) (omega arith) (unfold are_words in refl)))
 
-listed-is : (c : tie.After-row_of-alone) → listed (model_of c.before.before.before.before.args.table.now) (c.before.before.before.before.args.word ∷ []) ≡ c.row_of_lem.result.listed
+listed-is : (c : tie.After-row_of-alone) → listed (model_of c.args.table.now) (c.args.word ∷ []) ≡ c.row_of-alone.result.listed
 listed-is c =
     let s = c.before.before.before.before in
     sym
-    (ap (λ (r : Row). r.listed) c.row_of_lem.ensures
+    (ap (λ (r : Row). r.listed) c.row_of-alone.ensures
     ∙ entry_listed s.args.table.now _
     ∙ ap (λ (l : List ℕ). listed (model_of s.args.table.now) (reverse l)) (one_word c.before.before))
 

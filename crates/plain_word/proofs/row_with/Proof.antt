@@ -30,7 +30,7 @@ unlisted-requires c κs = search rules
 
 returns : tie.Need-returns-then-history-ge-LONGEST_ROW
 unfolding words_of found_row
-returns c = c.unlisted.ensures ∙ sym (ap (found_row _) (finds_no_longer _ _ (rw (length-append, length-map) (omega (arith, c.before.if-history-ge-LONGEST_ROW.true)))))
+returns c = c.unlisted.ensures ∙ sym (ap (found_row _) (finds_no_longer _ _ (rw (length-append, length-map) (omega (arith, c.if-history-ge-LONGEST_ROW.true)))))
 
 followed-requires : tie.Need-followed-words-requires
 followed-requires c κs = search rules
@@ -44,7 +44,7 @@ array-share-prefix-words c = search rules
 slice-aggregate-row-of : tie.Need-slice_bounds-row_of-end
 slice-aggregate-row-of c = sym (length-take-le _ _ (search rules))
 
-joined_is : (c : tie.After-followed-words) → take (length c.before.before.args.history.now + 1) c.followed-words.result ≡ c.before.before.args.history.now ++ (c.before.before.args.word ∷ [])
+joined_is : (c : tie.After-followed-words) → take (length c.args.history.now + 1) c.followed-words.result ≡ c.args.history.now ++ (c.args.word ∷ [])
 joined_is c =
     let s = c.before.before in
     c.followed-words.ensures ∙ ap (λ (z : ℤ). s.args.history.now ++ (z ∷ [])) (to_z-of_z s.ranges.word)
@@ -59,7 +59,7 @@ returns_2 : tie.Need-returns
 returns_2 c =
     let f = c.before.before in
     let s = f.before.before in
-    rw (joined_is f, joined s.args.history.now s.args.word) at c.row_of_lem.ensures
+    rw (joined_is f, joined s.args.history.now s.args.word) at c.row_of.ensures
 
 pub row_with_spec : {M : Type 1} → statement M
 row_with_spec =

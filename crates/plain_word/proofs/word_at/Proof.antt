@@ -24,16 +24,16 @@ mul-result c = search rules
 shared-slice-copy-out-result : tie.Need-bounds-history-j
 shared-slice-copy-out-result c = search rules
 
-item-fits : (c : tie.After-result-1) → SFits w32 (get_or c.before.before.args.history.now c.before.before.args.j (pos 0))
+item-fits : (c : tie.After-result-1) → SFits w32 (get_or c.args.history.now c.args.j (pos 0))
 item-fits c = sfits_of c.result-1.given
 
 returns : tie.Need-returns-then-j-history
 returns c =
     let s = c.before.before in
-    to_z-of_z (item-fits c) ∙ item_there s.args.history.now s.args.j (pos 0) s.args.word c.before.if-j-history.true
+    to_z-of_z (item-fits c) ∙ item_there s.args.history.now s.args.j (pos 0) s.args.word c.if-j-history.true
 
 returns_2 : tie.Need-returns
-returns_2 c = to_z-of_z c.before.ranges.word ∙ sym (get_or-eq_default c.before.args.history.now c.before.args.word c.if-j-history.false)
+returns_2 c = to_z-of_z c.ranges.word ∙ sym (get_or-eq_default c.args.history.now c.args.word c.if-j-history.false)
 
 pub word_at_spec : {M : Type 1} → statement M
 word_at_spec = tie.close (tie.spec mul-result shared-slice-copy-out-result returns returns_2)

@@ -10,13 +10,13 @@ use Rattle.row_ends.proofs.end_backoff.Statement.{statement}
 use Rattle.row_ends.proofs.end_backoff.Tie as tie
 
 field-requires : tie.Need-field-requires
-field-requires c κs = (row_in _ _ c.before.requires.within, lit< tt)
+field-requires c κs = (row_in _ _ c.requires.within, lit< tt)
 
 returns : tie.Need-returns-then-k-m
-returns c = let e = c.before.if-k-m.true in to_z-of_z (sfits_of c.field.type_inv) ∙ c.field.ensures ∙ own-backoff _ _ _ _ c.before.before.requires (omega arith)
+returns c = let e = c.if-k-m.true in to_z-of_z (sfits_of c.field.type_inv) ∙ c.field.ensures ∙ own-backoff _ _ _ _ c.requires (omega arith)
 
 returns_2 : tie.Need-returns
-returns_2 c = let e = c.before.requires in let n = c.if-k-m.false in added-backoff _ _ _ _ e (let l = e.long in omega arith)
+returns_2 c = let e = c.requires in let n = c.if-k-m.false in added-backoff _ _ _ _ e (let l = e.long in omega arith)
 
 pub end_backoff_spec : {M : Type 1} → statement M
 end_backoff_spec = tie.close (tie.spec field-requires returns returns_2)

@@ -15,7 +15,7 @@ length-of-requires : tie.Need-length_of-k-requires
 length-of-requires c κs = row_in _ _ c.requires.within
 
 end-probability-requires : tie.Need-end_probability-requires
-end-probability-requires c κs = rw c.length_of_lem.ensures.0 c.before.requires
+end-probability-requires c κs = rw c.length_of-k.ensures.0 c.requires
 
 in-range-requires : tie.Need-in_range-requires
 in-range-requires c κs = search rules

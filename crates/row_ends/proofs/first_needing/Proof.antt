@@ -30,12 +30,12 @@ loop-holds c = record { within = omega arith; none = λ j l. absurd (omega arith
 
 needed-fault-requires : tie.Need-needed_fault-requires invariant-loop decreases-loop
 unfolding rows_of
-needed-fault-requires c κs = (c.before.before.requires, c.loop-i-test.true)
+needed-fault-requires c κs = (c.requires, c.loop-i-test.true)
 
 returns : tie.Need-returns-then-needed_fault-ne0 invariant-loop decreases-loop
 returns c =
     let d = c.before in
-    let v = d.before.before.loop-i.invariant in
+    let v = d.loop-i.invariant in
     record { within = v.within; none = v.none; one = λ _. fault_five _ _ (λ z. c.if-needed_fault-ne0.true (d.needed_fault.ensures ∙ z)) }
 
 add-i : tie.Need-overflow_add-i invariant-loop decreases-loop
@@ -48,12 +48,12 @@ loop-again : tie.Need-loop-i-preserved invariant-loop decreases-loop
 unfolding rows_of
 loop-again c =
     let d = c.before in
-    passed-more _ _ d.before.loop-i-test.true d.before.before.loop-i.invariant (sym d.needed_fault.ensures ∙ c.if-needed_fault-ne0.false)
+    passed-more _ _ d.loop-i-test.true d.loop-i.invariant (sym d.needed_fault.ensures ∙ c.if-needed_fault-ne0.false)
 
 returns_2 : tie.Need-returns invariant-loop decreases-loop
 unfolding rows_of
 returns_2 c =
-    let v = c.before.loop-i.invariant in
+    let v = c.loop-i.invariant in
     record { within = v.within; none = v.none; one = λ l. absurd (let m = c.loop-i-test.false in omega arith) }
 
 pub first_needing_spec : {M : Type 1} → statement M

@@ -36,19 +36,19 @@ row_of_requires : tie.Need-row_of-row-requires
 row_of_requires c κs = let p = c.requires in let q = end-places _ p.0 _ _ _ p.1 p.2 p.3 p.4 in (p.0, q.0, q.1, q.2, q.3)
 
 -- the row that the last words are
-listed-is : (c : tie.After-row_of-row) → c.row_of_lem.result.listed ≡ is_at (find_in c.before.args.table.now (last_words c.before.args.table.now c.before.args.i c.before.args.m))
+listed-is : (c : tie.After-row_of-row) → c.row_of-row.result.listed ≡ is_at (find_in c.args.table.now (last_words c.args.table.now c.args.i c.args.m))
 listed-is c =
-    let p = c.before.requires in
-    found-listed _ _ c.row_of_lem.ensures ∙ ap (λ (ws : List ℕ). is_at (find_in c.before.args.table.now ws)) (end-words_are _ p.0 _ _ _ p.1 p.2 p.3 p.4)
+    let p = c.requires in
+    found-listed _ _ c.row_of-row.ensures ∙ ap (λ (ws : List ℕ). is_at (find_in c.args.table.now ws)) (end-words_are _ p.0 _ _ _ p.1 p.2 p.3 p.4)
 
 returns : tie.Need-returns-then-row
 returns c = sym (addable-listed _ _ (sym (listed-is c.before) ∙ c.if-row.true))
 
 end-points-requires : tie.Need-end_points-requires
 end-points-requires c κs =
-    let p = c.before.before.requires in
+    let p = c.requires in
     let q = end-places _ p.0 _ _ _ p.1 p.2 p.3 p.4 in
-    (p.0, q.0, q.1, q.2, q.3, sym (found-listed _ _ c.before.row_of_lem.ensures) ∙ c.if-row.false)
+    (p.0, q.0, q.1, q.2, q.3, sym (found-listed _ _ c.row_of-row.ensures) ∙ c.if-row.false)
 
 in-range-requires : tie.Need-in_range-requires
 in-range-requires c κs = search rules
@@ -61,10 +61,10 @@ unfolding in_probability
 returns_2 c =
     let d = c.before in
     let r = d.before.before in
-    let p = r.before.requires in
+    let p = r.requires in
     c.in_range.ensures
     ∙ ap (λ (z : ℤ). between least_probability (pos 0) z) (to_z-of_z (fits d) ∙ d.end_points.ensures ∙ end-points_are _ p.0 _ _ _ p.1 p.2 p.3 p.4)
-    ∙ sym (addable-unlisted _ _ (sym (listed-is r) ∙ d.before.if-row.false))
+    ∙ sym (addable-unlisted _ _ (sym (listed-is r) ∙ d.if-row.false))
 
 pub is_addable_spec : {M : Type 1} → statement M
 is_addable_spec =

@@ -29,23 +29,23 @@ length-of-requires c κs = row_in _ _ c.requires.1
 
 loop-holds : tie.Need-loop-m-init invariant-loop decreases-loop
 loop-holds c =
-    let e = c.length_of_lem.ensures.0 in
-    record { within = c.before.requires.1; size = e; short = omega arith; rest = left-all _ _ _ _ e }
+    let e = c.length_of-k.ensures.0 in
+    record { within = c.requires.1; size = e; short = omega arith; rest = left-all _ _ _ _ e }
 
 sub-m : tie.Need-overflow_sub-m invariant-loop decreases-loop
 sub-m c = omega arith
 
 is-addable-requires : tie.Need-is_addable-requires invariant-loop decreases-loop
 is-addable-requires c κs =
-    let v = c.before.loop-m.invariant in
+    let v = c.loop-m.invariant in
     let s = v.short in
-    (c.before.before.before.requires.0, v.within, v.size, omega arith, omega (arith, v.size))
+    (c.requires.0, v.within, v.size, omega arith, omega (arith, v.size))
 
 returns : tie.Need-returns-then-not-is_addable invariant-loop decreases-loop
 returns c =
     let a = c.before in
-    let v = a.before.before.loop-m.invariant in
-    sym (left_fails _ _ v.within _ a.before.loop-m-test.true v.short (sym a.is_addable.ensures ∙ not-true _ c.if-not-is_addable.true)) ∙ v.rest
+    let v = a.loop-m.invariant in
+    sym (left_fails _ _ v.within _ a.loop-m-test.true v.short (sym a.is_addable.ensures ∙ c.if-not-is_addable.true)) ∙ v.rest
 
 loop-less : tie.Need-loop-m-smaller invariant-loop decreases-loop
 loop-less c = omega arith
@@ -53,18 +53,18 @@ loop-less c = omega arith
 loop-again : tie.Need-loop-m-preserved invariant-loop decreases-loop
 loop-again c =
     let a = c.before in
-    let v = a.before.before.loop-m.invariant in
+    let v = a.loop-m.invariant in
     let s = v.short in
     record {
       within = v.within;
       size = v.size;
       short = omega arith;
-      rest = sym (left_passes _ _ v.within _ a.before.loop-m-test.true v.short (sym a.is_addable.ensures ∙ not-false _ c.if-not-is_addable.false)) ∙ v.rest;
+      rest = sym (left_passes _ _ v.within _ a.loop-m-test.true v.short (sym a.is_addable.ensures ∙ c.if-not-is_addable.false)) ∙ v.rest;
     }
 
 returns_2 : tie.Need-returns invariant-loop decreases-loop
 returns_2 c =
-    let v = c.before.loop-m.invariant in
+    let v = c.loop-m.invariant in
     sym (left-none _ _ v.within _ c.loop-m-test.false v.short) ∙ v.rest
 
 pub needed_fault_spec : {M : Type 1} → statement M

@@ -6,10 +6,10 @@ use Rattle.row_ends.proofs.needing_row.Tie as tie
 
 returns : tie.Need-returns-then-fits
 unfolding rows_of
-returns c = record { within = omega arith; none = λ j l. c.before.requires.1 c.if-fits.true j l; one = λ l. absurd (omega arith) }
+returns c = record { within = omega arith; none = λ j l. c.requires.1 c.if-fits.true j l; one = λ l. absurd (omega arith) }
 
 first-needing-requires : tie.Need-first_needing-requires
-first-needing-requires c κs = c.before.requires.0
+first-needing-requires c κs = c.requires.0
 
 returns_2 : tie.Need-returns
 returns_2 c = c.first_needing.ensures

@@ -25,14 +25,14 @@ part-find-row-end c = search rules
 
 find-row-requires : tie.Need-find_row-found-requires
 unfolding words_from
-find-row-requires c κs = let p = c.before.requires in (checked-good true _ p.0, rw length-take (omega arith), p.4)
+find-row-requires c κs = let p = c.requires in (checked-good true _ p.0, rw length-take (omega arith), p.4)
 
 found-row-requires : tie.Need-found_row-requires
 found-row-requires c κs = λ i e. (found-words _ _ i (sym c.find_row-found.ensures ∙ e)).0
 
 returns : tie.Need-returns
 unfolding words_from
-returns c = c.found_row.ensures ∙ ap (found_row _) c.before.find_row-found.ensures
+returns c = c.found_row.ensures ∙ ap (found_row _) c.find_row-found.ensures
 
 pub row_of_spec : {M : Type 1} → statement M
 row_of_spec =

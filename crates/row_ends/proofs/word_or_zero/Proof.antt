@@ -25,7 +25,7 @@ shared-slice-copy-out-result c = search rules
 returns_2 : tie.Need-returns
 returns_2 c =
     let s = c.before.before in
-    let l = c.before.if-past-from.false in
+    let l = c.if-past-from.false in
     let q = s.requires.0 in
     to_z-of_z (sfits_of c.result-1.given) ∙ place-word _ _ _ _ (omega (arith, s.requires.1)) s.requires.2 l
 

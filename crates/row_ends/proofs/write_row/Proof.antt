@@ -51,7 +51,7 @@ end-probability-requires : tie.Need-end_probability-p-requires
 end-probability-requires c κs = c.requires.0
 
 end-backoff-requires : tie.Need-end_backoff-b-requires
-end-backoff-requires c κs = c.before.requires.0
+end-backoff-requires c κs = c.requires.0
 
 word-or-zero-requires : tie.Need-word_or_zero-v-requires
 word-or-zero-requires c κs = let q = places c.before.before in (q.0, q.1, q.3, omega arith)

@@ -34,7 +34,7 @@ returns_2 c =
     let b = c.before.before in
     let s = b.before in
     c.in_range.ensures ∙ ap (λ (z : ℤ). between (neg_ℤ (pos largest_backoff)) (pos largest_backoff) z) (to_z-of_z (fits b) ∙ b.field-b.ensures)
-    ∙ sym (backoff_shorter _ _ _ (λ e. c.before.if-m-n.false (s.requires.1 ∙ e)))
+    ∙ sym (backoff_shorter _ _ _ (λ e. c.if-m-n.false (s.requires.1 ∙ e)))
 
 pub backoff_fits_spec : {M : Type 1} → statement M
 backoff_fits_spec = tie.close (tie.spec field-requires returns in-range-requires returns_2)

@@ -30,7 +30,7 @@ loop-holds : tie.Need-loop-j-init invariant-loop decreases-loop
 loop-holds c = (omega arith, refl)
 
 field-requires : tie.Need-field-word-requires invariant-loop decreases-loop
-field-requires c κs = (c.before.before.requires.0, omega arith)
+field-requires c κs = (c.requires.0, omega arith)
 
 in-range-requires : tie.Need-in_range-requires invariant-loop decreases-loop
 in-range-requires c κs = tt
@@ -39,17 +39,17 @@ fits : (c : tie.After-field-word invariant-loop decreases-loop) → SFits w32 c.
 fits c = sfits_of c.field-word.type_inv
 
 abbrev fitting : tie.After-field-word invariant-loop decreases-loop → Bool
-fitting c = place_fits c.before.before.before.args.table.now c.before.before.before.args.i c.before.before.loop-j.j
+fitting c = place_fits c.args.table.now c.args.i c.loop-j.j
 
 used : (c : tie.After-in_range invariant-loop decreases-loop) → fitting c.before.before ≡ c.in_range.result
 used c =
     let f = c.before.before in
     let s = f.before.before.before in
-    let j = c.before.if-j-m.true in
+    let j = c.if-j-m.true in
     place_used _ _ _ (rw s.requires.1 at j)
     ∙ sym (c.in_range.ensures ∙ ap (λ (z : ℤ). between (pos 1) (pos word_limit) z) (to_z-of_z (fits f) ∙ f.field-word.ensures))
 
-unused : (c : tie.Else-j-m invariant-loop decreases-loop) → fitting c.before ≡ eqb (of_z w32 c.before.field-word.result) 0
+unused : (c : tie.Else-j-m invariant-loop decreases-loop) → fitting c.before ≡ eqb (of_z w32 c.field-word.result) 0
 unused c =
     let f = c.before in
     let s = f.before.before.before in
@@ -57,11 +57,11 @@ unused c =
     place_unused _ _ _ (rw s.requires.1 at j)
     ∙ sym (bits_test (fits f) (omega zarith) ∙ ap (λ (z : ℤ). eq_z z (pos 0)) f.field-word.ensures)
 
-fails : (c : tie.After-field-word invariant-loop decreases-loop) → fitting c ≡ false → false ≡ places_fit c.before.before.before.args.table.now c.before.before.before.args.i 1 order_limit
-fails c e = let j = c.before.loop-j-test.true in sym (c.before.before.loop-j.invariant.1 ∙ places_fail _ _ _ (order_limit + 1) (omega arith) e)
+fails : (c : tie.After-field-word invariant-loop decreases-loop) → fitting c ≡ false → false ≡ places_fit c.args.table.now c.args.i 1 order_limit
+fails c e = let j = c.loop-j-test.true in sym (c.loop-j.invariant.1 ∙ places_fail _ _ _ (order_limit + 1) (omega arith) e)
 
 returns : tie.Need-returns-then-not-in_range invariant-loop decreases-loop
-returns c = fails c.before.before.before (used c.before ∙ not-true _ c.if-not-in_range.true)
+returns c = fails c.before.before.before (used c.before ∙ c.if-not-in_range.true)
 
 returns_2 : tie.Need-returns-then-word-ne0 invariant-loop decreases-loop
 returns_2 c = fails c.before.before (unused c.before ∙ ne_eqb _ _ c.if-word-ne0.true)
@@ -77,14 +77,14 @@ loop-again c =
     let f = c.before in
     let fit : fitting f ≡ true =
     ⊎_elim
-    (λ w. used (record { before = record { before = f; if1 = w.0 }; in_range = w.1 }) ∙ not-false _ w.2.left)
-    (λ w. unused (record { before = f; if1 = w.0 }) ∙ eq-eqb _ _ w.1.left)
-    c.if-j-m.branch
+    (λ w. used (record { before = record { before = f; if-j-m = w.if-j-m }; in_range = w.in_range }) ∙ w.if-not-in_range.false)
+    (λ w. unused (record { before = f; if-j-m = w.if-j-m }) ∙ eq-eqb _ _ w.if-word-ne0.false)
+    c.if-j-m.branch-raw
     in
-    (omega arith, f.before.before.loop-j.invariant.1 ∙ places_pass _ _ _ (order_limit + 1) (omega arith) fit)
+    (omega arith, f.loop-j.invariant.1 ∙ places_pass _ _ _ (order_limit + 1) (omega arith) fit)
 
 returns_3 : tie.Need-returns invariant-loop decreases-loop
-returns_3 c = sym (c.before.loop-j.invariant.1 ∙ places-end _ _ _ (order_limit + 1) c.loop-j-test.false)
+returns_3 c = sym (c.loop-j.invariant.1 ∙ places-end _ _ _ (order_limit + 1) c.loop-j-test.false)
 
 pub places_fit_spec : {M : Type 1} → statement M
 places_fit_spec =

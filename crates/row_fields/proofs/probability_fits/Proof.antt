@@ -22,7 +22,7 @@ fits c = sfits_of c.field.type_inv
 
 returns : tie.Need-returns
 unfolding in_probability
-returns c = c.in_range.ensures ∙ ap (λ (z : ℤ). between least_probability (pos 0) z) (to_z-of_z (fits c.before) ∙ c.before.field.ensures)
+returns c = c.in_range.ensures ∙ ap (λ (z : ℤ). between least_probability (pos 0) z) (to_z-of_z (fits c.before) ∙ c.field.ensures)
 
 pub probability_fits_spec : {M : Type 1} → statement M
 probability_fits_spec = tie.close (tie.spec field-requires in-range-requires returns)

@@ -99,10 +99,10 @@ place-node-requires c κs =
     )
 
 same_length : tie.Need-shape_of-base
-same_length c = c.before.before.before.before.place_node.auto.0
+same_length c = c.place_node.auto.base
 
 same-length_2 : tie.Need-shape_of-check
-same-length_2 c = c.before.before.before.before.place_node.auto.1.0
+same-length_2 c = c.place_node.auto.check
 
 same-length-3 : tie.Need-shape_of-work
 same-length-3 c = search rules

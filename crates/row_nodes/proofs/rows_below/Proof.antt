@@ -25,7 +25,7 @@ returns : tie.Need-returns-then-m-length_of invariant-loop decreases-loop
 unfolding rows_of
 returns c =
     let l = c.before.before.before in
-    rows-below _ l.before.requires _ _ l.loop-k.invariant.0 l.loop-k.invariant.1 (λ h. omega (arith, c.if-m-length_of.true, c.before.length_of_lem.ensures.0))
+    rows-below _ l.requires _ _ l.loop-k.invariant.0 l.loop-k.invariant.1 (λ h. omega (arith, c.if-m-length_of.true, c.length_of.ensures.0))
 
 add-k : tie.Need-overflow_add-k invariant-loop decreases-loop
 add-k c = search rules
@@ -36,13 +36,13 @@ loop-less c = search rules
 loop-again : tie.Need-loop-k-preserved invariant-loop decreases-loop
 loop-again c =
     let l = c.before.before.before in
-    (omega arith, below_more _ _ l.loop-k.invariant.1 (omega (arith, c.before.length_of_lem.ensures.0, c.if-m-length_of.false)))
+    (omega arith, below_more _ _ l.loop-k.invariant.1 (omega (arith, c.length_of.ensures.0, c.if-m-length_of.false)))
 
 returns_2 : tie.Need-returns invariant-loop decreases-loop
 unfolding rows_of
 returns_2 c =
     let l = c.before in
-    rows-below _ l.before.requires _ _ l.loop-k.invariant.0 l.loop-k.invariant.1 (λ h. absurd (omega (arith, c.loop-k-test.false)))
+    rows-below _ l.requires _ _ l.loop-k.invariant.0 l.loop-k.invariant.1 (λ h. absurd (omega (arith, c.loop-k-test.false)))
 
 pub rows_below_spec : {M : Type 1} → statement M
 rows_below_spec =

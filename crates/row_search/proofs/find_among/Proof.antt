@@ -10,7 +10,7 @@ use Rattle.row_search.proofs.find_among.Statement.{statement}
 use Rattle.row_search.proofs.find_among.Tie as tie
 
 returns : tie.Need-returns-then-words-eq0
-returns c = sym (finds_nothing _ c.before.args.words.now c.before.requires.0 c.if-words-eq0.true)
+returns c = sym (finds_nothing _ c.args.words.now c.requires.0 c.if-words-eq0.true)
 
 key-of-requires : tie.Need-key_of-k-requires
 key-of-requires c κs = search rules

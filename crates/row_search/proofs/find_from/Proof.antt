@@ -27,11 +27,11 @@ returns c = search rules
 returns_2 : tie.Need-returns
 unfolding find_in
 returns_2 c =
-    let f = c.before.before.before in
+    let f = c.before in
     let s = f.before in
     let t = s.args.part.now in
-    let at = c.before.row-1.given.1 in
-    sym at ∙ f.found_near.ensures (ap is_at at) ∙ ap (λ (k : ℕ). find_key t k (rows_of t)) s.requires.3 ∙ find-key-words t _ (rows_of t) s.requires.0.row-1 s.requires.2
+    let at = c.in-At.is in
+    sym at ∙ f.found_near.ensures (ap is_at at) ∙ ap (λ (k : ℕ). find_key t k (rows_of t)) s.requires.3 ∙ find-key-words t _ (rows_of t) s.requires.0.row s.requires.2
 
 pub find_from_spec : {M : Type 1} → statement M
 find_from_spec =

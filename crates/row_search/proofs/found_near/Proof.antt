@@ -22,7 +22,7 @@ loop-holds c = tt
 
 row-key-requires : tie.Need-row_key-key-requires invariant-loop decreases-loop
 unfolding rows_of
-row-key-requires c κs = (omega arith, c.before.before.requires.row c.before.loop-row.row c.loop-row-test.true)
+row-key-requires c κs = (omega arith, c.requires.row c.loop-row.row c.loop-row-test.true)
 
 key-less-requires : tie.Need-key_less-requires invariant-loop decreases-loop
 key-less-requires c κs = tt
@@ -38,8 +38,8 @@ returns c =
     let l = r.before in
     let s = l.before.before in
     let k = key_of s.args.k.high s.args.k.low in
-    let same : eqb (row_key s.args.part.now l.before.loop-row.row) k ≡ e.key_equal.result = sym (e.key_equal.ensures ∙ ap (λ (x : ℕ). eqb x k) r.row_key-key.ensures) in
-    λ a. sym (find-key_hit _ _ _ l.before.loop-row.row s.requires l.loop-row-test.true (eqb-true _ _ (same ∙ c.if-key_equal.true)))
+    let same : eqb (row_key s.args.part.now l.loop-row.row) k ≡ e.key_equal.result = sym (e.key_equal.ensures ∙ ap (λ (x : ℕ). eqb x k) r.row_key-key.ensures) in
+    λ a. sym (find-key_hit _ _ _ l.loop-row.row s.requires l.loop-row-test.true (eqb-true _ _ (same ∙ c.if-key_equal.true)))
 
 returns_2 : tie.Need-returns-then-not-key_less invariant-loop decreases-loop
 returns_2 c = λ a. absurd (false≢true a)

@@ -21,10 +21,10 @@ unlisted-requires c κs = search rules
 
 returns : tie.Need-returns-in_default
 unfolding found_row
-returns c = c.unlisted.ensures ∙ sym (ap (found_row _) c.before.enum_told-1.given.1)
+returns c = c.unlisted.ensures ∙ sym (ap (found_row _) c.in_default.is)
 
-inside : (c : tie.In-At) → 8 * c.before.found-1.given.0.0 + 8 ≤ length c.before.before.before.args.table.now
-inside c = row_in _ _ (c.before.before.before.requires _ c.before.found-1.given.1)
+inside : (c : tie.In-At) → 8 * c.in-At.i + 8 ≤ length c.args.table.now
+inside c = row_in _ _ (c.requires _ c.in-At.is)
 
 field-requires : tie.Need-field-requires
 field-requires c κs = (inside c, lit< tt)
@@ -37,7 +37,7 @@ unfolding found_row
 returns_2 c =
     let f = c.before in
     rw (to_z-of_z (sfits_of f.field.type_inv), to_z-of_z (sfits_of c.field-2.type_inv), f.field.ensures, c.field-2.ensures)
-    (sym (ap (found_row _) f.before.before.found-1.given.1))
+    (sym (ap (found_row _) f.in-At.is))
 
 pub found_row_spec : {M : Type 1} → statement M
 found_row_spec =

@@ -13,7 +13,7 @@ use Rattle.row_search.proofs.has_key.Tie as tie
 
 row-key-requires : tie.Need-row_key-requires
 unfolding rows_of
-row-key-requires c κs = (let l = c.if-i-part.true in omega arith, c.before.requires.row c.before.args.i c.if-i-part.true)
+row-key-requires c κs = (let l = c.if-i-part.true in omega arith, c.requires.row c.args.i c.if-i-part.true)
 
 key-equal-requires : tie.Need-key_equal-requires
 key-equal-requires c κs = search rules
@@ -24,7 +24,7 @@ returns c =
     let r = c.before in
     let s = r.before.before in
     let k = key_of s.args.k.high s.args.k.low in
-    λ e. (r.before.if-i-part.true, eqb-true _ _ (sym (c.key_equal.ensures ∙ ap (λ (x : ℕ). eqb x k) r.row_key.ensures) ∙ e))
+    λ e. (r.if-i-part.true, eqb-true _ _ (sym (c.key_equal.ensures ∙ ap (λ (x : ℕ). eqb x k) r.row_key.ensures) ∙ e))
 
 returns_2 : tie.Need-returns
 returns_2 c = λ e. absurd (false≢true e)

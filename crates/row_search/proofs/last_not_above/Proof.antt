@@ -39,8 +39,8 @@ add-middle c = omega arith
 row-key-requires : tie.Need-row_key-requires invariant-loop decreases-loop
 unfolding rows_of
 row-key-requires c κs =
-    let w = c.before.loop-size.invariant.window.within in
-    (omega arith, c.before.before.requires.0.row _ (omega arith))
+    let w = c.loop-size.invariant.window.within in
+    (omega arith, c.requires.0.row _ (omega arith))
 
 key-less-requires : tie.Need-key_less-requires invariant-loop decreases-loop
 key-less-requires c κs = tt
@@ -54,23 +54,23 @@ loop-less c = omega arith
 loop-again : tie.Need-loop-size-preserved invariant-loop decreases-loop
 loop-again c =
     let l = c.before.before.before.before in
-    let t = l.before.args.table.now in
-    let k = key_of l.before.args.k.high l.before.args.k.low in
+    let t = l.args.table.now in
+    let k = key_of l.args.k.high l.args.k.low in
     let i = l.loop-size.invariant in
     let two = l.loop-size.size / 2 in
-    let e : ltb k (row_key t (l.loop-size.from + two)) ≡ c.before.key_less.result = sym (c.before.key_less.ensures ∙ ap (ltb k) c.before.before.row_key.ensures) in
+    let e : ltb k (row_key t (l.loop-size.from + two)) ≡ c.key_less.result = sym (c.key_less.ensures ∙ ap (ltb k) c.row_key.ensures) in
     record {
       some = omega arith;
       window =
           ⊎_elim
-          (λ w. subst (λ (f : ℕ). Window t k f (f + (l.loop-size.size - two))) (sym w.1) (window_up t l.before.requires.0 k l.loop-size.from l.loop-size.size two (omega arith) i.some i.window (ltb-false _ _ (e ∙ not-true _ w.0.true))))
-          (λ w. subst (λ (f : ℕ). Window t k f (f + (l.loop-size.size - two))) (sym w.1) (window_down t l.before.requires.0 k l.loop-size.from l.loop-size.size two (omega arith) i.some i.window (ltb-true _ _ (e ∙ not-false _ w.0.left))))
-          c.if-not-key_less.branch;
+          (λ w. subst (λ (f : ℕ). Window t k f (f + (l.loop-size.size - two))) (sym w.from-is) (window_up t l.requires.0 k l.loop-size.from l.loop-size.size two (omega arith) i.some i.window (ltb-false _ _ (e ∙ w.if-not-key_less.true))))
+          (λ w. subst (λ (f : ℕ). Window t k f (f + (l.loop-size.size - two))) (sym w.from-is) (window_down t l.requires.0 k l.loop-size.from l.loop-size.size two (omega arith) i.some i.window (ltb-true _ _ (e ∙ w.if-not-key_less.false))))
+          c.if-not-key_less.branch-raw;
     }
 
 returns : tie.Need-returns invariant-loop decreases-loop
 returns c =
-    let l = c.before.loop-size in
+    let l = c.loop-size in
     let e : l.size ≡ 1 = omega (arith, l.invariant.some) in
     rw e at l.invariant.window
 

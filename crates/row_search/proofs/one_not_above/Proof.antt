@@ -20,7 +20,7 @@ bit_small true = omega arith
 bit_small false = omega arith
 
 returns : tie.Need-returns
-returns c = bit_small (leb c.low_key.result c.before.args.k)
+returns c = bit_small (leb c.low_key.result c.args.k)
 
 pub one_not_above_spec : {M : Type 1} → statement M
 one_not_above_spec = tie.close (tie.spec low-key-requires cast-result returns)

@@ -18,14 +18,14 @@ span-size-requires c κs = tt
 loop-holds : tie.Need-loop-size-init invariant-loop decreases-loop
 loop-holds c = c.span_size-size.ensures
 
-within : (c : tie.In-loop-size invariant-loop decreases-loop) → c.before.loop-size.from + c.before.loop-size.size ≤ rows_of c.before.before.before.args.part.now
-within c = let l = c.loop-size-test.true in c.before.loop-size.invariant (omega arith)
+within : (c : tie.In-loop-size invariant-loop decreases-loop) → c.loop-size.from + c.loop-size.size ≤ rows_of c.args.part.now
+within c = let l = c.loop-size-test.true in c.loop-size.invariant (omega arith)
 
 three-not-above-requires : tie.Need-three_not_above-requires invariant-loop decreases-loop
-three-not-above-requires c κs = (c.before.before.before.requires, let w = within c in omega arith)
+three-not-above-requires c κs = (c.requires, let w = within c in omega arith)
 
-most : (c : tie.After-three_not_above invariant-loop decreases-loop) → (c.before.before.loop-size.size / 4) * c.three_not_above.result ≤ (c.before.before.loop-size.size / 4) * 3
-most c = mul-le-mul_left (c.before.before.loop-size.size / 4) c.three_not_above.ensures
+most : (c : tie.After-three_not_above invariant-loop decreases-loop) → (c.loop-size.size / 4) * c.three_not_above.result ≤ (c.loop-size.size / 4) * 3
+most c = mul-le-mul_left (c.loop-size.size / 4) c.three_not_above.ensures
 
 mul-from : tie.Need-overflow_mul-from invariant-loop decreases-loop
 unfolding rows_of

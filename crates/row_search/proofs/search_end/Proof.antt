@@ -16,7 +16,7 @@ returns c = window_all _ _
 
 row-key-requires : tie.Need-row_key-requires
 unfolding rows_of
-row-key-requires c κs = (let l = c.if-rows-to.false in omega arith, c.before.requires.row c.before.args.to c.if-rows-to.false)
+row-key-requires c κs = (let l = c.if-rows-to.false in omega arith, c.requires.row c.args.to c.if-rows-to.false)
 
 key-less-requires : tie.Need-key_less-requires
 key-less-requires c κs = search rules
@@ -28,8 +28,8 @@ returns_2 c =
     let s = r.before.before in
     let t = s.args.table.now in
     let k = key_of s.args.k.high s.args.k.low in
-    let e : ltb k (row_key t s.args.to) ≡ c.before.key_less.result = sym (c.before.key_less.ensures ∙ ap (ltb k) r.row_key.ensures) in
-    window_end t s.requires k s.args.to r.before.if-rows-to.false (ltb-true _ _ (e ∙ c.if-key_less.true))
+    let e : ltb k (row_key t s.args.to) ≡ c.key_less.result = sym (c.key_less.ensures ∙ ap (ltb k) r.row_key.ensures) in
+    window_end t s.requires k s.args.to r.if-rows-to.false (ltb-true _ _ (e ∙ c.if-key_less.true))
 
 returns_3 : tie.Need-returns
 unfolding rows_of

@@ -25,7 +25,7 @@ row-key-requires : tie.Need-row_key-requires
 unfolding rows_of
 row-key-requires c κs =
     let s = c.before.before in
-    let z = c.before.if-near-eq0.false in
+    let z = c.if-near-eq0.false in
     (omega arith, s.requires.row (s.args.near - 1) (omega arith))
 
 key-less-requires : tie.Need-key_less-requires
@@ -38,9 +38,9 @@ returns_3 c =
     let s = r.before.before.before in
     let t = s.args.table.now in
     let k = key_of s.args.k.high s.args.k.low in
-    let z = r.before.before.if-near-eq0.false in
+    let z = r.if-near-eq0.false in
     let e : s.args.near - 1 + 1 ≡ s.args.near = omega arith in
-    let l : ltb (row_key t (s.args.near - 1)) k ≡ c.before.key_less.result = sym (c.before.key_less.ensures ∙ ap (λ (x : ℕ). ltb x k) r.row_key.ensures) in
+    let l : ltb (row_key t (s.args.near - 1)) k ≡ c.key_less.result = sym (c.key_less.ensures ∙ ap (λ (x : ℕ). ltb x k) r.row_key.ensures) in
     subst (λ (from : ℕ). Bracket t k from (rows_of t)) e
     (bracket-up t s.requires k 0 (rows_of t) (s.args.near - 1) (bracket-start t k) (omega arith) (ltb-true _ _ (l ∙ c.if-key_less.true)))
 

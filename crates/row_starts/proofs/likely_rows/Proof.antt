@@ -20,7 +20,7 @@ element-copy-out-rows-near-2 c = search rules
 shared-slice-copy-out-rows-near : tie.Need-bounds-words-0
 shared-slice-copy-out-rows-near c = search rules
 
-word_fits : (c : tie.After-rows_near-arg-then-words-eq1-2-1) → SFits w32 (get_or c.before.before.before.before.args.words.now 0 (pos 0))
+word_fits : (c : tie.After-rows_near-arg-then-words-eq1-2-1) → SFits w32 (get_or c.args.words.now 0 (pos 0))
 word_fits c = sfits_of c.rows_near-arg-then-words-eq1-2-1.given
 
 cast-rows-near : tie.Need-overflow_cast-words

@@ -12,7 +12,7 @@ use borrow.Author.Rules.{rules}
 use Rattle.rows_before.proofs.find_without_first.Statement.{statement}
 use Rattle.rows_before.proofs.find_without_first.Tie as tie
 
-part : (c : tie.After-first_asked) → words_of (take (8 * c.before.args.i + (c.before.args.m + 1) - (8 * c.before.args.i + c.first_asked.result)) (drop (8 * c.before.args.i + c.first_asked.result) c.before.args.table.now)) ≡ without_firsts c.before.args.filling c.before.args.table.now c.before.args.i
+part : (c : tie.After-first_asked) → words_of (take (8 * c.args.i + (c.args.m + 1) - (8 * c.args.i + c.first_asked.result)) (drop (8 * c.args.i + c.first_asked.result) c.args.table.now)) ≡ without_firsts c.args.filling c.args.table.now c.args.i
 part c =
     let s = c.before in
     rw (c.first_asked.ensures.0, s.requires.3) (asked-words _ _ s.requires.2 s.requires.0 s.args.filling)

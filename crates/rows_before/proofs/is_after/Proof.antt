@@ -30,8 +30,8 @@ returns_2 : tie.Need-returns
 returns_2 c =
     let b = c.before.before in
     let s = b.before.before in
-    c.key_less.ensures ∙ ap₂ ltb b.row_key-before.ensures c.before.row_key.ensures
-    ∙ sym (after-key s.args.table.now s.args.i b.before.if-i-eq0.false s.requires.1 s.requires.2)
+    c.key_less.ensures ∙ ap₂ ltb b.row_key-before.ensures c.row_key.ensures
+    ∙ sym (after-key s.args.table.now s.args.i b.if-i-eq0.false s.requires.1 s.requires.2)
 
 pub is_after_spec : {M : Type 1} → statement M
 is_after_spec =

@@ -20,10 +20,10 @@ faulty-requires c κs = search rules
 returns : tie.Need-returns-then-not-is_after
 returns c =
     let e = c.faulty.ensures in
-    (e ∙ sym (fault_order _ _ _ (sym c.before.before.is_after.ensures ∙ not-true _ c.before.if-not-is_after.true)), λ z. absurd (omega arith))
+    (e ∙ sym (fault_order _ _ _ (sym c.is_after.ensures ∙ c.if-not-is_after.true)), λ z. absurd (omega arith))
 
-after : (c : tie.Else-not-is_after) → is_after c.before.before.args.table.now c.before.before.args.i ≡ true
-after c = sym c.before.is_after.ensures ∙ not-false _ c.if-not-is_after.false
+after : (c : tie.Else-not-is_after) → is_after c.args.table.now c.args.i ≡ true
+after c = sym c.is_after.ensures ∙ c.if-not-is_after.false
 
 length-of-requires : tie.Need-length_of-m-requires
 length-of-requires c κs = search rules
@@ -33,7 +33,7 @@ returns_2 : tie.Need-returns-then-m-lt2
 returns_2 c =
     let d = c.before.before in
     let s = d.before.before in
-    let m = c.before.length_of_lem.ensures.0 in
+    let m = c.length_of-m.ensures.0 in
     let l = c.if-m-lt2.true in
     (sym (fault_none _ _ _ (after d) (rw m at l)), λ z. not-before s.args.i ∙ sym (single-nothing _ _ _ (part_good _ _ (omega arith) s.requires.1) (omega arith)))
 

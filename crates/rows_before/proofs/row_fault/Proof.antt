@@ -16,21 +16,21 @@ faulty-requires c κs = search rules
 returns : tie.Need-returns-then-fault-ne0
 unfolding row_fault
 returns c =
-    let n = c.before.if-fault-ne0.true in
-    let e = c.before.before.field_fault-fault.ensures in
+    let n = c.if-fault-ne0.true in
+    let e = c.field_fault-fault.ensures in
     let f = c.faulty.ensures in
     (f ∙ e ∙ sym (or_left _ _ (λ z. n (e ∙ z))), λ z. absurd (n (sym f ∙ z)))
 
 order-fault-requires : tie.Need-order_fault-requires
 order-fault-requires c κs =
     let s = c.before.before in
-    (s.requires.0, s.requires.1, (passed_fields _ _ _ (sym c.before.field_fault-fault.ensures ∙ c.if-fault-ne0.false)).good)
+    (s.requires.0, s.requires.1, (passed_fields _ _ _ (sym c.field_fault-fault.ensures ∙ c.if-fault-ne0.false)).good)
 
 returns_2 : tie.Need-returns
 unfolding row_fault
 returns_2 c =
     let r = c.order_fault.ensures in
-    (r.0 ∙ sym (or_right _ _ (sym c.before.before.field_fault-fault.ensures ∙ c.before.if-fault-ne0.false)), r.1)
+    (r.0 ∙ sym (or_right _ _ (sym c.field_fault-fault.ensures ∙ c.if-fault-ne0.false)), r.1)
 
 pub row_fault_spec : {M : Type 1} → statement M
 row_fault_spec =

@@ -38,9 +38,9 @@ faulty-requires c κs = search rules
 returns : tie.Need-returns-in_default
 unfolding shorter_listed
 returns c =
-    let l = c.before.before.before in
+    let l = c.before.before in
     let s = l.before in
-    let e : last s ≡ false = ap is_at (sym l.find_shorter.ensures ∙ c.before.enum_told-1.given.1) in
+    let e : last s ≡ false = ap is_at (sym l.find_shorter.ensures ∙ c.in_default.is) in
     (c.faulty.ensures ∙ fault s false (and_no (first s) (last s) e), λ z. absurd (omega arith))
 
 find-without-first-requires : tie.Need-find_without_first-requires
@@ -58,19 +58,19 @@ faulty-requires-2 c κs = search rules
 returns_2 : tie.Need-returns-in_default-find_without_first
 unfolding shorter_listed
 returns_2 c =
-    let f = c.before.before.before in
-    let s = f.before.before.before.before.before in
-    let e : first s ≡ false = ap is_at (sym f.find_without_first.ensures ∙ c.before.enum_told-in_default-find_without_first-1.given.1) in
+    let f = c.before.before in
+    let s = f.before.before.before in
+    let e : first s ≡ false = ap is_at (sym f.find_without_first.ensures ∙ c.in_default-find_without_first.is) in
     (c.faulty-in_default-find_without_first.ensures ∙ fault s false (rw e), λ z. absurd (omega arith))
 
 returns_3 : tie.Need-returns
 unfolding shorter_listed
 returns_3 c =
-    let f = c.before.before.before in
-    let k = f.before.before in
-    let s = k.before.before.before in
-    let found = sym k.before.before.find_shorter.ensures ∙ k.last-1.given.1 in
-    let e : first s ≡ true = ap is_at (sym f.find_without_first.ensures ∙ c.before.first-1.given.1) in
+    let f = c.before in
+    let k = f.before in
+    let s = k.before.before in
+    let found = sym k.find_shorter.ensures ∙ k.in-At.is in
+    let e : first s ≡ true = ap is_at (sym f.find_without_first.ensures ∙ c.in-At-find_without_first.is) in
     let l : last s ≡ true = ap is_at found in
     (fault s true (rw (e, l)), λ z. found_before _ _ _ _ (omega arith) found)
 

@@ -8,7 +8,7 @@ unpack-requires : tie.Need-unpack-end-requires
 unpack-requires c κs = search rules
 
 returns : tie.Need-returns
-returns c = λ ps bs i. record { number = 0; place = 0; total = to_z-of_z c.before.ranges.total i; end = c.unpack-end.ensures i; points = ps; lengths = bs }
+returns c = λ ps bs i. record { number = 0; place = 0; total = to_z-of_z c.ranges.total i; end = c.unpack-end.ensures i; points = ps; lengths = bs }
 
 pub all_scored_spec : {M : Type 1} → statement M
 all_scored_spec = tie.close (tie.spec unpack-requires returns)

@@ -45,8 +45,8 @@ loop-less c = search rules
 loop-again : tie.Need-loop-i-preserved invariant-loop decreases-loop
 loop-again c =
     let s = c.before.before in
-    let v = c.before.loop-i.invariant in
-    let i = c.before.loop-i.i in
+    let v = c.loop-i.invariant in
+    let i = c.loop-i.i in
     record {
       at = omega arith;
       points_are = rw v.points_are (fill_more i (pos 0) s.args.points.now (omega arith));
@@ -65,8 +65,8 @@ returns : tie.Need-returns invariant-loop decreases-loop
 unfolding written
 returns c =
     let s = c.before.before in
-    let v = c.before.loop-i.invariant in
-    let e : c.before.loop-i.i ≡ s.args.count = omega arith in
+    let v = c.loop-i.invariant in
+    let e : c.loop-i.i ≡ s.args.count = omega arith in
     (v.points_are ∙ rw (e, length-replicate s.args.count (pos 0)), v.lengths_are ∙ rw (e, length-replicate {A = ℕ} s.args.count 0))
 
 pub clear_spec : {M : Type 1} → statement M

@@ -15,13 +15,13 @@ enum-known-kind-2 : tie.Need-enum_known-kind-in-Unknown-1
 enum-known-kind-2 c = search rules
 
 add-result : tie.Need-overflow_add-result
-add-result c = omega (arith, subst (λ (k : Kind). kind_byte k < 256) c.before.kind-in-Unknown-1.given.1 c.before.before.before.requires)
+add-result c = omega (arith, subst (λ (k : Kind). kind_byte k < 256) c.in-Unknown.is c.requires)
 
 returns : tie.Need-returns-in-Known
 returns c = search rules
 
 returns_2 : tie.Need-returns-in-Unknown
-returns_2 c = sym (ap kind_byte c.before.kind-in-Unknown-1.given.1)
+returns_2 c = sym (ap kind_byte c.in-Unknown.is)
 
 pub kind_byte_spec : {M : Type 1} → statement M
 kind_byte_spec =

@@ -13,13 +13,13 @@ add-result : tie.Need-overflow_add-result
 add-result c =
     let s = c.before.before in
     let h : kind_byte s.args.kind + 16 < 256 = rw c.if-extended.true at s.requires in
-    omega (arith, c.before.kind_byte_lem.ensures)
+    omega (arith, c.kind_byte-byte.ensures)
 
 returns : tie.Need-returns-then-extended
-returns c = rw c.if-extended.true (ap (λ (n : ℕ). n + 16) c.before.kind_byte_lem.ensures)
+returns c = rw c.if-extended.true (ap (λ (n : ℕ). n + 16) c.kind_byte-byte.ensures)
 
 returns_2 : tie.Need-returns-else-extended
-returns_2 c = rw c.if-extended.false (omega (arith, c.before.kind_byte_lem.ensures))
+returns_2 c = rw c.if-extended.false (omega (arith, c.kind_byte-byte.ensures))
 
 pub length_byte_spec : {M : Type 1} → statement M
 length_byte_spec = tie.close (tie.spec kind-byte-requires add-result returns returns_2)

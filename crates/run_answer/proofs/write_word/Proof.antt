@@ -23,14 +23,14 @@ same_length c = search rules
 same-length_2 : tie.Need-shape_of-lengths
 same-length_2 c = search rules
 
-points-fits : (s : tie.Start) → SFits w32 s.args.score.points-1
+points-fits : (s : tie.Start) → SFits w32 s.args.score.points
 points-fits s = search rules
 
 returns : tie.Need-returns
 returns c =
     let w = c.before.before in
     let s = w.before.before.before.before in
-    (w.write_points.ensures ∙ ap (set s.args.points.now s.args.i) (to_z-of_z (points-fits s)), ap (set s.args.lengths.now s.args.i) c.length_byte_lem.ensures)
+    (w.write_points.ensures ∙ ap (set s.args.points.now s.args.i) (to_z-of_z (points-fits s)), ap (set s.args.lengths.now s.args.i) c.length_byte.ensures)
 
 pub write_word_spec : {M : Type 1} → statement M
 write_word_spec =

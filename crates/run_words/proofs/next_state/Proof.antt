@@ -10,7 +10,7 @@ use Rattle.run_words.proofs.next_state.Statement.{statement}
 use Rattle.run_words.proofs.next_state.Tie as tie
 
 returns : tie.Need-returns-then-given-ne-END_WORD
-returns c = (rw (ne_eqb _ end_word c.if-given-ne-END_WORD.true), c.before.requires.1.1)
+returns c = (rw (ne_eqb _ end_word c.if-given-ne-END_WORD.true), c.requires.1.1)
 
 begin-requires : tie.Need-begin-begun-requires
 begin-requires c κs = search rules
@@ -23,14 +23,14 @@ enum_told c = search rules
 
 returns_2 : tie.Need-returns-in_default
 returns_2 c =
-    let b = c.before.before in
-    rw (eq-eqb _ end_word b.before.before.if-given-ne-END_WORD.false) (ap left_by (step_told b.begin-begun.ensures Refused c.enum_told-1.given.1))
+    let b = c.before in
+    rw (eq-eqb _ end_word b.if-given-ne-END_WORD.false) (ap left_by (step_told b.begin-begun.ensures Refused c.in_default.is))
 
 returns_3 : tie.Need-returns
 returns_3 c =
-    let b = c.before.before.before in
-    let q = c.before.begun-1.given.1 in
-    (rw (eq-eqb _ end_word b.before.before.if-given-ne-END_WORD.false) (ap left_by (step_told b.begin-begun.ensures _ q)), b.begin-begun.ensures.carries _ _ q)
+    let b = c.before in
+    let q = c.in-Scored.is in
+    (rw (eq-eqb _ end_word b.if-given-ne-END_WORD.false) (ap left_by (step_told b.begin-begun.ensures _ q)), b.begin-begun.ensures.carries _ _ q)
 
 pub next_state_spec : {M : Type 1} → statement M
 next_state_spec =

@@ -83,7 +83,7 @@ loop-holds c =
     let p = c.before.before in
     let s = p.before.before.before in
     let n = s.args.order in
-    begins p.pack-carried.ensures c.before.lent-backoffs.ensures (packed-held n s.args.state (arrays s) (limit s) s.requires.1.1.0) (rw (order_is s).0 (packed-carries n s.args.state (arrays s) (limit s) s.requires.1.1.0)) c.next_word-ahead.ensures
+    begins p.pack-carried.ensures c.lent-backoffs.ensures (packed-held n s.args.state (arrays s) (limit s) s.requires.1.1.0) (rw (order_is s).0 (packed-carries n s.args.state (arrays s) (limit s) s.requires.1.1.0)) c.next_word-ahead.ensures
 
 -- the function's entry
 abbrev entry : tie.At-loop-i invariant-loop decreases-loop → tie.Start invariant-loop decreases-loop
@@ -106,11 +106,11 @@ abbrev turn : tie.After-step-stepped invariant-loop decreases-loop → tie.At-lo
 turn c = c.before.before.before.before
 
 more : (c : tie.After-step-stepped invariant-loop decreases-loop) → (turn c).loop-i.i < length (entry (turn c)).args.words.now
-more c = c.before.before.before.loop-i-test.true
+more c = c.loop-i-test.true
 
 -- the lent back-offs as `step` left them
 abbrev backoffs : tie.After-step-stepped invariant-loop decreases-loop → List ℤ
-backoffs c = c.step-stepped.new.1.1.1.1.0
+backoffs c = c.step-stepped.new.backoffs
 
 -- the next word, and the state that it is scored from
 abbrev w : tie.After-step-stepped invariant-loop decreases-loop → ℕ
@@ -133,10 +133,10 @@ enum_told c = search rules
 
 refuse-word-requires : tie.Need-refuse_word-requires invariant-loop decreases-loop
 refuse-word-requires c κs =
-    let d = c.before.before.before.before in
+    let d = c.before.before.before in
     let l = turn d in
     let s = entry l in
-    ((omega (arith, l.loop-i.inv.running.points-long, s.requires), omega (arith, l.loop-i.inv.running.lengths-long, s.requires)), omega (arith, more d, s.requires.1.1.1.0))
+    ((omega (arith, l.loop-i.invariant.running.points-long, s.requires), omega (arith, l.loop-i.invariant.running.lengths-long, s.requires)), omega (arith, more d, s.requires.1.1.1.0))
 
 same_length : tie.Need-shape_of-points-in_default invariant-loop decreases-loop
 same_length c = search rules
@@ -148,39 +148,39 @@ returns : tie.Need-returns-in_default invariant-loop decreases-loop
 returns c =
     let k = c.before.before.before in
     let e = k.before.before.before in
-    let d = e.before.before in
+    let d = e.before in
     let l = turn d in
     let s = entry l in
     rw k.refuse_word.ensures.0
-    (running_refused (S d) (state_in (numbers_of s.args.state)) s.args.words.now s.args.points.now s.args.lengths.now (held d) (to_z w64 l.loop-i.total) l.loop-i.i l.loop-i.points l.loop-i.lengths l.loop-i.inv.running (more d) (step-refused (S d) (held d) (w d) (step_told (step_is d) Refused e.enum_told-1.given.1)) (numbers_of s.args.state) k.refuse_word.new.0 k.refuse_word.new.1.0 k.refuse_word.ensures.1.0 k.refuse_word.ensures.1.1)
+    (running_refused (S d) (state_in (numbers_of s.args.state)) s.args.words.now s.args.points.now s.args.lengths.now (held d) (to_z w64 l.loop-i.total-bits) l.loop-i.i l.loop-i.points l.loop-i.lengths l.loop-i.invariant.running (more d) (step-refused (S d) (held d) (w d) (step_told (step_is d) Refused e.in_default.is)) (numbers_of s.args.state) k.refuse_word.new.points k.refuse_word.new.lengths k.refuse_word.ensures.1.0 k.refuse_word.ensures.1.1)
 
 -- what the word scored, and the state that it leaves
-abbrev score : tie.In-Scored-2 invariant-loop decreases-loop → Score
-score c = c.stepped-1.given.0.0
+abbrev score : tie.In-Scored invariant-loop decreases-loop → Score
+score c = c.in-Scored.score
 
-abbrev left : tie.In-Scored-2 invariant-loop decreases-loop → Packed
-left c = c.stepped-1.given.0.1.0
+abbrev left : tie.In-Scored invariant-loop decreases-loop → Packed
+left c = c.in-Scored.next
 
-abbrev byte : tie.In-Scored-2 invariant-loop decreases-loop → ℕ
+abbrev byte : tie.In-Scored invariant-loop decreases-loop → ℕ
 byte c = byte_of (score c).kind (score c).extended
 
 -- as the code has taken it out
-abbrev scored-word : tie.After-struct_told-1 invariant-loop decreases-loop → tie.In-Scored-2 invariant-loop decreases-loop
-scored-word c = c.before.before.before
+abbrev scored-word : tie.After-struct_told-1 invariant-loop decreases-loop → tie.In-Scored invariant-loop decreases-loop
+scored-word c = c.before.before
 
 x_fits : (c : tie.After-struct_told-1 invariant-loop decreases-loop) → SFits w32 (score (scored-word c)).points-1
 x_fits c = search rules
 
-word-is : (c : tie.In-Scored-2 invariant-loop decreases-loop) → word_step (S c.before.before) (held c.before.before) (w c.before.before) ≡ scored (score c).points-1 (byte c) (held_in (left c) (backoffs c.before.before))
-word-is c = step_told (step_is c.before.before) _ c.stepped-1.given.1
+word-is : (c : tie.In-Scored invariant-loop decreases-loop) → word_step (S c.before) (held c.before) (w c.before) ≡ scored (score c).points-1 (byte c) (held_in (left c) (backoffs c.before))
+word-is c = step_told (step_is c.before) _ c.in-Scored.is
 
-sizes : (c : tie.In-Scored-2 invariant-loop decreases-loop) → (nat_abs (score c).points-1 ≤ order_limit * largest_backoff) × (byte c < 256)
+sizes : (c : tie.In-Scored invariant-loop decreases-loop) → (nat_abs (score c).points-1 ≤ order_limit * largest_backoff) × (byte c < 256)
 sizes c =
-    let d = c.before.before in
+    let d = c.before in
     let l = turn d in
     let s = entry l in
     let o = (order_is s).1 in
-    scored-sizes (S d) (rows-in_probability s.args.base.now s.args.check.now) ((S d).order - 1) (omega arith) (held d) (carries_bounded (S d).order o l.loop-i.carried l.loop-i.backoffs l.loop-i.inv.carries) (w d) (score c).points-1 (byte c) (held_in (left c) (backoffs d)) (word-is c)
+    scored-sizes (S d) (rows-in_probability s.args.base.now s.args.check.now) ((S d).order - 1) (omega arith) (held d) (carries_bounded (S d).order o l.loop-i.carried l.loop-i.backoffs l.loop-i.invariant.carries) (w d) (score c).points-1 (byte c) (held_in (left c) (backoffs d)) (word-is c)
 
 cast-total : tie.Need-overflow_cast-total invariant-loop decreases-loop
 cast-total c = to-wide tt (x_fits c)
@@ -192,39 +192,39 @@ x_wide c = to_z-of_z (cast-total c) ∙ to_z-of_z (x_fits c)
 add_total : tie.Need-overflow_add-total invariant-loop decreases-loop
 add_total c =
     let m = scored-word c in
-    let l = turn m.before.before in
-    omega (zarith, x_wide c, (sizes m).0, l.loop-i.inv.running.total_small, abs (score m).points-1, abs (to_z w64 l.loop-i.total), l.loop-i.inv.running.at, (entry l).requires.1.1.1.0)
+    let l = turn m.before in
+    omega (zarith, x_wide c, (sizes m).0, l.loop-i.invariant.running.total_small, abs (score m).points-1, abs (to_z w64 l.loop-i.total-bits), l.loop-i.invariant.running.at, (entry l).requires.1.1.1.0)
 
 write-word-requires : tie.Need-write_word-requires invariant-loop decreases-loop
 write-word-requires c κs =
     let m = scored-word c.before.before in
-    let d = m.before.before in
+    let d = m.before in
     let l = turn d in
     let s = entry l in
-    ((omega (arith, more d, l.loop-i.inv.running.points-long, s.requires), omega (arith, more d, l.loop-i.inv.running.lengths-long, s.requires)), (sizes m).1)
+    ((omega (arith, more d, l.loop-i.invariant.running.points-long, s.requires), omega (arith, more d, l.loop-i.invariant.running.lengths-long, s.requires)), (sizes m).1)
 
 -- the word that is written
 abbrev read : tie.After-slice_known-in-loop-i-1 invariant-loop decreases-loop → tie.After-struct_told-1 invariant-loop decreases-loop
 read c = c.before.before.before.before.before.before
 
-abbrev word : tie.After-slice_known-in-loop-i-1 invariant-loop decreases-loop → tie.In-Scored-2 invariant-loop decreases-loop
+abbrev word : tie.After-slice_known-in-loop-i-1 invariant-loop decreases-loop → tie.In-Scored invariant-loop decreases-loop
 word c = scored-word (read c)
 
 abbrev stepped : tie.After-slice_known-in-loop-i-1 invariant-loop decreases-loop → tie.After-step-stepped invariant-loop decreases-loop
-stepped c = (word c).before.before
+stepped c = (word c).before
 
 -- the slices with the word
-points_now : (c : tie.After-slice_known-in-loop-i-1 invariant-loop decreases-loop) → c.before.before.before.write_word.new.0 ≡ set (turn (stepped c)).loop-i.points (turn (stepped c)).loop-i.i (score (word c)).points-1
-points_now c = c.before.before.before.write_word.ensures.0
+points_now : (c : tie.After-slice_known-in-loop-i-1 invariant-loop decreases-loop) → c.write_word.new.points ≡ set (turn (stepped c)).loop-i.points (turn (stepped c)).loop-i.i (score (word c)).points-1
+points_now c = c.write_word.ensures.0
 
-lengths_now : (c : tie.After-slice_known-in-loop-i-1 invariant-loop decreases-loop) → c.before.before.before.write_word.new.1.0 ≡ set (turn (stepped c)).loop-i.lengths (turn (stepped c)).loop-i.i (byte (word c))
-lengths_now c = c.before.before.before.write_word.ensures.1
+lengths_now : (c : tie.After-slice_known-in-loop-i-1 invariant-loop decreases-loop) → c.write_word.new.lengths ≡ set (turn (stepped c)).loop-i.lengths (turn (stepped c)).loop-i.i (byte (word c))
+lengths_now c = c.write_word.ensures.1
 
-points-long : (c : tie.After-slice_known-in-loop-i-1 invariant-loop decreases-loop) → length c.before.before.before.write_word.new.0 ≡ length (entry (turn (stepped c))).args.points.now
-points-long c = c.before.before.before.write_word.auto.0 ∙ (turn (stepped c)).loop-i.inv.running.points-long
+points-long : (c : tie.After-slice_known-in-loop-i-1 invariant-loop decreases-loop) → length c.write_word.new.points ≡ length (entry (turn (stepped c))).args.points.now
+points-long c = c.write_word.auto.points ∙ (turn (stepped c)).loop-i.invariant.running.points-long
 
-lengths-long : (c : tie.After-slice_known-in-loop-i-1 invariant-loop decreases-loop) → length c.before.before.before.write_word.new.1.0 ≡ length (entry (turn (stepped c))).args.lengths.now
-lengths-long c = c.before.before.before.write_word.auto.1.0 ∙ (turn (stepped c)).loop-i.inv.running.lengths-long
+lengths-long : (c : tie.After-slice_known-in-loop-i-1 invariant-loop decreases-loop) → length c.write_word.new.lengths ≡ length (entry (turn (stepped c))).args.lengths.now
+lengths-long c = c.write_word.auto.lengths ∙ (turn (stepped c)).loop-i.invariant.running.lengths-long
 
 mul-next-state : tie.Need-offset_bounds-words-i invariant-loop decreases-loop
 mul-next-state c = let d = stepped c in omega (arith, more d, (entry (turn d)).requires.1.1.1.0)
@@ -237,14 +237,14 @@ next-state-requires c κs =
     let d = c.before.before in
     let m = word d in
     let s = entry (turn (stepped d)) in
-    (s.requires.0, (s.requires.1.0, (step_is (stepped d)).carries (score m) (left m) m.stepped-1.given.1))
+    (s.pre.0, (s.pre.1.0, (step_is (stepped d)).carries (score m) (left m) m.in-Scored.is))
 
 -- the state that the next word is scored from, as `next_state` told it
 abbrev written-word : tie.After-next_state-onward invariant-loop decreases-loop → tie.After-slice_known-in-loop-i-1 invariant-loop decreases-loop
 written-word c = c.before.before.before
 
 abbrev backoffs_on : tie.After-next_state-onward invariant-loop decreases-loop → List ℤ
-backoffs_on c = c.next_state-onward.new.1.1.1.1.1.0
+backoffs_on c = c.next_state-onward.new.backoffs
 
 next-is : (c : tie.After-next_state-onward invariant-loop decreases-loop) (r : NextState) → c.next_state-onward.result ≡ r → NextIs (entry (turn (stepped (written-word c)))).args.order (next_state (S (stepped (written-word c))) (w (stepped (written-word c))) (held_in (left (word (written-word c))) (backoffs (stepped (written-word c))))) r (backoffs_on c)
 next-is c r e =
@@ -266,25 +266,25 @@ enum-told-2 c = search rules
 
 refuse-word-requires-2 : tie.Need-refuse_word-requires-in_default-onward invariant-loop decreases-loop
 refuse-word-requires-2 c κs =
-    let d = written-word c.before.before.before.before in
+    let d = written-word c.before.before.before in
     let s = entry (turn (stepped d)) in
-    ((omega (arith, points-long d, s.requires), omega (arith, lengths-long d, s.requires)), omega (arith, more (stepped d), s.requires.1.1.1.0))
+    ((omega (arith, points-long d, s.pre), omega (arith, lengths-long d, s.pre)), omega (arith, more (stepped d), s.pre.1.1.1.0))
 
 same-length-3 : tie.Need-shape_of-points-in_default-onward invariant-loop decreases-loop
 same-length-3 c =
     let k = c.before.before.before in
-    k.refuse_word-in_default-onward.auto.0 ∙ points-long (written-word k.before.before.before.before.before)
+    k.refuse_word-in_default-onward.auto.points ∙ points-long (written-word k.before.before.before.before)
 
 same-length-4 : tie.Need-shape_of-lengths-in_default-onward invariant-loop decreases-loop
 same-length-4 c =
     let k = c.before.before.before in
-    k.refuse_word-in_default-onward.auto.1.0 ∙ lengths-long (written-word k.before.before.before.before.before)
+    k.refuse_word-in_default-onward.auto.lengths ∙ lengths-long (written-word k.before.before.before.before)
 
 returns_2 : tie.Need-returns-in_default-onward invariant-loop decreases-loop
 returns_2 c =
     let k = c.before.before.before in
     let g = k.before.before.before in
-    let b = g.before.before in
+    let b = g.before in
     let v = written-word b in
     let d = stepped v in
     let m = word v in
@@ -292,37 +292,37 @@ returns_2 c =
     let s = entry l in
     let n = length s.args.words.now in
     rw k.refuse_word-in_default-onward.ensures.0
-    (running_refused (S d) (state_in (numbers_of s.args.state)) s.args.words.now s.args.points.now s.args.lengths.now (held d) (to_z w64 l.loop-i.total) l.loop-i.i l.loop-i.points l.loop-i.lengths l.loop-i.inv.running (more d) (stepped_to v none (next-is b NotBegun g.enum_told-in_default-onward-1.given.1))
-    (numbers_of s.args.state) k.refuse_word-in_default-onward.new.0 k.refuse_word-in_default-onward.new.1.0
+    (running_refused (S d) (state_in (numbers_of s.args.state)) s.args.words.now s.args.points.now s.args.lengths.now (held d) (to_z w64 l.loop-i.total-bits) l.loop-i.i l.loop-i.points l.loop-i.lengths l.loop-i.invariant.running (more d) (stepped_to v none (next-is b NotBegun g.in_default-onward.is))
+    (numbers_of s.args.state) k.refuse_word-in_default-onward.new.points k.refuse_word-in_default-onward.new.lengths
     (k.refuse_word-in_default-onward.ensures.1.0 ∙ ap (written (replicate n (pos 0))) (points_now v) ∙ written-set (replicate n (pos 0)) l.loop-i.points l.loop-i.i (score m).points-1 (omega (arith, more d, length-replicate n (pos 0))))
     (k.refuse_word-in_default-onward.ensures.1.1 ∙ ap (written (replicate n 0)) (lengths_now v) ∙ written-set (replicate n 0) l.loop-i.lengths l.loop-i.i (byte m) (omega (arith, more d, length-replicate {A = ℕ} n 0))))
 
 -- the turn's word
-abbrev done : tie.In-Carried-2 invariant-loop decreases-loop → tie.After-slice_known-in-loop-i-1 invariant-loop decreases-loop
-done c = written-word c.before.before
+abbrev done : tie.In-Carried invariant-loop decreases-loop → tie.After-slice_known-in-loop-i-1 invariant-loop decreases-loop
+done c = written-word c.before
 
 add-i : tie.Need-overflow_add-i-in-loop-i invariant-loop decreases-loop
 add-i c =
-    let d = stepped (done c.before) in
+    let d = stepped (done c) in
     omega (arith, more d, (entry (turn d)).requires.1.1.1.0)
 
 loop-less : tie.Need-loop-i-smaller invariant-loop decreases-loop
-loop-less c = let d = stepped (done c.before) in omega (arith, more d)
+loop-less c = let d = stepped (done c) in omega (arith, more d)
 
 again : {check : List ℤ} {S : Store} {s : Carried} {ws : List ℕ} {points₀ ps qs : List ℤ} {lengths₀ bs cs : List ℕ} {carried : Packed} {backoffs : List ℤ} {total sum : ℤ} {ahead i : ℕ} → sum ≡ total → qs ≡ ps → cs ≡ bs → Carries S.order carried backoffs → Running S s ws points₀ lengths₀ (held_in carried backoffs) total i ps bs → (i < length ws → ahead ≡ replaced check (get_or ws i 0)) → Loop check S s ws points₀ lengths₀ carried backoffs sum ahead i qs cs
 again d e f k r a = rw (d, e, f) (record { running = r; carries = k; ahead-is = a })
 
 loop-again : tie.Need-loop-i-preserved invariant-loop decreases-loop
 loop-again c =
-    let u = c.before in
+    let u = c in
     let v = done u in
     let m = word v in
     let d = stepped v in
     let l = turn d in
     let s = entry l in
-    let o = next-is u.before.before (Onward u.onward-1.given.0.0) u.onward-1.given.1 in
-    again (to_z-of_z (add_total (read v)) ∙ ap (λ (z : ℤ). to_z w64 l.loop-i.total +ℤ z) (x_wide (read v))) (points_now v) (lengths_now v) (rw (order_is s).0 o.1)
-    (running_on (S d) (state_in (numbers_of s.args.state)) s.args.words.now s.args.points.now s.args.lengths.now (held d) (to_z w64 l.loop-i.total) l.loop-i.i l.loop-i.points l.loop-i.lengths l.loop-i.inv.running (score m).points-1 (byte m) (held_in u.onward-1.given.0.0 (backoffs_on u.before.before)) (more d) s.requires.1.1.1.1.0 s.requires.1.1.1.1.1 (sizes m).0 (stepped_to v _ o.0)) d.before.before.next_word-ahead-in-loop-i.ensures
+    let o = next-is u.before (Onward u.in-Carried.next) u.in-Carried.is in
+    again (to_z-of_z (add_total (read v)) ∙ ap (λ (z : ℤ). to_z w64 l.loop-i.total-bits +ℤ z) (x_wide (read v))) (points_now v) (lengths_now v) (rw (order_is s).0 o.1)
+    (running_on (S d) (state_in (numbers_of s.args.state)) s.args.words.now s.args.points.now s.args.lengths.now (held d) (to_z w64 l.loop-i.total-bits) l.loop-i.i l.loop-i.points l.loop-i.lengths l.loop-i.invariant.running (score m).points-1 (byte m) (held_in u.in-Carried.next (backoffs_on u.before)) (more d) s.requires.1.1.1.1.0 s.requires.1.1.1.1.1 (sizes m).0 (stepped_to v _ o.0)) d.next_word-ahead-in-loop-i.ensures
 
 all-scored-requires : tie.Need-all_scored-requires invariant-loop decreases-loop
 all-scored-requires c κs = let l = c.before in omega (arith, l.loop-i.invariant.carries.few, order_is (entry l))
@@ -339,7 +339,7 @@ returns_3 c =
     let l = n.before in
     let s = entry l in
     c.all_scored.ensures _ _
-    ∙ running_ends (store_in s.args.base.now s.args.check.now) (state_in (numbers_of s.args.state)) s.args.words.now s.args.points.now s.args.lengths.now (held_in l.loop-i.carried l.loop-i.backoffs) (to_z w64 l.loop-i.total) l.loop-i.i l.loop-i.points l.loop-i.lengths l.loop-i.invariant.running n.loop-i-test.false s.requires.1.1.1.1.0 s.requires.1.1.1.1.1 (numbers_of s.args.state)
+    ∙ running_ends (store_in s.args.base.now s.args.check.now) (state_in (numbers_of s.args.state)) s.args.words.now s.args.points.now s.args.lengths.now (held_in l.loop-i.carried l.loop-i.backoffs) (to_z w64 l.loop-i.total-bits) l.loop-i.i l.loop-i.points l.loop-i.lengths l.loop-i.invariant.running n.loop-i-test.false s.requires.1.1.1.1.0 s.requires.1.1.1.1.1 (numbers_of s.args.state)
 
 pub score_words_spec : {M : Type 1} → statement M
 score_words_spec =

@@ -17,11 +17,11 @@ is-array-requires c κs = search rules
 returns : tie.Need-returns-then-not-is_array
 returns c =
     let s = c.before.before in
-    rw (opened-none s.args.base.now s.args.check.now (sym c.before.is_array.ensures ∙ not-true c.before.is_array.result c.if-not-is_array.true))
+    rw (opened-none s.args.base.now s.args.check.now (sym c.is_array.ensures ∙ c.if-not-is_array.true))
 
 -- an array
-array : (c : tie.Else-not-is_array) → is_array c.before.before.args.base.now c.before.before.args.check.now ≡ true
-array c = sym c.before.is_array.ensures ∙ not-false c.before.is_array.result c.if-not-is_array.false
+array : (c : tie.Else-not-is_array) → is_array c.args.base.now c.args.check.now ≡ true
+array c = sym c.is_array.ensures ∙ c.if-not-is_array.false
 
 order-of-requires : tie.Need-order_of-order-requires
 order-of-requires c κs = let s = c.before.before in (opened-head s.args.base.now s.args.check.now (array c)).order
@@ -32,20 +32,20 @@ state-ok-requires c κs =
     rw c.order_of-order.ensures (opened-order s.args.base.now s.args.check.now (array c.before)).0
 
 -- check 16 of the state
-state-is : (c : tie.After-state_ok) (t : Bool) → c.state_ok_lem.result ≡ t → state_ok (order_in c.before.before.before.before.args.check.now) (numbers_of c.before.before.before.before.args.state) ≡ t
+state-is : (c : tie.After-state_ok) (t : Bool) → c.state_ok.result ≡ t → state_ok (order_in c.args.check.now) (numbers_of c.args.state) ≡ t
 state-is c t e =
     let s = c.before.before.before.before in
-    ap (λ (n : ℕ). state_ok n (numbers_of s.args.state)) (sym c.before.order_of-order.ensures) ∙ sym c.state_ok_lem.ensures ∙ e
+    ap (λ (n : ℕ). state_ok n (numbers_of s.args.state)) (sym c.order_of-order.ensures) ∙ sym c.state_ok.ensures ∙ e
 
 returns_2 : tie.Need-returns-then-not-state_ok
 unfolding store_in
 returns_2 c =
     let k = c.before in
     let s = k.before.before.before.before in
-    rw (opened_some s.args.base.now s.args.check.now (array k.before.before), state-is k false (not-true k.state_ok_lem.result c.if-not-state_ok.true))
+    rw (opened_some s.args.base.now s.args.check.now (array k.before.before), state-is k false c.if-not-state_ok.true)
 
-state_passes : (c : tie.Else-not-state_ok) → state_ok (order_in c.before.before.before.before.before.args.check.now) (numbers_of c.before.before.before.before.before.args.state) ≡ true
-state_passes c = state-is c.before true (not-false c.before.state_ok_lem.result c.if-not-state_ok.false)
+state_passes : (c : tie.Else-not-state_ok) → state_ok (order_in c.args.check.now) (numbers_of c.args.state) ≡ true
+state_passes c = state-is c.before true c.if-not-state_ok.false
 
 run-fault-requires : tie.Need-run_fault-requires
 run-fault-requires c κs = search rules

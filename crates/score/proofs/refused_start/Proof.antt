@@ -10,7 +10,7 @@ empty-requires : tie.Need-empty-state-requires
 empty-requires c κs = search rules
 
 returns : tie.Need-returns
-returns c = ap (λ (l : List ℤ). record { number = c.before.args.number; place = 0; state = l }) c.empty-state.ensures
+returns c = ap (λ (l : List ℤ). record { number = c.args.number; place = 0; state = l }) c.empty-state.ensures
 
 pub refused_start_spec : {M : Type 1} → statement M
 refused_start_spec = tie.close (tie.spec empty-requires returns)

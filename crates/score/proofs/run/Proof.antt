@@ -35,10 +35,10 @@ returns c =
     answers s _ (sym (refused_early (numbers_of s.args.state) (length-numbers s.args.state (arrays s)) (asked s) (opened s.args.base.now s.args.check.now) k.early_refusal-number.result k.early_refusal-number.ensures c.if-number-ne0.true))
 
 -- nothing refuses the run before its words
-passed : (c : tie.Else-number-ne0) → Passed c.before.before.before.before.args.base.now c.before.before.before.before.args.check.now (numbers_of c.before.before.before.before.args.state) (asked c.before.before.before.before)
+passed : (c : tie.Else-number-ne0) → Passed c.args.base.now c.args.check.now (numbers_of c.args.state) (asked c.before.before.before.before)
 passed c =
     let s = c.before.before.before.before in
-    passed-all s.args.base.now s.args.check.now (numbers_of s.args.state) (asked s) (sym c.before.early_refusal-number.ensures ∙ c.if-number-ne0.false)
+    passed-all s.args.base.now s.args.check.now (numbers_of s.args.state) (asked s) (sym c.early_refusal-number.ensures ∙ c.if-number-ne0.false)
 
 run-passed-requires : tie.Need-run_passed-requires
 run-passed-requires c κs = let p = passed c.before.before in (p.array, (p.state, (p.sizes.few, (p.sizes.points-1, p.sizes.lengths-1))))

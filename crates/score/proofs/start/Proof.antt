@@ -27,10 +27,10 @@ returns : tie.Need-returns-then-not-is_array
 returns c =
     let b = c.before in
     let s = b.before.before in
-    answers s.args.base.now s.args.check.now _ (c.refused_start.ensures ∙ sym (start-refused s.args.base.now s.args.check.now (sym b.before.is_array.ensures ∙ not-true b.before.is_array.result b.if-not-is_array.true)))
+    answers s.args.base.now s.args.check.now _ (c.refused_start.ensures ∙ sym (start-refused s.args.base.now s.args.check.now (sym b.is_array.ensures ∙ b.if-not-is_array.true)))
 
-array : (c : tie.Else-not-is_array) → is_array c.before.before.args.base.now c.before.before.args.check.now ≡ true
-array c = sym c.before.is_array.ensures ∙ not-false c.before.is_array.result c.if-not-is_array.false
+array : (c : tie.Else-not-is_array) → is_array c.args.base.now c.args.check.now ≡ true
+array c = sym c.is_array.ensures ∙ c.if-not-is_array.false
 
 start-in-requires : tie.Need-start_in-requires
 start-in-requires c κs = array c

@@ -29,18 +29,18 @@ refused-start-requires c κs = search rules
 returns : tie.Need-returns-in_default
 returns c =
     let t = c.before in
-    c.refused_start.ensures ∙ ap start_step (sym (step_told t.before.before.begin-begun.ensures Refused t.enum_told-1.given.1))
+    c.refused_start.ensures ∙ ap start_step (sym (step_told t.begin-begun.ensures Refused t.in_default.is))
 
 unpack-requires : tie.Need-unpack-state-requires
 unpack-requires c κs =
-    let b = c.before.before.before in
+    let b = c.before in
     let s = b.before.before.before in
-    omega (arith, (b.begin-begun.ensures.carries _ _ c.before.begun-1.given.1).few, b.before.before.order_of-order.ensures, opened-order s.args.base.now s.args.check.now s.requires)
+    omega (arith, (b.begin-begun.ensures.carries _ _ c.in-Scored.is).few, b.order_of-order.ensures, opened-order s.args.base.now s.args.check.now s.requires)
 
 returns_2 : tie.Need-returns
 returns_2 c =
-    let t = c.before.before in
-    ap (λ (l : List ℤ). record { number = 0; place = 0; state = l }) c.unpack-state.ensures ∙ ap start_step (sym (step_told t.before.before.begin-begun.ensures _ t.begun-1.given.1))
+    let t = c.before in
+    ap (λ (l : List ℤ). record { number = 0; place = 0; state = l }) c.unpack-state.ensures ∙ ap start_step (sym (step_told t.begin-begun.ensures _ t.in-Scored.is))
 
 pub start_in_spec : {M : Type 1} → statement M
 start_in_spec =

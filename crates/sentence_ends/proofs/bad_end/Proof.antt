@@ -31,7 +31,7 @@ words-before-requires : tie.Need-words_before-end-requires invariant-loop decrea
 words-before-requires c κs = search rules
 
 -- the search from the i-th end on, by what that end is
-next : (w : tie.After-words_before-end invariant-loop decreases-loop) → bad_end w.before.before.before.before.before.args.words 1 0 w.before.before.before.before.before.args.ends.now ≡ cond (ltb w.words_before-end.result w.before.before.before.loop-i.before || ltb w.before.before.before.before.before.args.words w.words_before-end.result) (w.before.before.before.loop-i.i + 1) (bad_end w.before.before.before.before.before.args.words (w.before.before.before.loop-i.i + 1 + 1) w.words_before-end.result (drop (w.before.before.before.loop-i.i + 1) w.before.before.before.before.before.args.ends.now))
+next : (w : tie.After-words_before-end invariant-loop decreases-loop) → bad_end w.args.words 1 0 w.args.ends.now ≡ cond (ltb w.words_before-end.result w.loop-i.before || ltb w.args.words w.words_before-end.result) (w.loop-i.i + 1) (bad_end w.args.words (w.loop-i.i + 1 + 1) w.words_before-end.result (drop (w.loop-i.i + 1) w.args.ends.now))
 next w =
     let l = w.before.before.before in
     let s = l.before.before in
@@ -47,7 +47,7 @@ add-result-2 : tie.Need-overflow_add-result-then-words-end invariant-loop decrea
 add-result-2 c = search rules
 
 returns_2 : tie.Need-returns-then-words-end invariant-loop decreases-loop
-returns_2 c = sym (next c.before.before ∙ rw (le-ltb _ _ c.before.if-end-before.false, lt-ltb _ _ c.if-words-end.true))
+returns_2 c = sym (next c.before.before ∙ rw (le-ltb _ _ c.if-end-before.false, lt-ltb _ _ c.if-words-end.true))
 
 add-i : tie.Need-overflow_add-i invariant-loop decreases-loop
 add-i c = search rules
@@ -56,7 +56,7 @@ loop-less : tie.Need-loop-i-smaller invariant-loop decreases-loop
 loop-less c = search rules
 
 loop-again : tie.Need-loop-i-preserved invariant-loop decreases-loop
-loop-again c = (search rules, next c.before.before ∙ rw (le-ltb _ _ c.before.if-end-before.false, le-ltb _ _ c.if-words-end.false))
+loop-again c = (search rules, next c.before.before ∙ rw (le-ltb _ _ c.if-end-before.false, le-ltb _ _ c.if-words-end.false))
 
 returns_3 : tie.Need-returns invariant-loop decreases-loop
 returns_3 c =

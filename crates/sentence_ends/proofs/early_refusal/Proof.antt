@@ -16,7 +16,7 @@ returns : tie.Need-returns-then-not-is_array
 returns c =
     let k = c.before in
     let s = k.before.before in
-    array-refused s.args.base.now s.args.check.now s.args.words s.args.ends.now s.args.points s.args.lengths (sym k.is_array.ensures ∙ not-true k.is_array.result c.if-not-is_array.true)
+    array-refused s.args.base.now s.args.check.now s.args.words s.args.ends.now s.args.points s.args.lengths (sym k.is_array.ensures ∙ c.if-not-is_array.true)
 
 bad-end-requires : tie.Need-bad_end-sentence-requires
 bad-end-requires c κs = search rules
@@ -26,7 +26,7 @@ returns_2 c =
     let b = c.before in
     let k = b.before.before in
     let s = k.before.before in
-    end_refused s.args.base.now s.args.check.now s.args.words s.args.ends.now s.args.points s.args.lengths (sym k.is_array.ensures ∙ not-false k.is_array.result b.before.if-not-is_array.false) b.bad_end-sentence.result b.bad_end-sentence.ensures c.if-sentence-ne0.true
+    end_refused s.args.base.now s.args.check.now s.args.words s.args.ends.now s.args.points s.args.lengths (sym k.is_array.ensures ∙ b.if-not-is_array.false) b.bad_end-sentence.result b.bad_end-sentence.ensures c.if-sentence-ne0.true
 
 last-end-requires : tie.Need-last_end-last-requires
 last-end-requires c κs = search rules
@@ -40,7 +40,7 @@ returns_3 c =
     let b = l.before.before in
     let k = b.before.before in
     let s = k.before.before in
-    sizes-refused s.args.base.now s.args.check.now s.args.words s.args.ends.now s.args.points s.args.lengths (sym k.is_array.ensures ∙ not-false k.is_array.result b.before.if-not-is_array.false) b.bad_end-sentence.result b.bad_end-sentence.ensures l.before.if-sentence-ne0.false c.size_fault-number.result
+    sizes-refused s.args.base.now s.args.check.now s.args.words s.args.ends.now s.args.points s.args.lengths (sym k.is_array.ensures ∙ b.if-not-is_array.false) b.bad_end-sentence.result b.bad_end-sentence.ensures l.if-sentence-ne0.false c.size_fault-number.result
     (c.size_fault-number.ensures ∙ ap (λ (n : ℕ). sheet_size s.args.words (length s.args.ends.now) n s.args.points s.args.lengths) l.last_end-last.ensures)
 
 pub early_refusal_spec : {M : Type 1} → statement M

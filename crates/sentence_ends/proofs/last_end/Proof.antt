@@ -6,7 +6,7 @@ use Rattle.sentence_ends.proofs.last_end.Statement.{statement}
 use Rattle.sentence_ends.proofs.last_end.Tie as tie
 
 returns : tie.Need-returns-then-count-eq0
-returns c = sym (last_end-none c.before.before.args.ends.now c.if-count-eq0.true)
+returns c = sym (last_end-none c.args.ends.now c.if-count-eq0.true)
 
 sub-words-before : tie.Need-overflow_sub-count
 sub-words-before c = search rules
@@ -23,7 +23,7 @@ words-before-requires c κs = search rules
 returns_2 : tie.Need-returns
 returns_2 c =
     let k = c.before.before in
-    c.words_before.ensures ∙ sym (last_end-is k.before.before.args.ends.now k.if-count-eq0.false)
+    c.words_before.ensures ∙ sym (last_end-is k.args.ends.now k.if-count-eq0.false)
 
 pub last_end_spec : {M : Type 1} → statement M
 last_end_spec =

@@ -10,19 +10,19 @@ returns c = rw (lt-ltb _ _ c.if-words-gt-RUN_LIMIT.true)
 
 returns_2 : tie.Need-returns-then-ends-gt-RUN_LIMIT
 unfolding sheet_size
-returns_2 c = rw (le-ltb _ _ c.before.if-words-gt-RUN_LIMIT.false, lt-ltb _ _ c.if-ends-gt-RUN_LIMIT.true)
+returns_2 c = rw (le-ltb _ _ c.if-words-gt-RUN_LIMIT.false, lt-ltb _ _ c.if-ends-gt-RUN_LIMIT.true)
 
 returns_3 : tie.Need-returns-then-points-last
 unfolding sheet_size
-returns_3 c = rw (le-ltb _ _ c.before.before.if-words-gt-RUN_LIMIT.false, le-ltb _ _ c.before.if-ends-gt-RUN_LIMIT.false, lt-ltb _ _ c.if-points-last.true)
+returns_3 c = rw (le-ltb _ _ c.if-words-gt-RUN_LIMIT.false, le-ltb _ _ c.if-ends-gt-RUN_LIMIT.false, lt-ltb _ _ c.if-points-last.true)
 
 returns-4 : tie.Need-returns-then-lengths-last
 unfolding sheet_size
-returns-4 c = rw (le-ltb _ _ c.before.before.before.if-words-gt-RUN_LIMIT.false, le-ltb _ _ c.before.before.if-ends-gt-RUN_LIMIT.false, le-ltb _ _ c.before.if-points-last.false, lt-ltb _ _ c.if-lengths-last.true)
+returns-4 c = rw (le-ltb _ _ c.if-words-gt-RUN_LIMIT.false, le-ltb _ _ c.if-ends-gt-RUN_LIMIT.false, le-ltb _ _ c.if-points-last.false, lt-ltb _ _ c.if-lengths-last.true)
 
 returns-5 : tie.Need-returns
 unfolding sheet_size
-returns-5 c = rw (le-ltb _ _ c.before.before.before.if-words-gt-RUN_LIMIT.false, le-ltb _ _ c.before.before.if-ends-gt-RUN_LIMIT.false, le-ltb _ _ c.before.if-points-last.false, le-ltb _ _ c.if-lengths-last.false)
+returns-5 c = rw (le-ltb _ _ c.if-words-gt-RUN_LIMIT.false, le-ltb _ _ c.if-ends-gt-RUN_LIMIT.false, le-ltb _ _ c.if-points-last.false, le-ltb _ _ c.if-lengths-last.false)
 
 pub size_fault_spec : {M : Type 1} → statement M
 size_fault_spec = tie.close (tie.spec returns returns_2 returns_3 returns-4 returns-5)

@@ -15,13 +15,13 @@ enum_told : tie.Need-enum_told-1
 enum_told c = search rules
 
 returns_2 : tie.Need-returns-in-At
-returns_2 c = let a = c.before.before in sym (other-usable _ _ a.before.if-w.false _ (sym a.root_child.ensures ∙ c.enum_told-1.given.1))
+returns_2 c = let a = c.before in sym (other-usable _ _ a.before.if-w.false _ (sym a.root_child.ensures ∙ c.in-At.is))
 
 enum-told-2 : tie.Need-enum_told-in_default
 enum-told-2 c = search rules
 
 returns_3 : tie.Need-returns
-returns_3 c = let a = c.before.before in sym (other-usable _ _ a.before.if-w.false _ (sym a.root_child.ensures ∙ c.enum_told-in_default-1.given.1))
+returns_3 c = let a = c.before in sym (other-usable _ _ a.before.if-w.false _ (sym a.root_child.ensures ∙ c.in_default.is))
 
 pub is_usable_spec : {M : Type 1} → statement M
 is_usable_spec =

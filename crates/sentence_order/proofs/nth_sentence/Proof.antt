@@ -15,7 +15,7 @@ invariant-loop count k i usable sentence₀ rest₀ j₀ sentence rest j = Filli
 abbrev decreases-loop : tie.decreases-loop-j
 decreases-loop count k i usable sentence₀ rest₀ j₀ sentence rest j = j
 
-sixteen : (c : tie.Start invariant-loop decreases-loop) → length c.args.t1 ≡ 16
+sixteen : (c : tie.Start invariant-loop decreases-loop) → length c.args.usable ≡ 16
 sixteen c = search rules
 
 loop-holds : tie.Need-loop-j-init invariant-loop decreases-loop
@@ -28,10 +28,10 @@ rem-sentence : tie.Need-nonzero_rem-sentence invariant-loop decreases-loop
 rem-sentence c = omega arith
 
 mul-sentence : tie.Need-offset_bounds-usable-rest invariant-loop decreases-loop
-mul-sentence c = omega (arith, mod-lt c.before.loop-j.rest c.before.before.requires.0.0)
+mul-sentence c = omega (arith, mod-lt c.loop-j.rest c.requires.0.0)
 
 array-read-sentence : tie.Need-bounds-usable-rest invariant-loop decreases-loop
-array-read-sentence c = omega (arith, mod-lt c.before.loop-j.rest c.before.before.requires.0.0)
+array-read-sentence c = omega (arith, mod-lt c.loop-j.rest c.requires.0.0)
 
 mul-sentence-2 : tie.Need-offset_bounds-sentence-j invariant-loop decreases-loop
 mul-sentence-2 c = omega arith
@@ -48,10 +48,10 @@ loop-less c = omega arith
 loop-again : tie.Need-loop-j-preserved invariant-loop decreases-loop
 loop-again c =
     let l = c.before in
-    let a = l.before.args in
-    let n = front_long a.t1 (sixteen l.before) a.count (omega arith) in
-    subst (λ m. Filling (take a.count a.t1) a.k a.i (set l.loop-j.sentence (l.loop-j.j - 1) (get_or a.t1 (l.loop-j.rest % a.count) 0)) (l.loop-j.rest / m) (l.loop-j.j - 1)) n
-    (filling-next (take a.count a.t1) a.k a.i (omega arith) l.loop-j.sentence l.loop-j.rest l.loop-j.j _ (omega arith) (front-word a.t1 (sixteen l.before) a.count (omega arith) l.loop-j.rest (omega arith)) l.loop-j.invariant)
+    let a = l.args in
+    let n = front_long a.usable (sixteen l.before) a.count (omega arith) in
+    subst (λ m. Filling (take a.count a.usable) a.k a.i (set l.loop-j.sentence (l.loop-j.j - 1) (get_or a.usable (l.loop-j.rest % a.count) 0)) (l.loop-j.rest / m) (l.loop-j.j - 1)) n
+    (filling-next (take a.count a.usable) a.k a.i (omega arith) l.loop-j.sentence l.loop-j.rest l.loop-j.j _ (omega arith) (front-word a.usable (sixteen l.before) a.count (omega arith) l.loop-j.rest (omega arith)) l.loop-j.invariant)
 
 returns : tie.Need-returns invariant-loop decreases-loop
 returns c = let l = c.before in filling-done _ _ _ (omega arith) _ _ l.loop-j.j (omega arith) l.loop-j.invariant

@@ -20,7 +20,7 @@ loop-holds c = (omega arith, sym (pow-zero _))
 mul-product : tie.Need-overflow_mul-product invariant-loop decreases-loop
 mul-product c =
     let k = c.before in
-    let n = k.before.args.count in
+    let n = k.args.count in
     let e : k.loop-j.product * n ≡ n ^ suc k.loop-j.j = ap (λ p. p * n) k.loop-j.invariant.1 ∙ sym (pow-suc n k.loop-j.j) in
     omega (arith, few-sentences n (suc k.loop-j.j) (omega arith) (omega arith))
 
@@ -33,14 +33,14 @@ loop-less c = omega arith
 loop-again : tie.Need-loop-j-preserved invariant-loop decreases-loop
 loop-again c =
     let k = c.before in
-    (omega arith, rw add-one (ap (λ p. p * k.before.args.count) k.loop-j.invariant.1 ∙ sym (pow-suc k.before.args.count k.loop-j.j)))
+    (omega arith, rw add-one (ap (λ p. p * k.args.count) k.loop-j.invariant.1 ∙ sym (pow-suc k.args.count k.loop-j.j)))
 
 returns : tie.Need-returns invariant-loop decreases-loop
 returns c =
     let k = c.before in
-    let e : k.loop-j.j ≡ k.before.args.k = omega arith in
-    let p = k.loop-j.invariant.1 ∙ ap (λ j. k.before.args.count ^ j) e in
-    (p, omega (arith, p, few-sentences k.before.args.count k.before.args.k (omega arith) (omega arith)))
+    let e : k.loop-j.j ≡ k.args.k = omega arith in
+    let p = k.loop-j.invariant.1 ∙ ap (λ j. k.args.count ^ j) e in
+    (p, omega (arith, p, few-sentences k.args.count k.args.k (omega arith) (omega arith)))
 
 pub power_spec : {M : Type 1} → statement M
 power_spec =

@@ -26,8 +26,8 @@ last-word-requires c κs = search rules
 abbrev entry : tie.At-loop-w invariant-loop decreases-loop → tie.Start invariant-loop decreases-loop
 entry l = l.before.before
 
-more : (i : tie.In-loop-w invariant-loop decreases-loop) → i.before.loop-w.w < word_limit
-more i = omega (arith, i.loop-w-test.true, i.before.before.last_word-last.ensures)
+more : (i : tie.In-loop-w invariant-loop decreases-loop) → i.loop-w.w < word_limit
+more i = omega (arith, i.loop-w-test.true, i.last_word-last.ensures)
 
 add-w : tie.Need-overflow_add-w invariant-loop decreases-loop
 add-w c = omega (arith, more c)
@@ -39,7 +39,7 @@ add-t10 : tie.Need-overflow_add-result invariant-loop decreases-loop
 add-t10 c = search rules
 
 -- the word that is looked at
-seen : (a : tie.After-is_usable invariant-loop decreases-loop) → a.is_usable.result ≡ usable_child (entry a.before.before).args.check.now (a.before.before.loop-w.w + 1)
+seen : (a : tie.After-is_usable invariant-loop decreases-loop) → a.is_usable.result ≡ usable_child (entry a.before.before).args.check.now (a.loop-w.w + 1)
 seen a = a.is_usable.ensures
 
 returns : tie.Need-returns-then-count-eq-USABLE_LIMIT invariant-loop decreases-loop
@@ -48,7 +48,7 @@ returns c =
     let l = a.before.before in
     record {
       few = λ h. absurd (omega arith);
-      many = λ h. holding_full (usable_child (entry l).args.check.now) l.loop-w.words l.loop-w.count l.loop-w.w l.loop-w.invariant (more a.before) (sym (seen a) ∙ c.before.if-is_usable.true) c.if-count-eq-USABLE_LIMIT.true;
+      many = λ h. holding_full (usable_child (entry l).args.check.now) l.loop-w.words l.loop-w.count l.loop-w.w l.loop-w.invariant (more a.before) (sym (seen a) ∙ c.if-is_usable.true) c.if-count-eq-USABLE_LIMIT.true;
     }
 
 mul_words : tie.Need-offset_bounds-words-count invariant-loop decreases-loop
@@ -67,7 +67,7 @@ loop-again : tie.Need-loop-w-preserved-then-is_usable invariant-loop decreases-l
 loop-again c =
     let a = c.before.before in
     let l = a.before.before in
-    holding_more (usable_child (entry l).args.check.now) l.loop-w.words l.loop-w.count l.loop-w.w l.loop-w.invariant (more a.before) (sym (seen a) ∙ c.before.if-is_usable.true) c.if-count-eq-USABLE_LIMIT.false
+    holding_more (usable_child (entry l).args.check.now) l.loop-w.words l.loop-w.count l.loop-w.w l.loop-w.invariant (more a.before) (sym (seen a) ∙ c.if-is_usable.true) c.if-count-eq-USABLE_LIMIT.false
 
 loop-less-2 : tie.Need-loop-w-smaller invariant-loop decreases-loop
 loop-less-2 c = omega arith
@@ -82,7 +82,7 @@ returns_2 : tie.Need-returns invariant-loop decreases-loop
 returns_2 c =
     let l = c.before in
     record {
-      few = λ h. all-looked_for (entry l).args.check.now l.loop-w.w l.loop-w.invariant.within (omega (arith, c.loop-w-test.false, l.before.last_word-last.ensures)) ∙ l.loop-w.invariant.are;
+      few = λ h. all-looked_for (entry l).args.check.now l.loop-w.w l.loop-w.invariant.within (omega (arith, c.loop-w-test.false, l.last_word-last.ensures)) ∙ l.loop-w.invariant.are;
       many = λ h. absurd (omega arith);
     }
 

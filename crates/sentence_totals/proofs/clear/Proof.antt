@@ -37,8 +37,8 @@ same-length_2 c = search rules
 returns : tie.Need-returns
 returns c =
     let s = c.before.before.before.before.before.before.before.before in (
-      ap (λ l. l ++ drop s.args.items s.args.words.now) (c.before.before.before.before.before.zero.ensures ∙ ap (λ n. replicate n 0) (length-take-le s.args.items s.args.words.now s.requires.0)),
-      ap (λ l. l ++ drop s.args.sentences s.args.totals.now) (c.before.zero_totals.ensures ∙ ap (λ n. replicate n (pos 0)) (length-take-le s.args.sentences s.args.totals.now s.requires.1)),
+      ap (λ l. l ++ drop s.args.items s.args.words.now) (c.zero.ensures ∙ ap (λ n. replicate n 0) (length-take-le s.args.items s.args.words.now s.requires.0)),
+      ap (λ l. l ++ drop s.args.sentences s.args.totals.now) (c.zero_totals.ensures ∙ ap (λ n. replicate n (pos 0)) (length-take-le s.args.sentences s.args.totals.now s.requires.1)),
     )
 
 pub clear_spec : {M : Type 1} → statement M

@@ -61,11 +61,11 @@ returns_2 : tie.Need-returns-then-started-ne0 invariant-loop decreases-loop
 returns_2 c =
     let a = c.before.before in
     let s = a.before.before.before in
-    none-scored (array s) (us s) s.args.k s.requires.1.1.0.0 s.args.words.now s.args.totals.now (words_fit s) (totals_fit s) (omega (arith, counted s, a.before.if-count-eq0.false))
+    none-scored (array s) (us s) s.args.k s.requires.1.1.0.0 s.args.words.now s.args.totals.now (words_fit s) (totals_fit s) (omega (arith, counted s, a.if-count-eq0.false))
     (start_unscored (array s) _ a.start-started.ensures.0 c.if-started-ne0.true)
 
 sub-power : tie.Need-overflow_sub-k invariant-loop decreases-loop
-sub-power c = c.before.before.before.before.before.before.requires.1.1.0.0
+sub-power c = c.requires.1.1.0.0
 
 power-requires : tie.Need-power-groups-requires invariant-loop decreases-loop
 power-requires c κs = let s = c.before.before.before.before.before.before in (s.requires.1.0.0, omega (arith, s.requires.1.1.0.1))
@@ -89,17 +89,17 @@ groups s = ap (λ (v : ℕ). v ^ (s.args.k - 1)) (counted s)
 within : (l : tie.At-loop-g invariant-loop decreases-loop) → l.loop-g.g ≤ length (us (entry l)) ^ ((entry l).args.k - 1)
 within l = omega (arith, groups (entry l), l.loop-g.invariant.0)
 
-more : (i : tie.In-loop-g invariant-loop decreases-loop) → i.before.loop-g.g < length (us (entry i.before)) ^ ((entry i.before).args.k - 1)
-more i = omega (arith, groups (entry i.before), i.loop-g-test.true, i.before.before.power-groups.ensures.0)
+more : (i : tie.In-loop-g invariant-loop decreases-loop) → i.loop-g.g < length (us (entry i.before)) ^ ((entry i.before).args.k - 1)
+more i = omega (arith, groups (entry i.before), i.loop-g-test.true, i.power-groups.ensures.0)
 
 words_long : (l : tie.At-loop-g invariant-loop decreases-loop) → length l.loop-g.words ≡ length (entry l).args.words.now
-words_long l = let s = entry l in all-words-long (array s) (us s) s.args.k s.requires.1.1.0.0 s.args.words.now s.args.totals.now (words_fit s) (totals_fit s) l.loop-g.g (within l) l.loop-g.words l.loop-g.totals l.loop-g.invariant.1
+words_long l = let s = entry l in all-words-long (array s) (us s) s.args.k s.pre.1.1.0.0 s.args.words.now s.args.totals.now (words_fit s) (totals_fit s) l.loop-g.g (within l) l.loop-g.words l.loop-g.totals l.loop-g.invariant.1
 
 totals-long : (l : tie.At-loop-g invariant-loop decreases-loop) → length l.loop-g.totals ≡ length (entry l).args.totals.now
-totals-long l = let s = entry l in all-totals-long (array s) (us s) s.args.k s.requires.1.1.0.0 s.args.words.now s.args.totals.now (words_fit s) (totals_fit s) l.loop-g.g (within l) l.loop-g.words l.loop-g.totals l.loop-g.invariant.1
+totals-long l = let s = entry l in all-totals-long (array s) (us s) s.args.k s.pre.1.1.0.0 s.args.words.now s.args.totals.now (words_fit s) (totals_fit s) l.loop-g.g (within l) l.loop-g.words l.loop-g.totals l.loop-g.invariant.1
 
 -- the slices have room for the next group
-room : (i : tie.In-loop-g invariant-loop decreases-loop) → ((entry i.before).args.k * (i.before.loop-g.g * (entry i.before).args.count) + (entry i.before).args.k * (entry i.before).args.count ≤ length i.before.loop-g.words) × (i.before.loop-g.g * (entry i.before).args.count + (entry i.before).args.count ≤ length i.before.loop-g.totals)
+room : (i : tie.In-loop-g invariant-loop decreases-loop) → ((entry i.before).args.k * (i.loop-g.g * (entry i.before).args.count) + (entry i.before).args.k * (entry i.before).args.count ≤ length i.loop-g.words) × (i.loop-g.g * (entry i.before).args.count + (entry i.before).args.count ≤ length i.loop-g.totals)
 room i =
     let l = i.before in
     let s = entry l in
@@ -107,11 +107,11 @@ room i =
     (all_room (array s) (us s) s.args.k s.requires.1.1.0.0 s.args.words.now s.args.totals.now (words_fit s) (totals_fit s) l.loop-g.g (within l) l.loop-g.words l.loop-g.totals l.loop-g.invariant.1 (more i))
 
 -- how far the group begins
-near : (i : tie.In-loop-g invariant-loop decreases-loop) → (i.before.loop-g.g * (entry i.before).args.count ≤ 65536 * 16) × ((entry i.before).args.k * (i.before.loop-g.g * (entry i.before).args.count) ≤ 4 * (65536 * 16))
+near : (i : tie.In-loop-g invariant-loop decreases-loop) → (i.loop-g.g * (entry i.before).args.count ≤ 65536 * 16) × ((entry i.before).args.k * (i.loop-g.g * (entry i.before).args.count) ≤ 4 * (65536 * 16))
 near i =
     let s = entry i.before in
-    let few : i.before.loop-g.g ≤ 65536 = omega (arith, i.loop-g-test.true, i.before.before.power-groups.ensures.1) in
-    let from : i.before.loop-g.g * s.args.count ≤ 65536 * 16 = mul-le-mul few s.requires.1.0.0 in
+    let few : i.loop-g.g ≤ 65536 = omega (arith, i.loop-g-test.true, i.power-groups.ensures.1) in
+    let from : i.loop-g.g * s.args.count ≤ 65536 * 16 = mul-le-mul few s.requires.1.0.0 in
     (from, mul-le-mul s.requires.1.1.0.1 from)
 
 mul-from : tie.Need-overflow_mul-from invariant-loop decreases-loop
@@ -153,10 +153,10 @@ write-group-requires c κs =
     let begins = a.start-started.ensures.0 in (
       record {
         array = s.requires.0;
-        started = sym (ap (λ (x : Started). x.number) begins) ∙ l.before.before.before.if-started-ne0.false;
+        started = sym (ap (λ (x : Started). x.number) begins) ∙ l.if-started-ne0.false;
         numbers = ap (λ (x : Started). x.state-1) begins;
       },
-      (((omega (arith, a.before.if-count-eq0.false), s.requires.1.0.0), s.requires.1.0.1), (s.requires.1.1.0, (rw rest-lent (omega (arith, room i, length-drop (s.args.k * (l.loop-g.g * s.args.count)) l.loop-g.words)), rw rest-lent (omega (arith, room i, length-drop (l.loop-g.g * s.args.count) l.loop-g.totals))))),
+      (((omega (arith, a.if-count-eq0.false), s.requires.1.0.0), s.requires.1.0.1), (s.requires.1.1.0, (rw rest-lent (omega (arith, room i, length-drop (s.args.k * (l.loop-g.g * s.args.count)) l.loop-g.words)), rw rest-lent (omega (arith, room i, length-drop (l.loop-g.g * s.args.count) l.loop-g.totals))))),
     )
 
 -- the loop's turn, and what the group's call left
@@ -164,24 +164,24 @@ abbrev turn : tie.After-write_group invariant-loop decreases-loop → tie.In-loo
 turn d = d.before.before.before
 
 abbrev words_left : tie.After-write_group invariant-loop decreases-loop → List ℕ
-words_left d = d.write_group.new.1.1.1.1.1.1.1.0
+words_left d = d.write_group.new.words
 
 abbrev totals-left : tie.After-write_group invariant-loop decreases-loop → List ℤ
-totals-left d = d.write_group.new.1.1.1.1.1.1.1.1.0
+totals-left d = d.write_group.new.totals
 
 same_length : tie.Need-shape_of-words-then-not-write_group invariant-loop decreases-loop
 same_length c =
     let d = c.before.before.before.before in
     let l = (turn d).before in
     let at = (entry l).args.k * (l.loop-g.g * (entry l).args.count) in
-    same_len_mid at (length l.loop-g.words - at) l.loop-g.words (words_left d) d.write_group.auto.1.1.1.1.1.1.1.0 ∙ words_long l
+    same_len_mid at (length l.loop-g.words - at) l.loop-g.words (words_left d) d.write_group.auto.words ∙ words_long l
 
 same-length_2 : tie.Need-shape_of-totals-then-not-write_group invariant-loop decreases-loop
 same-length_2 c =
     let d = c.before.before.before.before in
     let l = (turn d).before in
     let from = l.loop-g.g * (entry l).args.count in
-    same_len_mid from (length l.loop-g.totals - from) l.loop-g.totals (totals-left d) d.write_group.auto.1.1.1.1.1.1.1.1.0 ∙ totals-long l
+    same_len_mid from (length l.loop-g.totals - from) l.loop-g.totals (totals-left d) d.write_group.auto.totals ∙ totals-long l
 
 returns_3 : tie.Need-returns-then-not-write_group invariant-loop decreases-loop
 returns_3 c =
@@ -191,8 +191,8 @@ returns_3 c =
     let s = entry l in
     let a = s.args in
     let g = l.loop-g.g in
-    subst (λ (v : ℕ). WrittenOver (array s) (ended_by (us s) (sentence_at (us s) (a.k - 1) g)) (mid_of (a.k * (g * v)) (length l.loop-g.words - a.k * (g * v)) l.loop-g.words) (mid_of (g * v) (length l.loop-g.totals - g * v) l.loop-g.totals) d.write_group.result (words_left d) (totals-left d) → OneRefused (array s) (sentences_of a.k (us s)) a.words-1.now a.totals-1.now (put_mid (a.k * (g * v)) (length l.loop-g.words - a.k * (g * v)) l.loop-g.words (words_left d)) (put_mid (g * v) (length l.loop-g.totals - g * v) l.loop-g.totals (totals-left d))) (counted s)
-    (all-refused (array s) (us s) a.k s.requires.1.1.0.0 a.words-1.now a.totals-1.now (words_fit s) (totals_fit s) g (within l) l.loop-g.words l.loop-g.totals l.loop-g.inv.1 (more i) (words_left d) (totals-left d) d.write_group.result (not-true d.write_group.result c.if-not-write_group.true))
+    subst (λ (v : ℕ). WrittenOver (array s) (ended_by (us s) (sentence_at (us s) (a.k - 1) g)) (mid_of (a.k * (g * v)) (length l.loop-g.words - a.k * (g * v)) l.loop-g.words) (mid_of (g * v) (length l.loop-g.totals - g * v) l.loop-g.totals) d.write_group.result (words_left d) (totals-left d) → OneRefused (array s) (sentences_of a.k (us s)) a.words.now a.totals.now (put_mid (a.k * (g * v)) (length l.loop-g.words - a.k * (g * v)) l.loop-g.words (words_left d)) (put_mid (g * v) (length l.loop-g.totals - g * v) l.loop-g.totals (totals-left d))) (counted s)
+    (all-refused (array s) (us s) a.k s.requires.1.1.0.0 a.words.now a.totals.now (words_fit s) (totals_fit s) g (within l) l.loop-g.words l.loop-g.totals l.loop-g.invariant.1 (more i) (words_left d) (totals-left d) d.write_group.result c.if-not-write_group.true)
     d.write_group.ensures
 
 add-g : tie.Need-overflow_add-g invariant-loop decreases-loop
@@ -209,9 +209,9 @@ loop-again c =
     let s = entry l in
     let a = s.args in
     let g = l.loop-g.g in (
-      omega (arith, i.loop-g-test.true, l.before.power-groups.ensures.0),
-      subst (λ (v : ℕ). WrittenOver (array s) (ended_by (us s) (sentence_at (us s) (a.k - 1) g)) (mid_of (a.k * (g * v)) (length l.loop-g.words - a.k * (g * v)) l.loop-g.words) (mid_of (g * v) (length l.loop-g.totals - g * v) l.loop-g.totals) d.write_group.result (words_left d) (totals-left d) → AllWritten (array s) (in_groups (us s) a.k (g + 1)) a.words-1.now a.totals-1.now (put_mid (a.k * (g * v)) (length l.loop-g.words - a.k * (g * v)) l.loop-g.words (words_left d)) (put_mid (g * v) (length l.loop-g.totals - g * v) l.loop-g.totals (totals-left d))) (counted s)
-          (all-next (array s) (us s) a.k s.requires.1.1.0.0 a.words-1.now a.totals-1.now (words_fit s) (totals_fit s) g (within l) l.loop-g.words l.loop-g.totals l.loop-g.inv.1 (more i) (words_left d) (totals-left d) d.write_group.result (not-false d.write_group.result c.if-not-write_group.false))
+      omega (arith, i.loop-g-test.true, l.power-groups.ensures.0),
+      subst (λ (v : ℕ). WrittenOver (array s) (ended_by (us s) (sentence_at (us s) (a.k - 1) g)) (mid_of (a.k * (g * v)) (length l.loop-g.words - a.k * (g * v)) l.loop-g.words) (mid_of (g * v) (length l.loop-g.totals - g * v) l.loop-g.totals) d.write_group.result (words_left d) (totals-left d) → AllWritten (array s) (in_groups (us s) a.k (g + 1)) a.words.now a.totals.now (put_mid (a.k * (g * v)) (length l.loop-g.words - a.k * (g * v)) l.loop-g.words (words_left d)) (put_mid (g * v) (length l.loop-g.totals - g * v) l.loop-g.totals (totals-left d))) (counted s)
+          (all-next (array s) (us s) a.k s.requires.1.1.0.0 a.words.now a.totals.now (words_fit s) (totals_fit s) g (within l) l.loop-g.words l.loop-g.totals l.loop-g.invariant.1 (more i) (words_left d) (totals-left d) d.write_group.result c.if-not-write_group.false)
           d.write_group.ensures,
     )
 
@@ -225,7 +225,7 @@ returns-4 : tie.Need-returns invariant-loop decreases-loop
 returns-4 c =
     let l = c.before in
     let s = entry l in
-    all_done (array s) (us s) s.args.k s.requires.1.1.0.0 s.args.words.now s.args.totals.now (words_fit s) (totals_fit s) l.loop-g.g (within l) l.loop-g.words l.loop-g.totals l.loop-g.invariant.1 (omega (arith, groups s, c.loop-g-test.false, l.before.power-groups.ensures.0))
+    all_done (array s) (us s) s.args.k s.requires.1.1.0.0 s.args.words.now s.args.totals.now (words_fit s) (totals_fit s) l.loop-g.g (within l) l.loop-g.words l.loop-g.totals l.loop-g.invariant.1 (omega (arith, groups s, c.loop-g-test.false, l.power-groups.ensures.0))
 
 pub write_all_spec : {M : Type 1} → statement M
 write_all_spec =

@@ -16,17 +16,17 @@ invariant-loop words₀ at count last first j₀ words j = (j ≤ count) × (wor
 abbrev decreases-loop : tie.decreases-loop-j
 decreases-loop words₀ at count last first j₀ words j = count - j
 
-four : (s : tie.Start invariant-loop decreases-loop) → length s.args.t3 ≡ 4
+four : (s : tie.Start invariant-loop decreases-loop) → length s.args.first ≡ 4
 four s = search rules
 
 -- the slice is as long as it was
-long : (l : tie.At-loop-j invariant-loop decreases-loop) → length l.loop-j.words ≡ length l.before.args.words.now
+long : (l : tie.At-loop-j invariant-loop decreases-loop) → length l.loop-j.words ≡ length l.args.words.now
 long l =
-    let a = l.before.args in
-    ap length l.loop-j.invariant.1 ∙ length-paste a.words.now a.at a.t3 l.loop-j.j (omega arith) (omega (arith, four l.before))
+    let a = l.args in
+    ap length l.loop-j.invariant.1 ∙ length-paste a.words.now a.at a.first l.loop-j.j (omega arith) (omega (arith, four l.before))
 
 loop-holds : tie.Need-loop-j-init invariant-loop decreases-loop
-loop-holds c = (omega arith, paste-zero c.args.words.now c.args.at c.args.t3)
+loop-holds c = (omega arith, paste-zero c.args.words.now c.args.at c.args.first)
 
 mul_words : tie.Need-offset_bounds-first-j invariant-loop decreases-loop
 mul_words c = omega arith
@@ -52,8 +52,8 @@ loop-less c = omega arith
 loop-again : tie.Need-loop-j-preserved invariant-loop decreases-loop
 loop-again c =
     let l = c.before in
-    let a = l.before.args in
-    (omega arith, rw (add-one, l.loop-j.invariant.1) (paste-suc a.words.now a.at a.t3 l.loop-j.j 0 (omega (arith, long l)) (omega (arith, four l.before))))
+    let a = l.args in
+    (omega arith, rw (add-one, l.loop-j.invariant.1) (paste-suc a.words.now a.at a.first l.loop-j.j 0 (omega (arith, long l)) (omega (arith, four l.before))))
 
 add-words-2 : tie.Need-overflow_add-words-2 invariant-loop decreases-loop
 add-words-2 c = omega (arith, long c.before)
@@ -65,7 +65,7 @@ slice-write-words-2 : tie.Need-bounds-words-at-2 invariant-loop decreases-loop
 slice-write-words-2 c = omega (arith, long c.before)
 
 same_length : tie.Need-shape_of-words invariant-loop decreases-loop
-same_length c = let a = c.before.before.args in length-set c.before.loop-j.words (a.at + a.count) a.last ∙ long c.before
+same_length c = let a = c.args in length-set c.loop-j.words (a.at + a.count) a.last ∙ long c.before
 
 -- the last word behind the others
 last-behind : (d : List ℕ) (at : ℕ) (s : List ℕ) (n x : ℕ) → at + n < length d → n ≤ length s → set (paste d at s n) (at + n) x ≡ (take at d ++ (take n s ++ (x ∷ []))) ++ drop (at + n + 1) d
@@ -78,10 +78,10 @@ last-behind d at s n x h l =
 returns : tie.Need-returns invariant-loop decreases-loop
 returns c =
     let l = c.before in
-    let a = l.before.args in
+    let a = l.args in
     let e : l.loop-j.j ≡ a.count = omega arith in
-    ap (λ (w : List ℕ). set w (a.at + a.count) a.last) (l.loop-j.invariant.1 ∙ ap (paste a.words.now a.at a.t3) e)
-    ∙ last-behind a.words.now a.at a.t3 a.count a.last l.before.requires.0 (omega (arith, four l.before))
+    ap (λ (w : List ℕ). set w (a.at + a.count) a.last) (l.loop-j.invariant.1 ∙ ap (paste a.words.now a.at a.first) e)
+    ∙ last-behind a.words.now a.at a.first a.count a.last l.requires.0 (omega (arith, four l.before))
 
 pub write_sentence_spec : {M : Type 1} → statement M
 write_sentence_spec =

@@ -28,16 +28,16 @@ add-i : tie.Need-overflow_add-i invariant-loop decreases-loop
 add-i c = search rules
 
 loop-less : tie.Need-loop-i-smaller invariant-loop decreases-loop
-loop-less c = omega (arith, c.loop-i-test.true, c.before.loop-i.invariant.same_length)
+loop-less c = omega (arith, c.loop-i-test.true, c.loop-i.invariant.same_length)
 
 loop-again : tie.Need-loop-i-preserved invariant-loop decreases-loop
-loop-again c = written_next _ _ _ _ _ (pos 0) c.before.loop-i.invariant c.loop-i-test.true refl
+loop-again c = written_next _ _ _ _ _ (pos 0) c.loop-i.invariant c.loop-i-test.true refl
 
 same_length : tie.Need-shape_of-totals invariant-loop decreases-loop
-same_length c = c.before.loop-i.invariant.same_length
+same_length c = c.loop-i.invariant.same_length
 
 returns : tie.Need-returns invariant-loop decreases-loop
-returns c = written_all _ _ _ _ c.before.loop-i.invariant c.loop-i-test.false ∙ map_same (pos 0) c.before.before.args.totals.now
+returns c = written_all _ _ _ _ c.loop-i.invariant c.loop-i-test.false ∙ map_same (pos 0) c.args.totals.now
 
 pub zero_totals_spec : {M : Type 1} → statement M
 zero_totals_spec =

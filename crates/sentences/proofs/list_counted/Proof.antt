@@ -11,10 +11,10 @@ use Rattle.sentences.proofs.Outcome.{no-array, refused_early, sizes, all-usable,
 use Rattle.sentences.proofs.list_counted.Statement.{statement}
 use Rattle.sentences.proofs.list_counted.Tie as tie
 
-array : (c : tie.Else-not-is_array) → is_array c.before.before.before.args.base.now c.before.before.before.args.check.now ≡ true
-array c = sym c.before.is_array.ensures ∙ not-false c.before.is_array.result c.if-not-is_array.false
+array : (c : tie.Else-not-is_array) → is_array c.args.base.now c.args.check.now ≡ true
+array c = sym c.is_array.ensures ∙ c.if-not-is_array.false
 
-sixteen : (u : tie.After-usable_words-usable) → length u.usable_words-usable.result.words-1 ≡ 16
+sixteen : (u : tie.After-usable_words-usable) → length u.usable_words-usable.result.words ≡ 16
 sixteen u = search rules
 
 is-array-requires : tie.Need-is_array-requires
@@ -28,7 +28,7 @@ returns c =
     let a = c.before.before in
     let s = a.before.before in
     rw c.refused.ensures (
-      no-array s.args.base.now s.args.check.now s.args.k s.args.words.now s.args.totals.now (sym a.is_array.ensures ∙ not-true a.is_array.result c.before.if-not-is_array.true),
+      no-array s.args.base.now s.args.check.now s.args.k s.args.words.now s.args.totals.now (sym a.is_array.ensures ∙ c.if-not-is_array.true),
       λ z. absurd (omega arith),
     )
 
@@ -48,8 +48,8 @@ returns_2 c =
     let e = u.before in
     let s = e.before.before.before in
     rw c.refused-then-number-ne0.ensures (
-      refused_early s.args.base.now s.args.check.now s.args.k s.args.words.now s.args.totals.now (array e) u.usable_words-usable.result (sixteen u) u.usable_words-usable.ensures f.size_fault-number.result f.size_fault-number.ensures c.before.if-number-ne0.true,
-      λ z. absurd (c.before.if-number-ne0.true z),
+      refused_early s.args.base.now s.args.check.now s.args.k s.args.words.now s.args.totals.now (array e) u.usable_words-usable.result (sixteen u) u.usable_words-usable.ensures f.size_fault-number.result f.size_fault-number.ensures c.if-number-ne0.true,
+      λ z. absurd (c.if-number-ne0.true z),
     )
 
 list-usable-requires : tie.Need-list_usable-listing-requires

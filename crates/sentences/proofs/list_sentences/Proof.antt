@@ -25,7 +25,7 @@ same-length_2 : tie.Need-shape_of-totals
 same-length_2 c = search rules
 
 returns : tie.Need-returns
-returns c = answers _ _ _ _ _ _ c.before.before.before.before.list_counted-counted.ensures.0
+returns c = answers _ _ _ _ _ _ c.list_counted-counted.ensures.0
 
 pub list_sentences_spec : {M : Type 1} → statement M
 list_sentences_spec = tie.close (tie.spec list-counted-requires same_length same-length_2 returns)

@@ -24,7 +24,7 @@ sixteen : (s : tie.Start) → length s.args.usable ≡ 16
 sixteen s = search rules
 
 -- how many sentences there are
-counted : (p : tie.After-power-sentences) → p.power-sentences.result ≡ length (us p.before.before) ^ p.before.before.args.k
+counted : (p : tie.After-power-sentences) → p.power-sentences.result ≡ length (us p.before.before) ^ p.args.k
 counted p =
     let s = p.before.before in
     p.power-sentences.ensures.0 ∙ ap (λ v. v ^ s.args.k) (sym (front_long s.args.usable (sixteen s) s.args.count s.requires.1.0.0))

@@ -47,12 +47,12 @@ loop w = w.before.before.before
 abbrev start : tie.At-loop-i invariant-loop decreases-loop → tie.Start invariant-loop decreases-loop
 start l = l.before.before.before.before.before
 
-turn : (w : tie.After-words_before-e invariant-loop decreases-loop) → Turn (start (loop w)).args.base.now (start (loop w)).args.check.now (start (loop w)).args.ends.now (asked (start (loop w))) (loop w).loop-i.a (loop w).loop-i.i (to_z w64 (loop w).loop-i.sum) (loop w).loop-i.points (loop w).loop-i.lengths (loop w).loop-i.counts w.words_before-e.result
+turn : (w : tie.After-words_before-e invariant-loop decreases-loop) → Turn (start (loop w)).args.base.now (start (loop w)).args.check.now (start (loop w)).args.ends.now (asked (start (loop w))) (loop w).loop-i.a (loop w).loop-i.i (to_z w64 (loop w).loop-i.sum-bits) (loop w).loop-i.points (loop w).loop-i.lengths (loop w).loop-i.counts w.words_before-e.result
 turn w =
     let p = (start (loop w)).requires in
     record {
       so_far = (loop w).loop-i.invariant;
-      inside = w.before.before.loop-i-test.true;
+      inside = w.loop-i-test.true;
       end_is = w.words_before-e.ensures;
       good = p.1.0;
       few_words = p.1.1.0;
@@ -97,44 +97,44 @@ part-score-sentence-end-3 c = (next-within (turn c.before.before)).in_lengths
 score-sentence-requires : tie.Need-score_sentence-scored-requires invariant-loop decreases-loop
 score-sentence-requires c κs =
     let w = c.before.before.before in
-    ((start (loop w)).requires.0, ((loop w).before.start-started.ensures.0, next-room (turn w)))
+    ((start (loop w)).requires.0, ((loop w).start-started.ensures.0, next-room (turn w)))
 
 -- the turn in which `score_sentence` was called, and what it left
 abbrev ended : tie.After-score_sentence-scored invariant-loop decreases-loop → tie.After-words_before-e invariant-loop decreases-loop
 ended d = d.before.before.before.before
 
-answered : (d : tie.After-score_sentence-scored invariant-loop decreases-loop) → Answered (start (loop (ended d))).args.base.now (start (loop (ended d))).args.check.now (start (loop (ended d))).args.words.now (loop (ended d)).loop-i.points (loop (ended d)).loop-i.lengths (loop (ended d)).loop-i.a (ended d).words_before-e.result d.score_sentence-scored.result d.score_sentence-scored.new.1.1.1.1.0 d.score_sentence-scored.new.1.1.1.1.1.0
-answered d = record { is = d.score_sentence-scored.ensures; points_kept = d.score_sentence-scored.auto.1.1.1.1.0; lengths-kept = d.score_sentence-scored.auto.1.1.1.1.1.0 }
+answered : (d : tie.After-score_sentence-scored invariant-loop decreases-loop) → Answered (start (loop (ended d))).args.base.now (start (loop (ended d))).args.check.now (start (loop (ended d))).args.words.now (loop (ended d)).loop-i.points (loop (ended d)).loop-i.lengths (loop (ended d)).loop-i.a (ended d).words_before-e.result d.score_sentence-scored.result d.score_sentence-scored.new.points d.score_sentence-scored.new.lengths
+answered d = record { is = d.score_sentence-scored.ensures; points_kept = d.score_sentence-scored.auto.points; lengths-kept = d.score_sentence-scored.auto.lengths }
 
 enum-known-scored : tie.Need-enum_known-scored invariant-loop decreases-loop
-enum-known-scored c = c.match.keys1
+enum-known-scored c = c.in-Whole-1.keys1
 
 enum_told : tie.Need-enum_told-1 invariant-loop decreases-loop
-enum_told c = c.match.keys2
+enum_told c = c.in_default-1.keys2
 
 -- where the sentence is refused
 abbrev refused : tie.In_default invariant-loop decreases-loop → tie.After-score_sentence-scored invariant-loop decreases-loop
-refused c = c.before.before.before.before.before
+refused c = c.before.before.before.before
 
 same_length : tie.Need-shape_of-points-in_default invariant-loop decreases-loop
-same_length c = (turn-refused (turn (ended (refused c))) (answered (refused c)) c.enum_told-1.given.1).points-long
+same_length c = (turn-refused (turn (ended (refused c))) (answered (refused c)) c.in_default.is).points-long
 
 same-length_2 : tie.Need-shape_of-lengths-in_default invariant-loop decreases-loop
-same-length_2 c = (turn-refused (turn (ended (refused c))) (answered (refused c)) c.enum_told-1.given.1).lengths-long
+same-length_2 c = (turn-refused (turn (ended (refused c))) (answered (refused c)) c.in_default.is).lengths-long
 
 returns : tie.Need-returns-in_default invariant-loop decreases-loop
-returns c = turn-refused (turn (ended (refused c))) (answered (refused c)) c.enum_told-1.given.1
+returns c = turn-refused (turn (ended (refused c))) (answered (refused c)) c.in_default.is
 
 count-byte-requires : tie.Need-count_byte-requires invariant-loop decreases-loop
-count-byte-requires c κs = let t = turn (ended c.before.before.before.before.before.before.before) in (next-counts t _, next-counts t _)
+count-byte-requires c κs = let t = turn (ended c.before.before.before.before.before) in (next-counts t _, next-counts t _)
 
 -- where a turn ends
 abbrev called : tie.After-count_byte invariant-loop decreases-loop → tie.After-score_sentence-scored invariant-loop decreases-loop
-called c = c.before.before.before.before.before.before.before.before
+called c = c.before.before.before.before.before.before
 
 add-sum : tie.Need-overflow_add-sum invariant-loop decreases-loop
 add-sum c =
-    let v = c.before.before.before.scored-1.given in
+    let v = c.in-Whole.scored.given in
     next_fits (turn (ended (called c))) (answered (called c)) v.0.0 v.0.1.0 v.1
 
 add-i : tie.Need-overflow_add-i invariant-loop decreases-loop
@@ -145,20 +145,20 @@ loop-less c = omega (arith, (turn (ended (called c))).inside)
 
 loop-again : tie.Need-loop-i-preserved invariant-loop decreases-loop
 loop-again c =
-    let v = c.before.before.before.scored-1.given in
+    let v = c.in-Whole.scored.given in
     turn_on (turn (ended (called c))) (answered (called c)) v.0.0 v.0.1.0 v.1 _ c.count_byte.ensures
 
 same-length-3 : tie.Need-shape_of-points invariant-loop decreases-loop
-same-length-3 c = c.before.loop-i.invariant.points-done.long
+same-length-3 c = c.loop-i.invariant.points-done.long
 
 same-length-4 : tie.Need-shape_of-lengths invariant-loop decreases-loop
-same-length-4 c = c.before.loop-i.invariant.lengths-done.long
+same-length-4 c = c.loop-i.invariant.lengths-done.long
 
 returns_2 : tie.Need-returns invariant-loop decreases-loop
 returns_2 c =
-    let l = c.before.loop-i in
+    let l = c.loop-i in
     let s = start c.before in
-    batching_ends (opened s.args.base.now s.args.check.now) s.args.ends.now (asked s) l.a l.i (to_z w64 l.sum) l.points-1 l.lengths-1 l.counts l.invariant (search rules)
+    batching_ends (opened s.args.base.now s.args.check.now) s.args.ends.now (asked s) l.a l.i (to_z w64 l.sum) l.points l.lengths l.counts l.invariant (search rules)
 
 pub score_sentences_spec : {M : Type 1} → statement M
 score_sentences_spec =

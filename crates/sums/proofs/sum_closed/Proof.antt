@@ -46,11 +46,11 @@ unfolding store_in
 loop-holds s = closing_begins _ _ _ _ (rw s.requires.1.0 at s.requires.1.1.0)
 
 -- a turn has a word
-more : (c : tie.In-loop-i invariant-loop decreases-loop) → c.before.loop-i.i < 2
+more : (c : tie.In-loop-i invariant-loop decreases-loop) → c.loop-i.i < 2
 more c = omega (arith, c.loop-i-test.true)
 
 mul-word : tie.Need-offset_bounds-words-i invariant-loop decreases-loop
-mul-word c = scaled_Fits c.before.loop-i.i 2 4 (more c) (lit< tt)
+mul-word c = scaled_Fits c.loop-i.i 2 4 (more c) (lit< tt)
 
 array-read-word : tie.Need-bounds-words-i invariant-loop decreases-loop
 array-read-word c = more c
@@ -61,73 +61,73 @@ root-child-requires c κs = let s = c.before.before in (opened-head s.args.base.
 
 -- the sentence's last word and its 3, the next of them, what it is scored as, and the state that it is scored from
 abbrev words : tie.In-loop-i invariant-loop decreases-loop → List ℕ
-words c = c.before.before.args.last ∷ end_word ∷ []
+words c = c.args.last ∷ end_word ∷ []
 
 abbrev w : tie.In-loop-i invariant-loop decreases-loop → ℕ
-w c = get_or (words c) c.before.loop-i.i 0
+w c = get_or (words c) c.loop-i.i 0
 
 abbrev word : tie.In-loop-i invariant-loop decreases-loop → ℕ
-word c = get_or (c.before.before.args.last ∷ c.before.before.args.closing ∷ []) c.before.loop-i.i 0
+word c = get_or (c.args.last ∷ c.args.closing ∷ []) c.loop-i.i 0
 
 abbrev S : tie.In-loop-i invariant-loop decreases-loop → Store
-S c = store_in c.before.before.args.base.now c.before.before.args.check.now
+S c = store_in c.args.base.now c.args.check.now
 
 abbrev scored-from : tie.In-loop-i invariant-loop decreases-loop → Carried
-scored-from c = held_in c.before.loop-i.carried c.before.loop-i.backoffs
+scored-from c = held_in c.loop-i.carried c.loop-i.backoffs
 
-scored_as_lem : (c : tie.In-loop-i invariant-loop decreases-loop) → word c ≡ replaced c.before.before.args.check.now (w c)
-scored_as_lem c = go c.before.loop-i.i (more c)
+scored_as_lem : (c : tie.In-loop-i invariant-loop decreases-loop) → word c ≡ replaced c.args.check.now (w c)
+scored_as_lem c = go c.loop-i.i (more c)
   where
-    go : (i : ℕ) → i < 2 → get_or (c.before.before.args.last ∷ c.before.before.args.closing ∷ []) i 0 ≡ replaced c.before.before.args.check.now (get_or (words c) i 0)
-    go zero h = c.before.before.requires.1.1.1.0
-    go (suc zero) h = c.before.before.requires.1.1.1.1
+    go : (i : ℕ) → i < 2 → get_or (c.args.last ∷ c.args.closing ∷ []) i 0 ≡ replaced c.args.check.now (get_or (words c) i 0)
+    go zero h = c.requires.1.1.1.0
+    go (suc zero) h = c.requires.1.1.1.1
     go (suc (suc i)) h = absurd (omega arith)
 
 -- a word that is refused
-refuses : (c : tie.In-loop-i invariant-loop decreases-loop) → word_step (S c) (scored-from c) (w c) ≡ stuck → Refused ≡ points_over (S c) (words c) (held_in c.before.before.args.carried c.before.before.args.t5)
+refuses : (c : tie.In-loop-i invariant-loop decreases-loop) → word_step (S c) (scored-from c) (w c) ≡ stuck → Refused ≡ points_over (S c) (words c) (held_in c.args.carried c.args.backoffs)
 refuses c e =
     let l = c.before in
-    closing_refused (S c) _ (words c) l.loop-i.carried l.loop-i.backoffs (to_z w64 l.loop-i.total) l.loop-i.i l.loop-i.invariant (more c) e
+    closing_refused (S c) _ (words c) l.loop-i.carried l.loop-i.backoffs (to_z w64 l.loop-i.total-bits) l.loop-i.i l.loop-i.invariant (more c) e
 
 enum-known-slot : tie.Need-enum_known-slot invariant-loop decreases-loop
-enum-known-slot c = c.match.keys1
+enum-known-slot c = c.in-At-1.keys1
 
 enum_told : tie.Need-enum_told-1 invariant-loop decreases-loop
-enum_told c = c.match.keys2
+enum_told c = c.in_default-1.keys2
 
 returns : tie.Need-returns-in_default invariant-loop decreases-loop
 returns c =
-    let f = c.before.before in
+    let f = c.before in
     let i = f.before in
-    let a = i.before.before.args in
-    refuses i (missing_refused a.base.now a.check.now i.before.before.requires.0 (w i) (word i) (scored_as_lem i) (scored-from i) (sym f.root_child.ensures ∙ c.enum_told-1.given.1))
+    let a = i.args in
+    refuses i (missing_refused a.base.now a.check.now i.requires.0 (w i) (word i) (scored_as_lem i) (scored-from i) (sym f.root_child.ensures ∙ c.in_default.is))
 
 -- the turn, and the slot of the root's child for its word
-abbrev turn : tie.In-At-2 invariant-loop decreases-loop → tie.In-loop-i invariant-loop decreases-loop
-turn c = c.before.before.before
+abbrev turn : tie.In-At invariant-loop decreases-loop → tie.In-loop-i invariant-loop decreases-loop
+turn c = c.before.before
 
-abbrev slot : tie.In-At-2 invariant-loop decreases-loop → ℕ
-slot c = c.slot-1.given.0.0
+abbrev slot : tie.In-At invariant-loop decreases-loop → ℕ
+slot c = c.in-At.slot
 
-child-is : (c : tie.In-At-2 invariant-loop decreases-loop) → child_at (turn c).before.before.args.base.now (turn c).before.before.args.check.now 0 (word (turn c)) ≡ At (slot c)
+child-is : (c : tie.In-At invariant-loop decreases-loop) → child_at (turn c).args.base.now (turn c).args.check.now 0 (word (turn c)) ≡ At (slot c)
 child-is c =
     let s = (turn c).before.before in
-    sym (root-child s.args.base.now s.args.check.now s.requires.0 (word (turn c))) ∙ sym c.before.before.root_child.ensures ∙ c.slot-1.given.1
+    sym (root-child s.args.base.now s.args.check.now s.pre.0 (word (turn c))) ∙ sym c.root_child.ensures ∙ c.in-At.is
 
 -- the state that the word is scored from, by the array's own order
-held : (c : tie.In-loop-i invariant-loop decreases-loop) → Carries (order_in c.before.before.args.check.now) c.before.loop-i.carried c.before.loop-i.backoffs
-held c = closing_carries c.before.before.args.base.now c.before.before.args.check.now c.before.loop-i.invariant
+held : (c : tie.In-loop-i invariant-loop decreases-loop) → Carries (order_in c.args.check.now) c.loop-i.carried c.loop-i.backoffs
+held c = closing_carries c.args.base.now c.args.check.now c.loop-i.invariant
 
 walk-requires : tie.Need-walk-reached-requires invariant-loop decreases-loop
 walk-requires c κs =
-    let t = c.before.before in
+    let t = c.before in
     let s = (turn t).before.before in
-    let same = (opened-sizes s.args.base.now s.args.check.now s.requires.0).same in
-    (s.requires.0, (subst (λ (n : ℕ). slot t < n) (sym same) (child-inside s.args.base.now s.args.check.now 0 (word (turn t)) (slot t) (child-is t)), held (turn t)))
+    let same = (opened-sizes s.args.base.now s.args.check.now s.pre.0).same in
+    (s.pre.0, (subst (λ (n : ℕ). slot t < n) (sym same) (child-inside s.args.base.now s.args.check.now 0 (word (turn t)) (slot t) (child-is t)), held (turn t)))
 
 -- the walk's first node
-abbrev begun : tie.After-walk-reached invariant-loop decreases-loop → tie.In-At-2 invariant-loop decreases-loop
-begun c = c.before.before.before
+abbrev begun : tie.After-walk-reached invariant-loop decreases-loop → tie.In-At invariant-loop decreases-loop
+begun c = c.before.before
 
 last-node-requires : tie.Need-last_node-walked-requires invariant-loop decreases-loop
 last-node-requires c κs =
@@ -137,24 +137,24 @@ last-node-requires c κs =
     ((s.requires.0, s.requires.1.0), (four-at-most (held i).few (opened-order s.args.base.now s.args.check.now s.requires.0).1, k.walk-reached.ensures.0.0, k.walk-reached.ensures.0.1))
 
 -- the lent back-offs as the walk left them, and what it told
-abbrev first : tie.After-last_node-walked invariant-loop decreases-loop → tie.In-At-2 invariant-loop decreases-loop
+abbrev first : tie.After-last_node-walked invariant-loop decreases-loop → tie.In-At invariant-loop decreases-loop
 first c = begun c.before.before
 
 abbrev backoffs : tie.After-last_node-walked invariant-loop decreases-loop → List ℤ
-backoffs c = c.last_node-walked.new.1.1.1.1.1.0
+backoffs c = c.last_node-walked.new.backoffs
 
 walked : (c : tie.After-last_node-walked invariant-loop decreases-loop) → WalkedOver (S (turn (first c))) (scored-from (turn (first c))) (word (turn (first c))) c.last_node-walked.result (backoffs c)
 walked c =
     let t = first c in
-    c.last_node-walked.ensures (scored-from (turn t)) (word (turn t)) (c.before.before.walk-reached.ensures.1 (word (turn t)) (child-is t))
+    c.last_node-walked.ensures (scored-from (turn t)) (word (turn t)) (c.walk-reached.ensures.1 (word (turn t)) (child-is t))
 
 answered-requires : tie.Need-answered-stepped-requires invariant-loop decreases-loop
 answered-requires c κs =
     let t = first c in
     let i = turn t in
     let l = i.before in
-    let a = l.before.args in
-    answerable a.base.now a.check.now l.before.requires.0 l.loop-i.carried l.loop-i.backoffs (held i) (word i) (slot t) (child-is t) c.last_node-walked.result (backoffs c) (walked c)
+    let a = l.args in
+    answerable a.base.now a.check.now l.requires.0 l.loop-i.carried l.loop-i.backoffs (held i) (word i) (slot t) (child-is t) c.last_node-walked.result (backoffs c) (walked c)
 
 -- the word's answer
 abbrev walk : tie.After-answered-stepped invariant-loop decreases-loop → tie.After-last_node-walked invariant-loop decreases-loop
@@ -163,7 +163,7 @@ walk c = c.before
 abbrev picked : tie.After-answered-stepped invariant-loop decreases-loop → tie.In-loop-i invariant-loop decreases-loop
 picked c = turn (first (walk c))
 
-step_is : (c : tie.After-answered-stepped invariant-loop decreases-loop) → SteppedTo (picked c).before.before.args.order (word_step (S (picked c)) (scored-from (picked c)) (w (picked c))) c.answered-stepped.result (backoffs (walk c))
+step_is : (c : tie.After-answered-stepped invariant-loop decreases-loop) → SteppedTo (picked c).args.order (word_step (S (picked c)) (scored-from (picked c)) (w (picked c))) c.answered-stepped.result (backoffs (walk c))
 step_is c =
     let k = walk c in
     let t = first k in
@@ -174,32 +174,32 @@ step_is c =
     stepped a.base.now a.check.now s.requires.0 l.loop-i.carried l.loop-i.backoffs (held i) (word i) (slot t) (child-is t) a.order (w i) s.requires.1.0 (scored_as_lem i) k.last_node-walked.result (backoffs k) (walked k) c.answered-stepped.result c.answered-stepped.ensures
 
 enum-known-stepped : tie.Need-enum_known-stepped invariant-loop decreases-loop
-enum-known-stepped c = c.match2.keys1
+enum-known-stepped c = c.in-Scored-1.keys1
 
 enum-told-2 : tie.Need-enum_told-in_default-stepped invariant-loop decreases-loop
-enum-told-2 c = c.match2.keys2
+enum-told-2 c = c.in_default-stepped-1.keys2
 
 returns_2 : tie.Need-returns-in_default-stepped invariant-loop decreases-loop
 returns_2 c =
-    let k = c.before.before in
-    refuses (picked k) (step_told (step_is k) NotScored c.enum_told-in_default-stepped-1.given.1)
+    let k = c.before in
+    refuses (picked k) (step_told (step_is k) NotScored c.in_default-stepped.is)
 
 -- what the word scored, and the state that it leaves
-abbrev answer : tie.In-Scored-2 invariant-loop decreases-loop → tie.After-answered-stepped invariant-loop decreases-loop
-answer c = c.before.before
+abbrev answer : tie.In-Scored invariant-loop decreases-loop → tie.After-answered-stepped invariant-loop decreases-loop
+answer c = c.before
 
-abbrev points : tie.In-Scored-2 invariant-loop decreases-loop → ℤ
-points c = c.stepped-1.given.0.0.points
+abbrev points : tie.In-Scored invariant-loop decreases-loop → ℤ
+points c = c.in-Scored.score.points
 
-abbrev next : tie.In-Scored-2 invariant-loop decreases-loop → Packed
-next c = c.stepped-1.given.0.1.0
+abbrev next : tie.In-Scored invariant-loop decreases-loop → Packed
+next c = c.in-Scored.next
 
-word-is : (c : tie.In-Scored-2 invariant-loop decreases-loop) → word_step (S (picked (answer c))) (scored-from (picked (answer c))) (w (picked (answer c))) ≡ step_of (Scored c.stepped-1.given.0.0 (next c)) (backoffs (walk (answer c)))
-word-is c = step_told (step_is (answer c)) _ c.stepped-1.given.1
+word-is : (c : tie.In-Scored invariant-loop decreases-loop) → word_step (S (picked (answer c))) (scored-from (picked (answer c))) (w (picked (answer c))) ≡ step_of (Scored c.in-Scored.score (next c)) (backoffs (walk (answer c)))
+word-is c = step_told (step_is (answer c)) _ c.in-Scored.is
 
 -- as the code has taken it out
-abbrev scored-word : tie.After-struct_told-1 invariant-loop decreases-loop → tie.In-Scored-2 invariant-loop decreases-loop
-scored-word c = c.before.before.before
+abbrev scored-word : tie.After-struct_told-1 invariant-loop decreases-loop → tie.In-Scored invariant-loop decreases-loop
+scored-word c = c.before.before
 
 points-fits : (c : tie.After-struct_told-1 invariant-loop decreases-loop) → SFits w32 (points (scored-word c))
 points-fits c = sfits_of c.struct_told-1.given.1.0.1
@@ -211,19 +211,19 @@ cast-total c = to-wide tt (points-fits c)
 points-wide : (c : tie.After-struct_told-1 invariant-loop decreases-loop) → to_z w64 (of_z w64 (to_z w32 (of_z w32 (points (scored-word c))))) ≡ points (scored-word c)
 points-wide c = to_z-of_z (cast-total c) ∙ to_z-of_z (points-fits c)
 
-small : (c : tie.In-Scored-2 invariant-loop decreases-loop) → nat_abs (points c) ≤ order_limit * largest_backoff
+small : (c : tie.In-Scored invariant-loop decreases-loop) → nat_abs (points c) ≤ order_limit * largest_backoff
 small c =
     let i = picked (answer c) in
     let l = i.before in
     let s = l.before in
-    points_small s.args.base.now s.args.check.now s.requires.0 _ (words i) l.loop-i.carried l.loop-i.backoffs (to_z w64 l.loop-i.total) l.loop-i.i l.loop-i.inv (points c) _ (next c) (backoffs (walk (answer c))) (word-is c)
+    points_small s.args.base.now s.args.check.now s.requires.0 _ (words i) l.loop-i.carried l.loop-i.backoffs (to_z w64 l.loop-i.total-bits) l.loop-i.i l.loop-i.invariant (points c) _ (next c) (backoffs (walk (answer c))) (word-is c)
 
 add_total : tie.Need-overflow_add-total invariant-loop decreases-loop
 add_total c =
     let m = scored-word c in
     let i = picked (answer m) in
     let l = i.before in
-    subst (λ (z : ℤ). SFits w64 (to_z w64 l.loop-i.total +ℤ z)) (sym (points-wide c)) (total-fits (to_z w64 l.loop-i.total) (points m) l.loop-i.inv.small (small m) (more i))
+    subst (λ (z : ℤ). SFits w64 (to_z w64 l.loop-i.total-bits +ℤ z)) (sym (points-wide c)) (total-fits (to_z w64 l.loop-i.total-bits) (points m) l.loop-i.invariant.small (small m) (more i))
 
 add-i : tie.Need-overflow_add-i invariant-loop decreases-loop
 add-i c = next_fits (lt_of_lt_of_le (more (picked (answer (scored-word c)))) (lit≤ tt))
@@ -239,15 +239,15 @@ loop-again c =
     let l = i.before in
     let s = l.before in
     subst
-    (λ (z : ℤ). Closing (S i) (held_in s.args.carried s.args.t5) (words i) (next m) (backoffs (walk k)) z (l.loop-i.i + 1))
-    (sym (to_z-of_z (add_total c) ∙ ap (λ (z : ℤ). to_z w64 l.loop-i.total +ℤ z) (points-wide c)))
-    (closing_on s.args.base.now s.args.check.now s.requires.0 _ (words i) l.loop-i.carried l.loop-i.backoffs (to_z w64 l.loop-i.total) l.loop-i.i l.loop-i.inv (points m) _ (next m) (backoffs (walk k)) (word-is m) (more i) (subst (λ (n : ℕ). Carries n (next m) (backoffs (walk k))) s.requires.1.0 ((step_is k).carries _ _ m.stepped-1.given.1)))
+    (λ (z : ℤ). Closing (S i) (held_in s.args.carried s.args.backoffs) (words i) (next m) (backoffs (walk k)) z (l.loop-i.i + 1))
+    (sym (to_z-of_z (add_total c) ∙ ap (λ (z : ℤ). to_z w64 l.loop-i.total-bits +ℤ z) (points-wide c)))
+    (closing_on s.args.base.now s.args.check.now s.requires.0 _ (words i) l.loop-i.carried l.loop-i.backoffs (to_z w64 l.loop-i.total-bits) l.loop-i.i l.loop-i.invariant (points m) _ (next m) (backoffs (walk k)) (word-is m) (more i) (subst (λ (n : ℕ). Carries n (next m) (backoffs (walk k))) s.requires.1.0 ((step_is k).carries _ _ m.in-Scored.is)))
 
 returns_3 : tie.Need-returns invariant-loop decreases-loop
 returns_3 c =
     let l = c.before in
     let s = l.before in
-    closing_ends (store_in s.args.base.now s.args.check.now) _ (s.args.last ∷ end_word ∷ []) l.loop-i.carried l.loop-i.backoffs (to_z w64 l.loop-i.total) l.loop-i.i l.loop-i.invariant c.loop-i-test.false
+    closing_ends (store_in s.args.base.now s.args.check.now) _ (s.args.last ∷ end_word ∷ []) l.loop-i.carried l.loop-i.backoffs (to_z w64 l.loop-i.total-bits) l.loop-i.i l.loop-i.invariant c.loop-i-test.false
 
 pub sum_closed_spec : {M : Type 1} → statement M
 sum_closed_spec =

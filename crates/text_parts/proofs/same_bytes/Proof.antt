@@ -18,7 +18,7 @@ abbrev decreases-loop : tie.decreases-loop-i
 decreases-loop a b i₀ i = length a - i
 
 returns : tie.Need-returns-then-a-b invariant-loop decreases-loop
-returns c = sym (other_length c.before.args.a.now c.before.args.b.now c.if-a-b.true)
+returns c = sym (other_length c.args.a.now c.args.b.now c.if-a-b.true)
 
 loop-holds : tie.Need-loop-i-init invariant-loop decreases-loop
 loop-holds c = (search rules, c.if-a-b.false, refl)

@@ -38,7 +38,7 @@ loop-less c = search rules
 loop-again : tie.Need-loop-i-preserved invariant-loop decreases-loop
 loop-again c =
     let l = c.before.before in
-    let a = l.before.args in (
+    let a = l.args in (
       search rules,
       (
         rw (l.loop-i.invariant.1.0, add-one l.loop-i.i) (paste-suc a.out.now a.at a.line.now l.loop-i.i 0 (omega arith) (omega arith)),
@@ -47,7 +47,7 @@ loop-again c =
     )
 
 same_length : tie.Need-shape_of-out invariant-loop decreases-loop
-same_length c = c.before.loop-i.invariant.1.1
+same_length c = c.loop-i.invariant.1.1
 
 add-result : tie.Need-overflow_add-result invariant-loop decreases-loop
 add-result c = search rules
@@ -55,7 +55,7 @@ add-result c = search rules
 returns : tie.Need-returns invariant-loop decreases-loop
 returns c =
     let l = c.before in
-    let e : l.loop-i.i ≡ l.before.args.count = omega arith in
+    let e : l.loop-i.i ≡ l.args.count = omega arith in
     (refl, rw e at l.loop-i.invariant.1.0)
 
 pub append_spec : {M : Type 1} → statement M

@@ -13,14 +13,14 @@ refused-line-requires c κs = search rules
 
 slice-aggregate-append : tie.Need-slice_bounds-append-end
 slice-aggregate-append c =
-    let r = c.before.refused_line-length.ensures in
+    let r = c.refused_line-length.ensures in
     sym (length_line _ _ (replicate 64 0) _ r.0 r.1.1 r.1.0)
 
 append-requires : tie.Need-append-requires
 append-requires c κs =
-    let r = c.before.before.refused_line-length in
-    let a = c.before.before.before.before.before.args in
-    let room : a.at + r.result ≤ length a.out-1.now = omega (arith, r.ensures.1.0) in
+    let r = c.refused_line-length in
+    let a = c.args in
+    let room : a.at + r.result ≤ length a.out.now = omega (arith, r.ensures.1.0) in
     (line_within _ _ _ _ r.ensures.0 r.ensures.1.1, room)
 
 same_length : tie.Need-shape_of-out
@@ -28,12 +28,12 @@ same_length c = search rules
 
 returns : tie.Need-returns
 returns c =
-    let r = c.before.before.before.before.before.refused_line-length in
-    let a = c.before.before.before.before.before.before.before.before.args in
-    let p = c.before.before.append.ensures in
+    let r = c.refused_line-length in
+    let a = c.args in
+    let p = c.append.ensures in
     let e = r.ensures in
-    let room : a.at + r.result ≤ length a.out-1.now = omega (arith, e.1.0) in
-    (omega (arith, p.0, e.1.0), rw p.0 (appended a.out-1.now a.at r.result _ _ _ _ e.0 e.1.1 p.1 room))
+    let room : a.at + r.result ≤ length a.out.now = omega (arith, e.1.0) in
+    (omega (arith, p.0, e.1.0), rw p.0 (appended a.out.now a.at r.result _ _ _ _ e.0 e.1.1 p.1 room))
 
 pub append_refusal_spec : {M : Type 1} → statement M
 append_refusal_spec =

@@ -13,14 +13,14 @@ print-sentence-requires c κs = search rules
 
 slice-aggregate-append : tie.Need-slice_bounds-append-end
 slice-aggregate-append c =
-    let r = c.before.print_sentence-printed.ensures in
+    let r = c.print_sentence-printed.ensures in
     sym (length_line _ _ (replicate 64 0) _ r.1.0 r.1.1.1 r.1.1.0)
 
 append-requires : tie.Need-append-requires
 append-requires c κs =
-    let r = c.before.before.print_sentence-printed in
-    let a = c.before.before.before.before.before.before.args in
-    let room : a.at + r.result.length ≤ length a.out-1.now = omega (arith, r.ensures.1.1.0) in
+    let r = c.print_sentence-printed in
+    let a = c.args in
+    let room : a.at + r.result.length ≤ length a.out.now = omega (arith, r.ensures.1.1.0) in
     (line_within _ _ _ _ r.ensures.1.0 r.ensures.1.1.1, room)
 
 same_length : tie.Need-shape_of-out
@@ -28,15 +28,15 @@ same_length c = search rules
 
 returns : tie.Need-returns
 returns c =
-    let r = c.before.before.before.before.before.print_sentence-printed in
-    let a = c.before.before.before.before.before.before.before.before.before.args in
-    let p = c.before.before.append.ensures in
+    let r = c.print_sentence-printed in
+    let a = c.args in
+    let p = c.append.ensures in
     let e = r.ensures in
-    let room : a.at + r.result.length ≤ length a.out-1.now = omega (arith, e.1.1.0) in
+    let room : a.at + r.result.length ≤ length a.out.now = omega (arith, e.1.1.0) in
     record {
       accepted = e.0;
       room = e.1.1.0;
-      text = appended a.out-1.now a.at r.result.length _ _ _ _ e.1.0 e.1.1.1 p.1 room;
+      text = appended a.out.now a.at r.result.length _ _ _ _ e.1.0 e.1.1.1 p.1 room;
     }
 
 pub append_sentence_spec : {M : Type 1} → statement M

@@ -18,7 +18,7 @@ returns_2 : tie.Need-returns
 returns_2 c =
     let s = c.before.before.before.before in
     let r = c.refused_line.ensures in
-    (line_within _ _ _ _ r.0 r.1.1, front_of _ _ _ _ r.0 r.1.1 ∙ (unfold finished in rw (ne_eqb s.args.progress.count 0 c.before.before.if-progress-eq0.false) refl))
+    (line_within _ _ _ _ r.0 r.1.1, front_of _ _ _ _ r.0 r.1.1 ∙ (unfold finished in rw (ne_eqb s.args.progress.count 0 c.if-progress-eq0.false) refl))
 
 pub finish_spec : {M : Type 1} → statement M
 finish_spec = tie.close (tie.spec returns refused-line-requires returns_2)

@@ -15,31 +15,26 @@ abbrev decreases-loop : tie.decreases-loop-at
 decreases-loop text table₀ at₀ i₀ table at i = length text - at
 
 loop-holds : tie.Need-loop-at-init invariant-loop decreases-loop
-loop-holds c = reading-start c.before.args.text.now c.before.args.table.now c.before.requires
+loop-holds c = reading-start c.args.text.now c.args.table.now c.requires
 
 add-t10 : tie.Need-overflow_add-refused invariant-loop decreases-loop
 add-t10 c = search rules
 
-find-requires : tie.Need-find-requires invariant-loop decreases-loop
-find-requires c κs = search rules
-
 same_length : tie.Need-shape_of-table-then-end-text invariant-loop decreases-loop
-same_length c = c.before.before.before.loop-at.invariant.size ∙ sym c.before.before.before.before.before.requires
+same_length c = c.loop-at.invariant.size ∙ sym c.requires
 
 returns : tie.Need-returns-then-end-text invariant-loop decreases-loop
 returns c =
-    let r = c.before in
-    let l = r.before.before.loop-at in
-    reading_unended _ _ l.at l.i _ l.invariant r.before.loop-at-test.true r.find.ensures.0 c.if-end-text.true
+    let l = c.loop-at in
+    reading_unended _ _ l.at l.i _ l.invariant c.loop-at-test.true c.part_end-end.ensures.0 c.if-end-text.true
 
 same-length_2 : tie.Need-shape_of-table-then-i-eq-LIST_LINES invariant-loop decreases-loop
-same-length_2 c = c.before.before.before.before.loop-at.invariant.size ∙ sym c.before.before.before.before.before.before.requires
+same-length_2 c = c.loop-at.invariant.size ∙ sym c.requires
 
 returns_2 : tie.Need-returns-then-i-eq-LIST_LINES invariant-loop decreases-loop
 returns_2 c =
-    let r = c.before.before in
-    let l = r.before.before.loop-at in
-    reading-last _ _ l.at l.i _ l.invariant r.before.loop-at-test.true r.find.ensures.0 c.before.if-end-text.false c.if-i-eq-LIST_LINES.true
+    let l = c.loop-at in
+    reading-last _ _ l.at l.i _ l.invariant c.loop-at-test.true c.part_end-end.ensures.0 c.if-end-text.false c.if-i-eq-LIST_LINES.true
 
 sub-read-row : tie.Need-slice_bounds-read_row-count invariant-loop decreases-loop
 sub-read-row c = search rules
@@ -57,13 +52,12 @@ read-row-requires : tie.Need-read_row-requires invariant-loop decreases-loop
 read-row-requires c κs = search rules
 
 same-length-3 : tie.Need-shape_of-table-then-not-read_row invariant-loop decreases-loop
-same-length-3 c = c.before.before.read_row.auto.1.0 ∙ c.before.before.before.before.before.before.before.before.before.loop-at.invariant.size ∙ sym c.before.before.before.before.before.before.before.before.before.before.before.requires
+same-length-3 c = c.read_row.auto.table ∙ c.loop-at.invariant.size ∙ sym c.requires
 
 returns_3 : tie.Need-returns-then-not-read_row invariant-loop decreases-loop
 returns_3 c =
-    let r = c.before.before.before.before.before.before.before in
-    let l = r.before.before.loop-at in
-    reading_bad _ _ l.at l.i _ l.invariant r.before.loop-at-test.true r.find.ensures.0 c.before.before.before.before.before.before.if-end-text.false (sym c.before.before.read_row.ensures.0 ∙ not-true _ c.if-not-read_row.true)
+    let l = c.loop-at in
+    reading_bad _ _ l.at l.i _ l.invariant c.loop-at-test.true c.part_end-end.ensures.0 c.if-end-text.false (sym c.read_row.ensures.0 ∙ c.if-not-read_row.true)
 
 add_at : tie.Need-overflow_add-at invariant-loop decreases-loop
 add_at c = search rules
@@ -76,18 +70,20 @@ loop-less c = search rules
 
 loop-again : tie.Need-loop-at-preserved invariant-loop decreases-loop
 loop-again c =
-    let r = c.before.before.before.before.before.before.before in
-    let l = r.before.before.loop-at in
-    let row = c.before.before.read_row.ensures in
-    reading-next _ _ l.at l.i _ l.invariant r.before.loop-at-test.true r.find.ensures.0 c.before.before.before.before.before.before.if-end-text.false c.before.before.before.before.before.if-i-eq-LIST_LINES.false (sym row.0 ∙ not-false _ c.if-not-read_row.false) row.1
+    let l = c.loop-at in
+    let row = c.read_row.ensures in
+    reading-next _ _ l.at l.i _ l.invariant c.loop-at-test.true c.part_end-end.ensures.0 c.if-end-text.false c.if-i-eq-LIST_LINES.false (sym row.0 ∙ c.if-not-read_row.false) row.1
 
 same-length-4 : tie.Need-shape_of-table invariant-loop decreases-loop
-same-length-4 c = c.before.loop-at.invariant.size ∙ sym c.before.before.before.requires
+same-length-4 c = c.loop-at.invariant.size ∙ sym c.requires
 
 returns-4 : tie.Need-returns invariant-loop decreases-loop
 returns-4 c =
-    let l = c.before.loop-at in
+    let l = c.loop-at in
     (l.invariant.few, reading-end _ _ l.at l.i l.invariant c.loop-at-test.false)
+
+part_end-end-requires : tie.Need-part_end-end-requires invariant-loop decreases-loop
+part_end-end-requires c κs = search rules
 
 pub read_list_spec : {M : Type 1} → statement M
 read_list_spec =
@@ -97,7 +93,7 @@ read_list_spec =
     decreases-loop
     loop-holds
     add-t10
-    find-requires
+    part_end-end-requires
     same_length
     returns
     same-length_2

@@ -14,8 +14,8 @@ read-list-line-requires c κs = search rules
 
 returns : tie.Need-returns-then-not-read_list_line
 returns c =
-    let r = c.before.read_list_line in
-    let e = sym r.ensures.0 ∙ not-true _ c.if-not-read_list_line.true in
+    let r = c.read_list_line in
+    let e = sym r.ensures.0 ∙ c.if-not-read_list_line.true in
     (sym e, rw e refl)
 
 store-row-requires : tie.Need-store_row-requires
@@ -26,11 +26,11 @@ same_length c = search rules
 
 returns_2 : tie.Need-returns
 returns_2 c =
-    let r = c.before.before.before.before.read_list_line in
-    let a = c.before.before.before.before.before.before.before.args in
-    let e = sym r.ensures.0 ∙ not-false _ c.before.before.before.if-not-read_list_line.false in
-    let row : r.new.1.0 ≡ list_row a.line.now = r.ensures.1.0 ∙ rw e refl in
-    (sym e, rw e (c.before.store_row.ensures ∙ ap (λ (l : List ℤ). paste a.table-1.now a.at l 8) row))
+    let r = c.read_list_line in
+    let a = c.args in
+    let e = sym r.ensures.0 ∙ c.if-not-read_list_line.false in
+    let row : r.new.row ≡ list_row a.line.now = r.ensures.1.0 ∙ rw e refl in
+    (sym e, rw e (c.store_row.ensures ∙ ap (λ (l : List ℤ). paste a.table.now a.at l 8) row))
 
 pub read_row_spec : {M : Type 1} → statement M
 read_row_spec =

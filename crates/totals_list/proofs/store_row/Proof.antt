@@ -22,7 +22,7 @@ decreases-loop table₀ at row i₀ table i = 8 - i
 loop-holds : tie.Need-loop-i-init invariant-loop decreases-loop
 loop-holds c =
     let a = c.args in
-    (omega arith, (paste-zero a.table-1.now a.at a.t1, refl))
+    (omega arith, (paste-zero a.table.now a.at a.row, refl))
 
 mul-table : tie.Need-offset_bounds-row-i invariant-loop decreases-loop
 mul-table c = search rules
@@ -48,17 +48,17 @@ loop-less c = search rules
 loop-again : tie.Need-loop-i-preserved invariant-loop decreases-loop
 loop-again c =
     let l = c.before.before in
-    let a = l.before.args in
-    let f : SFits w32 (get_or a.t1 l.loop-i.i (pos 0)) = sfits_of c.table-1.given in (
+    let a = l.args in
+    let f : SFits w32 (get_or a.row l.loop-i.i (pos 0)) = sfits_of c.table-1.given in (
       search rules,
       (
-        rw (to_z-of_z f, l.loop-i.invariant.1.0, add-one l.loop-i.i) (paste-suc a.table-1.now a.at a.t1 l.loop-i.i (pos 0) (search rules) (search rules)),
+        rw (to_z-of_z f, l.loop-i.invariant.1.0, add-one l.loop-i.i) (paste-suc a.table.now a.at a.row l.loop-i.i (pos 0) (search rules) (search rules)),
         simp length-set l.loop-i.invariant.1.1,
       ),
     )
 
 same_length : tie.Need-shape_of-table invariant-loop decreases-loop
-same_length c = c.before.loop-i.invariant.1.1
+same_length c = c.loop-i.invariant.1.1
 
 returns : tie.Need-returns invariant-loop decreases-loop
 returns c =

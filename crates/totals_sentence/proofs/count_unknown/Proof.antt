@@ -36,18 +36,18 @@ loop-less c = search rules
 loop-again : tie.Need-loop-i-preserved invariant-loop decreases-loop
 loop-again c =
     let l = c.before.before.before in
-    let bytes = l.before.args.lengths.now in
+    let bytes = l.args.lengths.now in
     let v = l.loop-i.invariant in
     let h : l.loop-i.i < length bytes = search rules in (
       omega (arith, h),
       ⊎_elim (λ w. (omega (arith, w.1, v.1.0), w.1 ∙ count_yes bytes l.loop-i.i h v.1.1 w.0.true))
-          (λ w. (omega (arith, w.1, v.1.0), w.1 ∙ count_no bytes l.loop-i.i h v.1.1 w.0.left)) c.if-lengths-i-eq1.branch,
+          (λ w. (omega (arith, w.1, v.1.0), w.1 ∙ count_no bytes l.loop-i.i h v.1.1 w.0.left)) c.if-lengths-i-eq1.branch-raw,
     )
 
 returns : tie.Need-returns invariant-loop decreases-loop
 returns c =
     let l = c.before in
-    rw (take_all l.loop-i.i l.before.args.lengths.now (search rules)) at l.loop-i.invariant.1.1
+    rw (take_all l.loop-i.i l.args.lengths.now (search rules)) at l.loop-i.invariant.1.1
 
 pub count_unknown_spec : {M : Type 1} → statement M
 count_unknown_spec =

@@ -28,8 +28,8 @@ refused-line-requires c κs = search rules
 returns : tie.Need-returns-in_default
 returns c =
     let r = c.refused_line-length.ensures in
-    let e = not-in_form _ (sym c.before.before.before.before.before.read_sentence-sentence.ensures.0 ∙ c.before.before.enum_told-1.given.1) in
-    let a = c.before.before.before.before.before.before.before.args in
+    let e = not-in_form _ (sym c.read_sentence-sentence.ensures.0 ∙ c.in_default.is) in
+    let a = c.args in
     let q = refused_output (array_model a.base.now a.check.now) a.number a.line.now e in
     (sym e, (r.0 ∙ ap length q, (r.1.0, r.1.1 ∙ ap (λ (l : List ℕ). written l a.out.now) q)))
 
@@ -40,15 +40,15 @@ add-count : tie.Need-overflow_add-count
 add-count c = search rules
 
 -- how many words the line has
-answered : (c : tie.In-Words) → (c.before.read-1.given.0.0 ≡ length (text_words c.before.before.before.before.before.before.args.line.now)) × (c.before.read-1.given.0.0 ≤ 64)
-answered c = words-few _ _ (sym c.before.before.before.before.read_sentence-sentence.ensures.0 ∙ c.before.read-1.given.1)
+answered : (c : tie.In-Words) → (c.in-Words.n ≡ length (text_words c.args.line.now)) × (c.in-Words.n ≤ 64)
+answered c = words-few _ _ (sym c.read_sentence-sentence.ensures.0 ∙ c.in-Words.is)
 
-closed : (c : tie.In-Words) → take (length (text_words c.before.before.before.before.before.before.args.line.now) + 1) c.before.before.before.before.read_sentence-sentence.result.words-1 ≡ text_words c.before.before.before.before.before.before.args.line.now ++ (end_word ∷ [])
+closed : (c : tie.In-Words) → take (length (text_words c.args.line.now) + 1) c.read_sentence-sentence.result.words ≡ text_words c.args.line.now ++ (end_word ∷ [])
 closed c =
-    let r = c.before.before.before.before.read_sentence-sentence.ensures in
-    r.1 (in_form_lem _ _ (sym r.0 ∙ c.before.read-1.given.1))
+    let r = c.read_sentence-sentence.ensures in
+    r.1 (in_form_lem _ _ (sym r.0 ∙ c.in-Words.is))
 
-there : (c : tie.In-Words) → (c.before.read-1.given.0.0 + 1 ≤ length c.before.before.before.before.read_sentence-sentence.result.words-1) × (c.before.read-1.given.0.0 + 1 ≡ length (take (c.before.read-1.given.0.0 + 1) c.before.before.before.before.read_sentence-sentence.result.words-1))
+there : (c : tie.In-Words) → (c.in-Words.n + 1 ≤ length c.read_sentence-sentence.result.words) × (c.in-Words.n + 1 ≡ length (take (c.in-Words.n + 1) c.read_sentence-sentence.result.words))
 there c = closed-count _ _ _ (answered c).0 (closed c)
 
 array-share-prefix-words : tie.Need-slice_bounds-words-end
@@ -61,15 +61,15 @@ score-sentence-requires : tie.Need-score_sentence-length-requires
 score-sentence-requires c κs =
     let k = c.before.before in
     let counted = (there k).1 in
-    (k.before.before.before.before.before.before.requires, (omega (arith, counted), omega (arith, counted, (answered k).1)))
+    (k.requires, (omega (arith, counted), omega (arith, counted, (answered k).1)))
 
 returns_2 : tie.Need-returns
 returns_2 c =
     let k = c.before.before.before in
-    let a = k.before.before.before.before.before.before.args in
+    let a = k.args in
     let r = c.score_sentence-length.ensures in
-    let e = in_form_lem _ _ (sym k.before.before.before.before.read_sentence-sentence.ensures.0 ∙ k.before.read-1.given.1) in
-    let q = sentence-is (array_model a.base.now a.check.now) a.number a.line.now _ _ _ _ e (ap (λ (n : ℕ). take (n + 1) k.before.before.before.before.read_sentence-sentence.result.words-1) (answered k).0 ∙ closed k) (answered k).0 refl refl in
+    let e = in_form_lem _ _ (sym k.read_sentence-sentence.ensures.0 ∙ k.in-Words.is) in
+    let q = sentence-is (array_model a.base.now a.check.now) a.number a.line.now _ _ _ _ e (ap (λ (n : ℕ). take (n + 1) k.read_sentence-sentence.result.words) (answered k).0 ∙ closed k) (answered k).0 refl refl in
     (sym e, (r.0 ∙ ap length q, (r.1.0, r.1.1 ∙ ap (λ (l : List ℕ). written l a.out.now) q)))
 
 pub print_sentence_spec : {M : Type 1} → statement M

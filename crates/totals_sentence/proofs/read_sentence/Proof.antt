@@ -18,8 +18,8 @@ enum_told c = search rules
 
 returns : tie.Need-returns-in_default
 returns c =
-    let r = c.before.before.read_text_line-read in
-    (r.ensures.0, λ e. absurd (not-words _ e (sym r.ensures.0 ∙ c.enum_told-1.given.1)))
+    let r = c.read_text_line-read in
+    (r.ensures.0, λ e. absurd (not-words _ e (sym r.ensures.0 ∙ c.in_default.is)))
 
 cast-words : tie.Need-overflow_cast-words
 cast-words c = search rules
@@ -29,15 +29,15 @@ mul_words c = search rules
 
 array-write-words : tie.Need-bounds-words-n
 array-write-words c =
-    let r = c.before.before.before.read_text_line-read in
-    omega (arith, (words-few _ _ (sym r.ensures.0 ∙ c.before.read-1.given.1)).1)
+    let r = c.read_text_line-read in
+    omega (arith, (words-few _ _ (sym r.ensures.0 ∙ c.in-Words.is)).1)
 
 returns_2 : tie.Need-returns
 returns_2 c =
-    let r = c.before.before.before.read_text_line-read in
+    let r = c.read_text_line-read in
     let e = r.ensures.0 in
-    let few = words-few _ _ (sym e ∙ c.before.read-1.given.1) in
-    (sym c.before.read-1.given.1 ∙ e, λ t. closed _ (replicate 65 0) _ _ t few.0 (omega (arith, few.1)) r.ensures.1.0)
+    let few = words-few _ _ (sym e ∙ c.in-Words.is) in
+    (sym c.in-Words.is ∙ e, λ t. closed _ (replicate 65 0) _ _ t few.0 (omega (arith, few.1)) r.ensures.1.0)
 
 pub read_sentence_spec : {M : Type 1} → statement M
 read_sentence_spec =

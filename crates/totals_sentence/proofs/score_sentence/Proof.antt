@@ -30,10 +30,10 @@ array-share-prefix-lengths : tie.Need-slice_bounds-lengths-end
 array-share-prefix-lengths c = search rules
 
 slice-aggregate-count-unknown : tie.Need-slice_bounds-count_unknown-end
-slice-aggregate-count-unknown c = sym (length-take-le (length c.before.before.before.before.before.before.before.args.words.now - 1) c.before.before.before.run-ran.new.1.1.1.1.1.0 (omega (arith, c.before.before.before.run-ran.auto.1.1.1.1.1.0)))
+slice-aggregate-count-unknown c = sym (length-take-le (length c.args.words.now - 1) c.run-ran.new.lengths (omega (arith, c.run-ran.auto.lengths)))
 
 count-unknown-requires : tie.Need-count_unknown-unknown-requires
-count-unknown-requires c κs = short-take (length c.before.before.before.before.before.before.before.args.words.now - 1) _ (search rules)
+count-unknown-requires c κs = short-take (length c.args.words.now - 1) _ (search rules)
 
 sentence-line-requires : tie.Need-sentence_line-requires
 sentence-line-requires c κs = search rules
@@ -41,10 +41,10 @@ sentence-line-requires c κs = search rules
 returns : tie.Need-returns
 returns c =
     let s = c.before.before.before.before.before.before.before.before.before.before.before in
-    let ran = c.before.before.before.before.before.before.before.run-ran in
+    let ran = c.run-ran in
     let r = c.sentence_line.ensures in
-    let unknown = c.before.before.before.count_unknown-unknown.ensures ∙ scored-unknown s.requires.0 _ s.requires.1.1 refl refl ran.ensures.0 (length s.args.words.now - 1) (omega arith) in
-    let total = to_z-of_z (sfits_of c.before.struct_told-1.given.1.1.0.1) ∙ scored-total s.requires.0 _ s.requires.1.1 refl refl ran.ensures.0 in
+    let unknown = c.count_unknown-unknown.ensures ∙ scored-unknown s.requires.0 _ s.requires.1.1 refl refl ran.ensures.0 (length s.args.words.now - 1) (omega arith) in
+    let total = to_z-of_z (sfits_of c.struct_told-1.given.1.1.0.1) ∙ scored-total s.requires.0 _ s.requires.1.1 refl refl ran.ensures.0 in
     let q = ap₂ (λ (u : ℕ) (t : ℤ). sentence_line s.args.number s.args.n u t) unknown total in
     (r.0 ∙ ap length q, (r.1.0, r.1.1 ∙ ap (λ (l : List ℕ). written l s.args.out.now) q))
 

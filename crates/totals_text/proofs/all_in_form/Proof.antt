@@ -25,11 +25,11 @@ abbrev decreases-loop : tie.decreases-loop-i
 decreases-loop line width count least i₀ i = count - i
 
 loop-holds : tie.Need-loop-i-init invariant-loop decreases-loop
-loop-holds c = (search rules, ap (all_in_form (to_z w32 (of_z w32 c.before.args.least))) (columns-start c.before.args.width c.before.args.line.now c.before.args.count))
+loop-holds c = (search rules, ap (all_in_form (to_z w32 (of_z w32 c.args.least))) (columns-start c.args.width c.args.line.now c.args.count))
 
 -- the column at i ends within the columns
 inside : (c : tie.In-loop-i invariant-loop decreases-loop) → let a = c.before.before.before.args in a.width * c.before.loop-i.i + a.width ≤ a.width * a.count
-inside c = let a = c.before.before.before.args in column-end a.width a.count c.before.loop-i.i c.loop-i-test.true
+inside c = let a = c.args in column-end a.width a.count c.loop-i.i c.loop-i-test.true
 
 mul_at : tie.Need-overflow_mul-at invariant-loop decreases-loop
 mul_at c = omega (arith, inside c)
@@ -50,29 +50,29 @@ read-column-requires : tie.Need-read_column-requires invariant-loop decreases-lo
 read-column-requires c κs = search rules
 
 abbrev low : tie.After-read_column invariant-loop decreases-loop → ℤ
-low c = to_z w32 (of_z w32 c.before.before.before.before.before.args.least)
+low c = to_z w32 (of_z w32 c.args.least)
 
 -- the columns behind the one that was read
 abbrev later : tie.After-read_column invariant-loop decreases-loop → List Column
 later c =
     let l = c.before.before.before in
-    let a = l.before.before.args in
+    let a = l.args in
     columns a.width (a.count - (l.loop-i.i + 1)) (drop (a.width * (l.loop-i.i + 1)) a.line.now)
 
 -- what was read stands first among the columns that are left
-told : (c : tie.After-read_column invariant-loop decreases-loop) → all_in_form (low c) (columns c.before.before.before.before.before.args.width c.before.before.before.before.before.args.count c.before.before.before.before.before.args.line.now) ≡ all_in_form (low c) (c.read_column.result ∷ later c)
+told : (c : tie.After-read_column invariant-loop decreases-loop) → all_in_form (low c) (columns c.args.width c.args.count c.args.line.now) ≡ all_in_form (low c) (c.read_column.result ∷ later c)
 told c =
     let l = c.before.before.before in
-    let a = l.before.before.args in
+    let a = l.args in
     l.loop-i.invariant.1
-    ∙ ap (all_in_form (low c)) (columns-step a.width a.line.now a.count l.loop-i.i c.before.before.loop-i-test.true ∙ ap {B = List Column} (λ x. x ∷ later c) (sym c.read_column.ensures.0))
+    ∙ ap (all_in_form (low c)) (columns-step a.width a.line.now a.count l.loop-i.i c.loop-i-test.true ∙ ap {B = List Column} (λ x. x ∷ later c) (sym c.read_column.ensures.0))
 
-turn : (c : tie.After-read_column invariant-loop decreases-loop) → all_in_form c.before.before.before.before.before.args.least (columns c.before.before.before.before.before.args.width c.before.before.before.before.before.args.count c.before.before.before.before.before.args.line.now) ≡ all_in_form (low c) (c.read_column.result ∷ later c)
+turn : (c : tie.After-read_column invariant-loop decreases-loop) → all_in_form c.args.least (columns c.args.width c.args.count c.args.line.now) ≡ all_in_form (low c) (c.read_column.result ∷ later c)
 turn c =
     let s = c.before.before.before.before.before in
     ap (λ (y : ℤ). all_in_form y (columns s.args.width s.args.count s.args.line.now)) (sym (to_z-of_z s.ranges.least)) ∙ told c
 
-z_fits : (c : tie.In-Number invariant-loop decreases-loop) → SFits w32 c.before.z-1.given.0.0
+z_fits : (c : tie.In-Number invariant-loop decreases-loop) → SFits w32 c.in-Number.z
 z_fits c = search rules
 
 enum-known-z : tie.Need-enum_known-z invariant-loop decreases-loop
@@ -84,16 +84,16 @@ enum_told c = search rules
 returns : tie.Need-returns-in_default invariant-loop decreases-loop
 unfolding all_in_form in_form
 returns c =
-    let r = c.before.before in
-    sym (turn r ∙ ap (λ (x : Column). all_in_form (low r) (x ∷ later r)) c.enum_told-1.given.1)
+    let r = c.before in
+    sym (turn r ∙ ap (λ (x : Column). all_in_form (low r) (x ∷ later r)) c.in_default.is)
 
 returns_2 : tie.Need-returns-then-z-least invariant-loop decreases-loop
 unfolding all_in_form in_form
 returns_2 c =
-    let r = c.before.before.before.before in
+    let r = c.before.before in
     let f = z_fits c.before in
-    let e : le_z (low r) c.before.before.z-1.given.0.0 ≡ false = omega zarith in
-    sym (turn r ∙ ap (λ (x : Column). all_in_form (low r) (x ∷ later r)) c.before.before.z-1.given.1 ∙ rw e refl)
+    let e : le_z (low r) c.in-Number.z ≡ false = omega zarith in
+    sym (turn r ∙ ap (λ (x : Column). all_in_form (low r) (x ∷ later r)) c.in-Number.is ∙ rw e refl)
 
 add-i : tie.Need-overflow_add-i invariant-loop decreases-loop
 add-i c = search rules
@@ -104,17 +104,17 @@ loop-less c = search rules
 loop-again : tie.Need-loop-i-preserved invariant-loop decreases-loop
 unfolding all_in_form in_form
 loop-again c =
-    let r = c.before.before.before.before in
+    let r = c.before.before in
     let f = z_fits c.before in
-    let e : le_z (low r) c.before.before.z-1.given.0.0 ≡ true = omega zarith in
-    (search rules, told r ∙ ap (λ (x : Column). all_in_form (low r) (x ∷ later r)) c.before.before.z-1.given.1 ∙ rw e refl)
+    let e : le_z (low r) c.in-Number.z ≡ true = omega zarith in
+    (search rules, told r ∙ ap (λ (x : Column). all_in_form (low r) (x ∷ later r)) c.in-Number.is ∙ rw e refl)
 
 returns_3 : tie.Need-returns invariant-loop decreases-loop
 unfolding all_in_form
 returns_3 c =
     let l = c.before in
-    let a = l.before.before.args in
-    sym (ap (λ (y : ℤ). all_in_form y (columns a.width a.count a.line.now)) (sym (to_z-of_z l.before.before.ranges.least)) ∙ l.loop-i.invariant.1
+    let a = l.args in
+    sym (ap (λ (y : ℤ). all_in_form y (columns a.width a.count a.line.now)) (sym (to_z-of_z l.ranges.least)) ∙ l.loop-i.invariant.1
     ∙ ap (all_in_form (to_z w32 (of_z w32 a.least))) (columns-none a.width a.line.now a.count l.loop-i.i c.loop-i-test.false))
 
 pub all_in_form_spec : {M : Type 1} → statement M

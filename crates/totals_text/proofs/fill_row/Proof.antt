@@ -19,12 +19,12 @@ decreases-loop line width count row₀ i₀ row i = count - i
 
 loop-holds : tie.Need-loop-i-init invariant-loop decreases-loop
 loop-holds c =
-    let a = c.before.args in
+    let a = c.args in
     fill_start column_value a.width a.line.now a.count a.row.now
 
 -- the column at i ends within the columns
 inside : (c : tie.In-loop-i invariant-loop decreases-loop) → let a = c.before.before.before.args in a.width * c.before.loop-i.i + a.width ≤ a.width * a.count
-inside c = let a = c.before.before.before.args in column-end a.width a.count c.before.loop-i.i c.loop-i-test.true
+inside c = let a = c.args in column-end a.width a.count c.loop-i.i c.loop-i-test.true
 
 mul_at : tie.Need-overflow_mul-at invariant-loop decreases-loop
 mul_at c = omega (arith, inside c)
@@ -62,16 +62,16 @@ loop-less c = omega arith
 loop-again : tie.Need-loop-i-preserved invariant-loop decreases-loop
 loop-again c =
     let l = c.before.before.before in
-    let a = l.before.before.args in
-    fill_step column_value a.width a.line.now a.count a.row.now l.loop-i.row l.loop-i.i (to_z w32 (of_z w32 c.number_in.result)) c.before.before.loop-i-test.true (to_z-of_z (number_fits c) ∙ c.number_in.ensures) l.loop-i.invariant
+    let a = l.args in
+    fill_step column_value a.width a.line.now a.count a.row.now l.loop-i.row l.loop-i.i (to_z w32 (of_z w32 c.number_in.result)) c.loop-i-test.true (to_z-of_z (number_fits c) ∙ c.number_in.ensures) l.loop-i.invariant
 
 same_length : tie.Need-shape_of-row invariant-loop decreases-loop
-same_length c = c.before.loop-i.invariant.long
+same_length c = c.loop-i.invariant.long
 
 returns : tie.Need-returns invariant-loop decreases-loop
 returns c =
     let l = c.before in
-    let a = l.before.before.args in
+    let a = l.args in
     fill_end column_value a.width a.line.now a.count a.row.now l.loop-i.row l.loop-i.i c.loop-i-test.false l.loop-i.invariant
 
 pub fill_row_spec : {M : Type 1} → statement M

@@ -15,12 +15,12 @@ decreases-loop line width count words₀ i₀ words i = count - i
 
 loop-holds : tie.Need-loop-i-init invariant-loop decreases-loop
 loop-holds c =
-    let a = c.before.before.args in
+    let a = c.args in
     fill_start word_of a.width a.line.now a.count a.words.now
 
 -- the column at i ends within the columns
 inside : (c : tie.In-loop-i invariant-loop decreases-loop) → let a = c.before.before.before.before.args in a.width * c.before.loop-i.i + a.width ≤ a.width * a.count
-inside c = let a = c.before.before.before.before.args in column-end a.width a.count c.before.loop-i.i c.loop-i-test.true
+inside c = let a = c.args in column-end a.width a.count c.loop-i.i c.loop-i-test.true
 
 mul_at : tie.Need-overflow_mul-at invariant-loop decreases-loop
 mul_at c = omega (arith, inside c)
@@ -55,16 +55,16 @@ loop-less c = omega arith
 loop-again : tie.Need-loop-i-preserved invariant-loop decreases-loop
 loop-again c =
     let l = c.before.before.before in
-    let a = l.before.before.before.args in
-    fill_step word_of a.width a.line.now a.count a.words.now l.loop-i.words l.loop-i.i c.word_in.result c.before.before.loop-i-test.true c.word_in.ensures l.loop-i.invariant
+    let a = l.args in
+    fill_step word_of a.width a.line.now a.count a.words.now l.loop-i.words l.loop-i.i c.word_in.result c.loop-i-test.true c.word_in.ensures l.loop-i.invariant
 
 same_length : tie.Need-shape_of-words invariant-loop decreases-loop
-same_length c = c.before.loop-i.invariant.long
+same_length c = c.loop-i.invariant.long
 
 returns : tie.Need-returns invariant-loop decreases-loop
 returns c =
     let l = c.before in
-    let a = l.before.before.before.args in
+    let a = l.args in
     fill_end word_of a.width a.line.now a.count a.words.now l.loop-i.words l.loop-i.i c.loop-i-test.false l.loop-i.invariant
 
 pub fill_words_spec : {M : Type 1} → statement M

@@ -8,7 +8,7 @@ use borrow.Author.Rules.{rules}
 use Rattle.totals_text.proofs.number_in.Statement.{statement}
 use Rattle.totals_text.proofs.number_in.Tie as tie
 
-z_fits : (c : tie.In-Number) → SFits w32 c.before.z-1.given.0.0
+z_fits : (c : tie.In-Number) → SFits w32 c.in-Number.z
 z_fits c = search rules
 
 read-column-requires : tie.Need-read_column-requires
@@ -23,12 +23,12 @@ enum_told c = search rules
 returns : tie.Need-returns-in-Number
 unfolding column_value
 returns c =
-    let r = c.before.before.before in
-    to_z-of_z (z_fits c) ∙ sym (ap column_value (sym r.read_column.ensures.0 ∙ c.before.z-1.given.1))
+    let r = c.before in
+    to_z-of_z (z_fits c) ∙ sym (ap column_value (sym r.read_column.ensures.0 ∙ c.in-Number.is))
 
 returns_2 : tie.Need-returns-in-NotInForm
 unfolding column_value
-returns_2 c = sym (ap column_value (sym c.before.before.read_column.ensures.0 ∙ c.enum_told-1.given.1))
+returns_2 c = sym (ap column_value (sym c.read_column.ensures.0 ∙ c.in-NotInForm.is))
 
 pub number_in_spec : {M : Type 1} → statement M
 number_in_spec = tie.close (tie.spec

@@ -12,7 +12,7 @@ use Rattle.totals_text.proofs.put_total.Statement.{statement}
 use Rattle.totals_text.proofs.put_total.Tie as tie
 
 -- what is written is the total in its column
-written : (c : tie.After-magnitude-size) → justified 16 (signed (lt_z (to_z w64 (of_z w64 c.before.before.args.total)) (pos 0)) c.magnitude-size.result) ≡ column 16 c.before.before.args.total
+written : (c : tie.After-magnitude-size) → justified 16 (signed (lt_z (to_z w64 (of_z w64 c.args.total)) (pos 0)) c.magnitude-size.result) ≡ column 16 c.args.total
 written c =
     let s = c.before.before in
     rw (to_z-of_z s.ranges.total, c.magnitude-size.ensures, to_z-of_z s.ranges.total) (sym (column-signed 16 s.args.total))
@@ -21,7 +21,7 @@ magnitude-requires : tie.Need-magnitude-size-requires
 magnitude-requires c κs = search rules
 
 put-column-requires : tie.Need-put_column-requires
-put-column-requires c κs = rw (written c.before) c.before.before.before.requires
+put-column-requires c κs = rw (written c.before) c.requires
 
 same_length : tie.Need-shape_of-out
 same_length c = search rules

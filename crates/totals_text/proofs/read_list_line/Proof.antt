@@ -27,13 +27,13 @@ refused line row e = (sym e, (rw e refl, rw e at (list_line_means line row)))
 accepted : (line : List ℕ) (row₀ row : List ℤ) → is_list_line line ≡ true → row ≡ list_row line → Settled line row₀ true row
 accepted line row₀ row e f = (sym e, (rw e f, subst (ListLineMeans line true) (sym f) (rw e at (list_line_means line row₀))))
 
-eight : (c : tie.After-fill_row-arg-1) → length c.before.before.before.before.before.args.row.now ≡ 8
+eight : (c : tie.After-fill_row-arg-1) → length c.args.row.now ≡ 8
 eight c = search rules
 
 returns : tie.Need-returns-then-line-ne-LIST_LINE
 unfolding is_list_line
 returns c =
-    let a = c.before.before.args in
+    let a = c.args in
     refused a.line.now a.row.now (rw (ne_eqb (length a.line.now) (8 * list_width) c.if-line-ne-LIST_LINE.true) refl)
 
 all-in-form-requires : tie.Need-all_in_form-requires
@@ -43,8 +43,8 @@ returns_2 : tie.Need-returns-then-not-all_in_form
 unfolding is_list_line
 returns_2 c =
     let f = c.before in
-    let a = f.before.before.before.args in
-    refused a.line.now a.row.now (and_no (eqb (length a.line.now) (8 * list_width)) (all_in_form least_number (columns list_width 8 a.line.now)) (sym f.all_in_form.ensures ∙ not-true _ c.if-not-all_in_form.true))
+    let a = f.args in
+    refused a.line.now a.row.now (and_no (eqb (length a.line.now) (8 * list_width)) (all_in_form least_number (columns list_width 8 a.line.now)) (sym f.all_in_form.ensures ∙ c.if-not-all_in_form.true))
 
 fill-row-requires : tie.Need-fill_row-requires
 fill-row-requires c κs = search rules
@@ -57,8 +57,8 @@ returns_3 c =
     let b = f.before in
     let s = b.before.before in
     let line = s.args.line.now in
-    accepted line s.args.row.now c.fill_row.new.1.1.1.0
-    (and_both (eqb (length line) (8 * list_width)) (all_in_form least_number (columns list_width 8 line)) (eq-eqb (length line) (8 * list_width) b.if-line-ne-LIST_LINE.false) (sym f.all_in_form.ensures ∙ not-false _ t.if-not-all_in_form.false))
+    accepted line s.args.row.now c.fill_row.new.row
+    (and_both (eqb (length line) (8 * list_width)) (all_in_form least_number (columns list_width 8 line)) (eq-eqb (length line) (8 * list_width) b.if-line-ne-LIST_LINE.false) (sym f.all_in_form.ensures ∙ t.if-not-all_in_form.false))
     (c.fill_row.ensures ∙ sets-whole s.args.row.now (list_row line) (list_line_length line ∙ sym (eight c.before)))
 
 pub read_list_line_spec : {M : Type 1} → statement M

@@ -29,20 +29,20 @@ unfolding text_answer
 accepted line words₀ words e f =
     (rw (e, length-words line) refl, (rw e f, subst (TextLineMeans line (Words (length line / text_width))) (sym f) (rw (e, length-words line) at (text_line_means line words₀))))
 
-room : (c : tie.After-fill_words-arg-1) → length c.before.before.before.before.before.before.args.words.now ≡ 65
+room : (c : tie.After-fill_words-arg-1) → length c.args.words.now ≡ 65
 room c = search rules
 
 returns : tie.Need-returns-then-line-gt-LONGEST_TEXT
 unfolding is_text_line
 returns c =
-    let a = c.before.before.args in
+    let a = c.args in
     refused a.line.now a.words.now (rw (lt-leb (length a.line.now) (64 * text_width) c.if-line-gt-LONGEST_TEXT.true) refl)
 
 returns_2 : tie.Need-returns-then-line-ne0
 unfolding is_text_line
 returns_2 c =
-    let a = c.before.before.before.args in
-    refused a.line.now a.words.now (rw (le-leb (length a.line.now) (64 * text_width) c.before.if-line-gt-LONGEST_TEXT.false, ne_eqb (length a.line.now % text_width) 0 c.if-line-ne0.true) refl)
+    let a = c.args in
+    refused a.line.now a.words.now (rw (le-leb (length a.line.now) (64 * text_width) c.if-line-gt-LONGEST_TEXT.false, ne_eqb (length a.line.now % text_width) 0 c.if-line-ne0.true) refl)
 
 all-in-form-requires : tie.Need-all_in_form-requires
 all-in-form-requires c κs = search rules
@@ -55,7 +55,7 @@ returns_3 c =
     let s = b.before.before.before in
     let line = s.args.line.now in
     refused line s.args.words.now
-    (rw (le-leb (length line) (64 * text_width) b.before.if-line-gt-LONGEST_TEXT.false, eq-eqb (length line % text_width) 0 b.if-line-ne0.false) (sym f.all_in_form.ensures ∙ not-true _ c.if-not-all_in_form.true))
+    (rw (le-leb (length line) (64 * text_width) b.if-line-gt-LONGEST_TEXT.false, eq-eqb (length line % text_width) 0 b.if-line-ne0.false) (sym f.all_in_form.ensures ∙ c.if-not-all_in_form.true))
 
 fill-words-requires : tie.Need-fill_words-requires
 fill-words-requires c κs = search rules
@@ -71,8 +71,8 @@ returns-4 c =
     let b = f.before in
     let s = b.before.before.before in
     let line = s.args.line.now in
-    accepted line s.args.words.now c.fill_words.new.1.1.1.0
-    (rw (le-leb (length line) (64 * text_width) b.before.if-line-gt-LONGEST_TEXT.false, eq-eqb (length line % text_width) 0 b.if-line-ne0.false) (sym f.all_in_form.ensures ∙ not-false _ t.if-not-all_in_form.false))
+    accepted line s.args.words.now c.fill_words.new.words
+    (rw (le-leb (length line) (64 * text_width) b.if-line-gt-LONGEST_TEXT.false, eq-eqb (length line % text_width) 0 b.if-line-ne0.false) (sym f.all_in_form.ensures ∙ t.if-not-all_in_form.false))
     (c.fill_words.ensures ∙ sets-written s.args.words.now (text_words line) (omega (arith, length-words line, room c.before)))
 
 pub read_text_line_spec : {M : Type 1} → statement M

@@ -22,10 +22,10 @@ short s =
     )
 
 -- the place behind the total
-place : (c : tie.After-put_total-end) → c.put_total-end.result ≡ length (count_columns c.before.before.before.before.args.number c.before.before.before.before.args.words c.before.before.before.before.args.unknown) + length (column 16 c.before.before.before.before.args.total)
+place : (c : tie.After-put_total-end) → c.put_total-end.result ≡ length (count_columns c.args.number c.args.words c.args.unknown) + length (column 16 c.args.total)
 place c =
     let p = c.before.before in
-    c.put_total-end.ensures.0 ∙ rw (to_z-of_z p.before.before.ranges.total, p.put_counts-at.ensures.0) refl
+    c.put_total-end.ensures.0 ∙ rw (to_z-of_z p.ranges.total, p.put_counts-at.ensures.0) refl
 
 within : (c : tie.After-put_total-end) → c.put_total-end.result < 63
 within c =
@@ -41,29 +41,30 @@ put-total-requires : tie.Need-put_total-end-requires
 put-total-requires c κs =
     let s = c.before.before.before in
     let h = short s in
-    rw (to_z-of_z s.ranges.total) (omega (arith, length-total s.ranges.total, c.before.put_counts-at.ensures.0, c.before.put_counts-at.auto.1.1.1.0))
+    rw (to_z-of_z s.ranges.total) (omega (arith, length-total s.ranges.total, c.put_counts-at.ensures.0, c.put_counts-at.auto.out))
 
 element-write-out : tie.Need-bounds-out-end
-element-write-out c = let h = within c in omega arith
+element-write-out c = let h = within c.before in omega arith
 
 add-result : tie.Need-overflow_add-result
-add-result c = let h = within c in omega arith
+add-result c = let h = within c.before in omega arith
 
 returns : tie.Need-returns
 unfolding sentence_line
 returns c =
-    let p = c.before.before in
+    let q = c.before in
+    let p = q.before.before in
     let s = p.before.before in
     let a = s.args in
     let counts = count_columns a.number a.words a.unknown in
     let n = length-sentence a.number a.words a.unknown a.total in
-    let h = within c in (
-      omega (arith, place c, n),
+    let h = within q in (
+      omega (arith, place q, n),
       (
         omega arith,
-        rw (place c, c.put_total-end.ensures.1, p.put_counts-at.ensures.1, p.put_counts-at.ensures.0, to_z-of_z s.ranges.total)
+        rw (place q, q.put_total-end.ensures.1, p.put_counts-at.ensures.1, p.put_counts-at.ensures.0, to_z-of_z s.ranges.total)
             (front-two a.out.now counts (column 16 a.total) 10)
-            ∙ sets-written a.out.now (sentence_line a.number a.words a.unknown a.total) (omega (arith, n, place c)),
+            ∙ sets-written a.out.now (sentence_line a.number a.words a.unknown a.total) (omega (arith, n, place q)),
       ),
     )
 

@@ -25,13 +25,13 @@ cast-result c = let f = z_fits c.before in to_nat tt f (omega zarith)
 returns : tie.Need-returns-then-z-lt0
 returns c =
     let n = c.before in
-    sym (word-negative (read_column n.before.before.args.width n.before.before.args.text.now) (ap (λ (z : ℤ). lt_z z (pos 0)) (sym (to_z-of_z (z_fits n) ∙ n.number_in-z.ensures)) ∙ c.if-z-lt0.true))
+    sym (word-negative (read_column n.args.width n.args.text.now) (ap (λ (z : ℤ). lt_z z (pos 0)) (sym (to_z-of_z (z_fits n) ∙ n.number_in-z.ensures)) ∙ c.if-z-lt0.true))
 
 returns_2 : tie.Need-returns-else-z-lt0
 returns_2 c =
     let n = c.before in
     let e = to_z-of_z (z_fits n) ∙ n.number_in-z.ensures in
-    ap nat_abs e ∙ sym (word-natural (read_column n.before.before.args.width n.before.before.args.text.now) (ap (λ (z : ℤ). lt_z z (pos 0)) (sym e) ∙ c.if-z-lt0.false))
+    ap nat_abs e ∙ sym (word-natural (read_column n.args.width n.args.text.now) (ap (λ (z : ℤ). lt_z z (pos 0)) (sym e) ∙ c.if-z-lt0.false))
 
 pub word_in_spec : {M : Type 1} → statement M
 word_in_spec = tie.close (tie.spec number-in-requires cast-result returns returns_2)

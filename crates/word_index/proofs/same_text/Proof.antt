@@ -43,7 +43,7 @@ returns c =
     (other_length text (text_of store k)
     (λ e. c.if-text-n.true (e ∙ text-length store k s.requires.0 s.requires.1)))
 
-has-length : (c : tie.Else-text-n invariant-loop decreases-loop) → length c.before.before.args.text.now ≡ get_or c.before.before.args.store.now (64 * c.before.before.args.k) 0
+has-length : (c : tie.Else-text-n invariant-loop decreases-loop) → length c.args.text.now ≡ get_or c.args.store.now (64 * c.args.k) 0
 has-length c = c.if-text-n.false
 
 loop-holds : tie.Need-loop-i-init invariant-loop decreases-loop
@@ -64,7 +64,7 @@ returns_2 c =
     let s = l.before.before.before in
     sym
     (l.loop-i.invariant.1
-    ∙ same_byte s.args.text.now s.args.store.now s.args.k l.loop-i.i s.requires.0 s.requires.1 (has-length l.before) c.before.before.before.loop-i-test.true
+    ∙ same_byte s.args.text.now s.args.store.now s.args.k l.loop-i.i s.requires.0 s.requires.1 (has-length l.before) c.loop-i-test.true
     ∙ rw (ne_eqb _ _ c.if-text-i.true) refl)
 
 add-i : tie.Need-overflow_add-i invariant-loop decreases-loop
@@ -79,7 +79,7 @@ loop-again c =
     let s = l.before.before.before in (
       omega arith,
       l.loop-i.invariant.1
-          ∙ same_byte s.args.text.now s.args.store.now s.args.k l.loop-i.i s.requires.0 s.requires.1 (has-length l.before) c.before.before.before.loop-i-test.true
+          ∙ same_byte s.args.text.now s.args.store.now s.args.k l.loop-i.i s.requires.0 s.requires.1 (has-length l.before) c.loop-i-test.true
           ∙ rw (eq-eqb _ _ c.if-text-i.false) refl,
     )
 

@@ -34,29 +34,29 @@ answer : (s : tie.Start) (walked : Walked) {r : Stepped} → s.args.walked ≡ w
 answer s walked e q = rw e q
 
 returns : tie.Need-returns-in_default
-returns c = answer c.before.before Stuck c.enum_told-1.given.1 refl
+returns c = answer c.before Stuck c.in_default.is refl
 
 -- what the walk has read
-abbrev points : tie.In-Whole-2 → ℤ
-points c = c.walked-1.given.0.0
+abbrev points : tie.In-Whole → ℤ
+points c = c.in-Whole.points
 
-abbrev passed : tie.In-Whole-2 → ℕ
-passed c = c.walked-1.given.0.1.0
+abbrev passed : tie.In-Whole → ℕ
+passed c = c.in-Whole.passed
 
-abbrev kept : tie.In-Whole-2 → Kept
-kept c = c.walked-1.given.0.1.1.0
+abbrev kept : tie.In-Whole → Kept
+kept c = c.in-Whole.kept
 
-abbrev extended : tie.In-Whole-2 → Bool
-extended c = c.walked-1.given.0.1.1.1.0
+abbrev extended : tie.In-Whole → Bool
+extended c = c.in-Whole.extended
 
-answerable : (c : tie.In-Whole-2) → Answerable c.before.before.args.word (Whole (points c) (passed c) (kept c) (extended c))
-answerable c = subst (Answerable c.before.before.args.word) c.walked-1.given.1 c.before.before.requires
+answerable : (c : tie.In-Whole) → Answerable c.args.word (Whole (points c) (passed c) (kept c) (extended c))
+answerable c = subst (Answerable c.args.word) c.in-Whole.is c.requires
 
 cast-kind-of : tie.Need-overflow_cast-passed
-cast-kind-of c = omega (arith, (answerable c.before).1)
+cast-kind-of c = omega (arith, (answerable c).1)
 
 add-kind-of : tie.Need-overflow_add-passed
-add-kind-of c = omega (arith, (answerable c.before).1)
+add-kind-of c = omega (arith, (answerable c).1)
 
 kind-of-requires : tie.Need-kind_of-kind-requires
 kind-of-requires c κs = search rules
@@ -64,27 +64,27 @@ kind-of-requires c κs = search rules
 mul-t14 : tie.Need-overflow_mul-next
 mul-t14 c = search rules
 
-word-high : (c : tie.In-Whole-2) → c.before.before.args.word ≤ word_limit
+word-high : (c : tie.In-Whole) → c.args.word ≤ word_limit
 unfolding is_word
 word-high c =
-    let v = c.before.before.args.word in
+    let v = c.args.word in
     leb-true v word_limit (and_right (leb 1 v) (leb v word_limit) (answerable c).0)
 
 add-t16 : tie.Need-overflow_add-next
-add-t16 c = omega (arith, word-high c.before.before)
+add-t16 c = omega (arith, word-high c.before)
 
-points-fits : (c : tie.In-Whole) → SFits w32 (points c.before)
-points-fits c = sfits_of c.known_told-1.given.0.1
+points-fits : (c : tie.In-Whole) → SFits w32 (points c)
+points-fits c = sfits_of c.in-Whole.known_told-1-own.given.0.1
 
-owed-fits : (c : tie.In-Whole) → SFits w32 (kept c.before).owed
+owed-fits : (c : tie.In-Whole) → SFits w32 (kept c).owed
 owed-fits c = search rules
 
 returns_2 : tie.Need-returns
 returns_2 c =
     let k = c.before.before in
-    let m = k.before in
-    answer m.before.before (Whole (points m) (passed m) (kept m) (extended m)) m.walked-1.given.1
-    (λ i. Scored (record { kind = c.before.kind_of-kind.ensures i; points = to_z-of_z (points-fits k) i; extended = extended m }) (record { count = (kept m).count; words = pushed m.before.before.args.word m.before.before.args.words; owed = to_z-of_z (owed-fits k) i }))
+    let m = k in
+    answer m.before (Whole (points m) (passed m) (kept m) (extended m)) m.in-Whole.is
+    (λ i. Scored (record { kind = c.kind_of-kind.ensures i; points = to_z-of_z (points-fits k) i; extended = extended m }) (record { count = (kept m).count; words = pushed m.args.word m.args.words; owed = to_z-of_z (owed-fits k) i }))
 
 pub answered_spec : {M : Type 1} → statement M
 answered_spec =

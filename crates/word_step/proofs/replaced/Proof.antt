@@ -40,16 +40,16 @@ w_few : (s : tie.Start) → s.args.w < 4294967296
 w_few s = search rules
 
 mul-result : tie.Need-overflow_mul-result
-mul-result c = omega (arith, times-few c.before.before.args.w 4294967296 c.is_child-known.result (w_few c.before.before))
+mul-result c = omega (arith, times-few c.args.w 4294967296 c.is_child-known.result (w_few c.before.before))
 
 sub-result : tie.Need-overflow_sub-result
 sub-result c = bit-few c.is_child-known.result
 
 add-result : tie.Need-overflow_add-result
-add-result c = omega (arith, chosen_few c.before.before.args.w 4294967296 c.is_child-known.result (w_few c.before.before) (omega arith))
+add-result c = omega (arith, chosen_few c.args.w 4294967296 c.is_child-known.result (w_few c.before.before) (omega arith))
 
 returns : tie.Need-returns
-returns c = chosen _ c.is_child-known.result ∙ ap (λ (b : Bool). cond b c.before.before.args.w unknown_word) (c.is_child-known.ensures ∙ ap (λ (k : Child). is_child k) c.before.root_child-child.ensures)
+returns c = chosen _ c.is_child-known.result ∙ ap (λ (b : Bool). cond b c.args.w unknown_word) (c.is_child-known.ensures ∙ ap (λ (k : Child). is_child k) c.root_child-child.ensures)
 
 pub replaced_spec : {M : Type 1} → statement M
 replaced_spec =

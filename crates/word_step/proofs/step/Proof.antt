@@ -27,22 +27,22 @@ enum_told c = search rules
 
 returns : tie.Need-returns-in_default
 returns c w e =
-    let f = c.before.before in
+    let f = c.before in
     let s = f.before in
-    refused (missing_refused s.args.base.now s.args.check.now s.requires.0 w s.args.word e (held_in s.args.carried s.args.backoffs.now) (sym f.root_child.ensures ∙ c.enum_told-1.given.1))
+    refused (missing_refused s.args.base.now s.args.check.now s.requires.0 w s.args.word e (held_in s.args.carried s.args.backoffs.now) (sym f.root_child.ensures ∙ c.in_default.is))
 
 -- the first node: the slot of the root's child for the word that is scored
-abbrev slot : tie.In-At-2 → ℕ
-slot c = c.slot-1.given.0.0
+abbrev slot : tie.In-At → ℕ
+slot c = c.in-At.slot
 
-abbrev word : tie.In-At-2 → ℕ
-word c = c.before.before.before.args.word
+abbrev word : tie.In-At → ℕ
+word c = c.args.word
 
-child-is : (c : tie.In-At-2) → child_at c.before.before.before.args.base.now c.before.before.before.args.check.now 0 (word c) ≡ At (slot c)
+child-is : (c : tie.In-At) → child_at c.args.base.now c.args.check.now 0 (word c) ≡ At (slot c)
 child-is c =
-    let f = c.before.before in
+    let f = c.before in
     let s = f.before in
-    sym (root-child s.args.base.now s.args.check.now s.requires.0 (word c)) ∙ sym f.root_child.ensures ∙ c.slot-1.given.1
+    sym (root-child s.args.base.now s.args.check.now s.requires.0 (word c)) ∙ sym f.root_child.ensures ∙ c.in-At.is
 
 -- the state that was given, by the array's own order
 held : (s : tie.Start) → Carries (order_in s.args.check.now) s.args.carried s.args.backoffs.now
@@ -50,17 +50,17 @@ held s = rw s.requires.1.0 at s.requires.1.1
 
 walk-requires : tie.Need-walk-reached-requires
 walk-requires c κs =
-    let t = c.before.before in
-    let s = t.before.before.before in
+    let t = c.before in
+    let s = t.before.before in
     let z = opened-sizes s.args.base.now s.args.check.now s.requires.0 in
     (s.requires.0, (omega (arith, child-inside s.args.base.now s.args.check.now 0 (word t) (slot t) (child-is t)), held s))
 
 -- the walk's first node
-abbrev begun : tie.After-walk-reached → tie.In-At-2
-begun c = c.before.before.before
+abbrev begun : tie.After-walk-reached → tie.In-At
+begun c = c.before.before
 
 abbrev start : tie.After-walk-reached → tie.Start
-start c = (begun c).before.before.before
+start c = (begun c).before.before
 
 last-node-requires : tie.Need-last_node-walked-requires
 last-node-requires c κs =
@@ -73,7 +73,7 @@ abbrev walk : tie.After-last_node-walked → tie.After-walk-reached
 walk c = c.before.before
 
 abbrev backoffs : tie.After-last_node-walked → List ℤ
-backoffs c = c.last_node-walked.new.1.1.1.1.1.0
+backoffs c = c.last_node-walked.new.backoffs
 
 walked : (c : tie.After-last_node-walked) → WalkedOver (store_in (start (walk c)).args.base.now (start (walk c)).args.check.now) (held_in (start (walk c)).args.carried (start (walk c)).args.backoffs.now) (word (begun (walk c))) c.last_node-walked.result (backoffs c)
 walked c =

@@ -36,7 +36,7 @@ ended : (s : tie.Start) (m : Marker) {r : Walked} {bs : List ℤ} → s.args.mar
 ended s m e g h = rw e (g, h)
 
 returns : tie.Need-returns-in_default
-returns c = ended c.before.before Broken c.enum_told-1.given.1 refl refl
+returns c = ended c.before Broken c.in_default.is refl refl
 
 mul-b : tie.Need-offset_bounds-backoffs-passed
 mul-b c = search rules
@@ -48,34 +48,34 @@ add-longest-live : tie.Need-overflow_add-passed
 add-longest-live c = search rules
 
 -- what the marker holds
-abbrev p : tie.In-Sound-2 → ℤ
-p c = c.marker-1.given.0.0
+abbrev p : tie.In-Sound → ℤ
+p c = c.in-Sound.p
 
-abbrev b : tie.In-Sound-2 → ℤ
-b c = c.marker-1.given.0.1.0
+abbrev b : tie.In-Sound → ℤ
+b c = c.in-Sound.b
 
-abbrev e : tie.In-Sound-2 → Bool
-e c = c.marker-1.given.0.1.1.0
+abbrev e : tie.In-Sound → Bool
+e c = c.in-Sound.e
 
-abbrev f : tie.In-Sound-2 → Bool
-f c = c.marker-1.given.0.1.1.1.0
+abbrev f : tie.In-Sound → Bool
+f c = c.in-Sound.f
 
-in_range : (c : tie.In-Sound-2) → (in_probability (p c) ≡ true) × (in_backoff (b c) ≡ true)
-in_range c = subst (λ (m : Marker). InRange (look_marker m)) c.marker-1.given.1 c.before.before.requires.1.1
+in_range : (c : tie.In-Sound) → (in_probability (p c) ≡ true) × (in_backoff (b c) ≡ true)
+in_range c = subst (λ (m : Marker). InRange (look_marker m)) c.in-Sound.is c.requires.1.1
 
-p-fits : (c : tie.In-Sound) → SFits w32 (p c.before)
-p-fits c = sfits_of c.known_told-1.given.0.1
+p-fits : (c : tie.In-Sound) → SFits w32 (p c)
+p-fits c = sfits_of c.in-Sound.known_told-1-own.given.0.1
 
-b-fits : (c : tie.In-Sound) → SFits w32 (b c.before)
-b-fits c = sfits_of c.known_told-1.given.1.0.1
+b-fits : (c : tie.In-Sound) → SFits w32 (b c)
+b-fits c = sfits_of c.in-Sound.known_told-1-own.given.1.0.1
 
 sum_fits : (x y : ℤ) → nat_abs x ≤ 4 * largest_backoff → in_backoff y ≡ true → SFits w32 (x +ℤ y)
 sum_fits x y small in_backoff_lem = omega (zarith, backoff-size y in_backoff_lem, small, abs x, add x y)
 
 add-longest-live-2 : tie.Need-overflow_add-sum
 add-longest-live-2 c =
-    let s = c.before.before.before in
-    rw (to_z-of_z s.ranges.sum, to_z-of_z (b-fits c)) (sum_fits s.args.sum (b c.before) s.requires.1.0.1 (in_range c.before).1)
+    let s = c.before in
+    rw (to_z-of_z s.ranges.sum, to_z-of_z (b-fits c)) (sum_fits s.args.sum (b c) s.requires.1.0.1 (in_range c).1)
 
 longest-live-requires : tie.Need-longest_live-kept-requires
 longest-live-requires c κs = search rules
@@ -83,18 +83,18 @@ longest-live-requires c κs = search rules
 add-t15 : tie.Need-overflow_add-result
 add-t15 c =
     let k = c.before in
-    let s = k.before.before.before in
-    rw (to_z-of_z (p-fits k), to_z-of_z s.ranges.owed) (points_fit (p k.before) s.args.owed (in_range k.before).0 s.requires.1.0.0)
+    let s = k.before in
+    rw (to_z-of_z (p-fits k), to_z-of_z s.ranges.owed) (points_fit (p k) s.args.owed (in_range k).0 s.requires.1.0.0)
 
 returns_2 : tie.Need-returns
 returns_2 c =
     let k = c.before in
-    let m = k.before in
-    let s = m.before.before in
+    let m = k in
+    let s = m.before in
     let points = to_z-of_z (add-t15 c) ∙ ap₂ ◌+ℤ◌ (to_z-of_z (p-fits k)) (to_z-of_z s.ranges.owed) in
     let total = to_z-of_z (add-longest-live-2 k) ∙ ap₂ ◌+ℤ◌ (to_z-of_z s.ranges.sum) (to_z-of_z (b-fits k)) in
     let kept = c.longest_live-kept.ensures ∙ (λ i. longest_live s.args.kept (record { count = s.args.passed + 1; owed = total i }) (to_z-of_z (b-fits k) i) (f m)) in
-    ended s (Sound (p m) (b m) (e m) (f m)) m.marker-1.given.1
+    ended s (Sound (p m) (b m) (e m) (f m)) m.in-Sound.is
     (λ i. Whole (points i) s.args.passed (kept i) (e m))
     (ap (set s.args.backoffs.now s.args.passed) (to_z-of_z (b-fits k)))
 

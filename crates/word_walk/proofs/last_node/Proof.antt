@@ -34,64 +34,64 @@ enum-known-reached-2 c = search rules
 add-read-marker : tie.Need-overflow_add-count
 add-read-marker c = search rules
 
-abbrev slot : tie.In-Last-2 → ℕ
-slot c = c.reached-in-Last-1.given.0.0
+abbrev slot : tie.In-Last → ℕ
+slot c = c.in-Last.slot
 
-abbrev owed : tie.In-Last-2 → ℤ
-owed c = c.reached-in-Last-1.given.0.1.0
+abbrev owed : tie.In-Last → ℤ
+owed c = c.in-Last.owed
 
-abbrev sum : tie.In-Last-2 → ℤ
-sum c = c.reached-in-Last-1.given.0.1.1.0
+abbrev sum : tie.In-Last → ℤ
+sum c = c.in-Last.sum
 
-abbrev kept : tie.In-Last-2 → Kept
-kept c = c.reached-in-Last-1.given.0.1.1.1.0
+abbrev kept : tie.In-Last → Kept
+kept c = c.in-Last.kept
 
-abbrev start : tie.In-Last-2 → tie.Start
-start c = c.before.before
+abbrev start : tie.In-Last → tie.Start
+start c = c.before
 
-to_read : (c : tie.In-Last-2) → Readable (start c).args.base.now (Last (slot c) (owed c) (sum c) (kept c))
-to_read c = readable (start c) (Last (slot c) (owed c) (sum c) (kept c)) c.reached-in-Last-1.given.1
+to_read : (c : tie.In-Last) → Readable (start c).args.base.now (Last (slot c) (owed c) (sum c) (kept c))
+to_read c = readable (start c) (Last (slot c) (owed c) (sum c) (kept c)) c.in-Last.is
 
-owed-fits : (c : tie.In-Last) → SFits w32 (owed c.before)
-owed-fits c = sfits_of c.known_told-in-Last-1.given.1.0.1
+owed-fits : (c : tie.In-Last) → SFits w32 (owed c)
+owed-fits c = sfits_of c.in-Last.known_told-in-Last-1-own.given.1.0.1
 
-sum_fits : (c : tie.In-Last) → SFits w32 (sum c.before)
-sum_fits c = sfits_of c.known_told-in-Last-1.given.1.1.0.1
+sum_fits : (c : tie.In-Last) → SFits w32 (sum c)
+sum_fits c = sfits_of c.in-Last.known_told-in-Last-1-own.given.1.1.0.1
 
 read-marker-requires : tie.Need-read_marker-marker-requires
-read-marker-requires c κs = let s = start c.before in ((opened-sizes s.args.base.now s.args.check.now s.requires.0.0).same, ((to_read c.before).0, s.requires.0.1))
+read-marker-requires c κs = let s = start c in ((opened-sizes s.args.base.now s.args.check.now s.pre.0.0).same, ((to_read c).0, s.pre.0.1))
 
 end-walk-requires : tie.Need-end_walk-requires
 end-walk-requires c κs =
     let r = c.before in
     let k = r.before in
-    let s = start k.before in
-    let t = to_read k.before in
-    ((s.requires.1.0, s.requires.1.1), ((rw (to_z-of_z (owed-fits k)) t.1, rw (to_z-of_z (sum_fits k)) t.2), rw r.read_marker-marker.ensures (at_in_range s.args.base.now s.args.check.now (s.args.count + 1) (slot k.before))))
+    let s = start k in
+    let t = to_read k in
+    ((s.requires.1.0, s.requires.1.1), ((rw (to_z-of_z (owed-fits k)) t.1, rw (to_z-of_z (sum_fits k)) t.2), rw r.read_marker-marker.ensures (at_in_range s.args.base.now s.args.check.now (s.args.count + 1) (slot k))))
 
 enum_told : tie.Need-enum_told-1
 enum_told c = search rules
 
 returns : tie.Need-returns-in-End
 returns c = λ t v o.
-    let g = c.before.reached-1.given in
-    let fits : SFits w32 g.0.0 = sfits_of c.known_told-1.given.0.1 in
-    read_as (to_z-of_z fits) refl refl (reached c.before.before.before (End g.0.0 g.0.1.0 g.0.1.1.0 g.0.1.1.1.0) g.1 t v o)
+    let g = c.in-End.reached.given in
+    let fits : SFits w32 g.0.0 = sfits_of c.in-End.known_told-1-own.given.0.1 in
+    read_as (to_z-of_z fits) refl refl (reached c.before (End g.0.0 g.0.1.0 g.0.1.1.0 g.0.1.1.1.0) g.1 t v o)
 
 returns_2 : tie.Need-returns-in-Last
 returns_2 c = λ t v o.
     let r = c.before.before in
     let k = r.before in
-    let m = k.before in
+    let m = k in
     let s = start m in
     let here = marker_at s.args.base.now s.args.check.now (s.args.count + 1) (slot m) in
     walked_as (store_in s.args.base.now s.args.check.now) t v
     (c.end_walk.ensures.0 ∙ (λ i. ended_at (r.read_marker-marker.ensures i) s.args.count (to_z-of_z (owed-fits k) i) (to_z-of_z (sum_fits k) i) (kept m)))
     (c.end_walk.ensures.1 ∙ ap (λ x. stored_at x s.args.count s.args.backoffs.now) r.read_marker-marker.ensures)
-    (reached s (Last (slot m) (owed m) (sum m) (kept m)) m.reached-in-Last-1.given.1 t v o)
+    (reached s (Last (slot m) (owed m) (sum m) (kept m)) m.in-Last.is t v o)
 
 returns_3 : tie.Need-returns-in-Stuck
-returns_3 c = λ t v o. reached c.before.before Stuck c.enum_told-1.given.1 t v o
+returns_3 c = λ t v o. reached c.before Stuck c.in-Stuck.is t v o
 
 pub last_node_spec : {M : Type 1} → statement M
 last_node_spec =

@@ -16,7 +16,7 @@ test : (c : tie.Start) (t : Bool) → (not (eqb (of_z w32 c.args.b) 0) || c.args
 test c t e = ap (λ (u : Bool). not u || c.args.f) (sym (bits_test {b = pos 0} c.ranges.b (sfits_lit tt))) ∙ e
 
 returns : tie.Need-returns-then-b-f
-returns c = rw (to_z-of_z c.before.ranges.owed, test c.before true c.if-b-f.true)
+returns c = rw (to_z-of_z c.ranges.owed, test c.before true c.if-b-f.true)
 
 returns_2 : tie.Need-returns-else-b-f
 returns_2 c = rw (test c.before false c.if-b-f.false)
