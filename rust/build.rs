@@ -1,4 +1,4 @@
-// Links the archive of the proved library: libgrader.a or libbackoff.a, in the folder that BACKOFF_LIB_DIR names, else where `rt staticlib grader` writes it.
+// Links the archive of the proved library: libgrader.a or libbackoff.a, in the folder that BACKOFF_LIB_DIR names, else where `./setup archive` leaves it.
 // Takes the sentences for the refusals from the header.
 use std::env::var_os;
 use std::fs;

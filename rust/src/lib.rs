@@ -2,7 +2,7 @@
 //! refusals and the limits; and two functions over the texts that reading an ARPA file leaves; the refusals in words; the [`limits`] and the refusals' [`number`]s. Slices may have any lengths and hold any numbers: a call that does not accept them says so by a number and a place.
 //! No call allocates, panics or keeps anything; an array may be shared by threads while nobody writes it.
 //!
-//! The archive that is linked is `target/staticlib/libgrader.a` of the repository, which `rt staticlib grader` writes. Where the archive lies elsewhere, set the environment
+//! The archive that is linked is `target/staticlib/libgrader.a` of the repository, which `./setup archive` makes. Where the archive lies elsewhere, set the environment
 //! variable `BACKOFF_LIB_DIR` to the folder that has `libgrader.a` or `libbackoff.a`, from the folder where cargo is called: `BACKOFF_LIB_DIR=/usr/local/lib cargo build`.
 //!
 //! ```

@@ -2,7 +2,7 @@
 #![tactic(auto)]
 
 ghost use Rattle.std.specs.Prelude.{◌+◌, ◌<◌, ◌≤◌, ◌^◌, length};
-ghost use Rattle.io.specs.Counts.{IsPrefixLen};
+ghost use Rattle.std.specs.Counts.{IsPrefixLen};
 ghost use Rattle.carried_state.specs.Numbers.{numbers_of};
 ghost use Rattle.totals_sentence.specs.Steps.{Ready};
 ghost use Rattle.totals_lines.specs.Steps.{Begun};
@@ -10,7 +10,9 @@ ghost use Rattle.totals.specs.Totals.{HoldsBuilt};
 
 use backoff::Verdict;
 use carried_state::State;
-use libc::{STDERR_FILENO, STDOUT_FILENO};
+use std::fs;
+use std::io::Read;
+use std::rt::Files;
 use totals_lines::Progress;
 use totals_list::ListText;
 
@@ -18,33 +20,34 @@ use totals_list::ListText;
 const MOST_PIECES: u64 = 9007199254740992;
 
 // Tells on standard error what standard output does not show: that a file counts as empty since it cannot be opened or read, and an output that is not taken.
-fn tell(text: &[u8]) {
-    io::write_all(STDERR_FILENO, text);
+fn tell(rt: &impl Eprint, text: &str) {
+    let _ = rt.eprintln(text);
 }
 
 // Writes to standard output: whether it took all.
-fn print(text: &[u8]) -> bool {
-    let taken = io::write_all(STDOUT_FILENO, text);
+fn print(rt: &(impl Print + Eprint), text: &[u8]) -> bool {
+    let taken = rt.write_all(text).is_ok();
     if !taken {
-        tell(b"totals: standard output takes no more\n");
+        tell(rt, "totals: standard output takes no more");
     }
     taken
 }
 
-fn print_refusal(number: u32, place: u64) {
+fn print_refusal(rt: &(impl Print + Eprint), number: u32, place: u64) {
     let mut out = [0u8; 64];
     let length = totals_text::refused_line(number, place, &mut out);
-    print(&out[..length]);
+    print(rt, &out[..length]);
 }
 
-fn print_end(progress: Progress) {
+fn print_end(rt: &(impl Print + Eprint), progress: Progress) {
     let mut out = [0u8; 64];
     let length = totals_lines::finish(progress, &mut out);
-    print(&out[..length]);
+    print(rt, &out[..length]);
 }
 
 // Scores a piece of TEXT and prints its lines.
 fn print_piece(
+    rt: &(impl Print + Eprint),
     base: &[i32],
     check: &[i32],
     start: State,
@@ -58,28 +61,36 @@ fn print_piece(
     ensures begun { Begun result line.new }
     ensures number { result.number ≤ progress.number + length piece.now }
 {
-    let mut out = io::large_buffer();
+    let mut out = [0u8; 65536];
     let mut after = totals_lines::feed(base, check, start, piece, progress, line, &mut out);
     let written = after.written;
-    if !print(&out[..written]) {
+    if !print(rt, &out[..written]) {
         after.ended = true;
     }
     after
 }
 
 // Reads a piece of TEXT: how many bytes, which is none at its end and where it cannot be read.
-fn read_text(file: i32, piece: &mut [u8]) -> usize
+fn read_text(rt: &impl Eprint, file: &mut impl Read, piece: &mut [u8]) -> usize
     ensures { IsPrefixLen result piece.new }
 {
-    let got = libc::read(file, piece);
-    if got < 0 {
-        tell(b"totals: TEXT cannot be read\n");
+    match file.read(piece) {
+        Ok(got) => got,
+        Err(_) => {
+            tell(rt, "totals: TEXT cannot be read");
+            0
+        }
     }
-    io::count(got, piece)
 }
 
 // Reads TEXT piece by piece. A proved loop has to end, and nothing says that a file does: after 2^53 pieces the reading would stop.
-fn print_text(base: &[i32], check: &[i32], start: State, file: i32)
+fn print_text(
+    rt: &(impl Print + Eprint),
+    base: &[i32],
+    check: &[i32],
+    start: State,
+    file: &mut impl Read,
+)
     requires { Ready base.now check.now (numbers_of start) }
 {
     let mut line = [0u8; 512];
@@ -89,87 +100,98 @@ fn print_text(base: &[i32], check: &[i32], start: State, file: i32)
         ended: false,
         written: 0,
     };
-    let mut turns = MOST_PIECES;
-    while turns > 0 {
+    for turn in 0..MOST_PIECES {
         let mut piece = [0u8; 1024];
-        let got = read_text(file, &mut piece);
+        let got = read_text(rt, file, &mut piece);
         if got == 0 {
-            print_end(progress);
+            print_end(rt, progress);
             return;
         }
-        progress = print_piece(base, check, start, &piece[..got], progress, &mut line);
+        progress = print_piece(rt, base, check, start, &piece[..got], progress, &mut line);
         if progress.ended {
             return;
         }
-        turns -= 1;
     }
 }
 
 // Opens TEXT and prints its totals.
-fn print_file(base: &[i32], check: &[i32], start: State)
+fn print_file(rt: &(impl Files + Print + Eprint), base: &[i32], check: &[i32], start: State)
     requires { Ready base.now check.now (numbers_of start) }
 {
-    let file = os::open_read(b"TEXT");
-    if file < 0 {
-        tell(b"totals: TEXT cannot be opened\n");
-        return;
+    match fs::open(rt, "TEXT") {
+        Ok(mut file) => print_text(rt, base, check, start, &mut file),
+        Err(_) => tell(rt, "totals: TEXT cannot be opened"),
     }
-    print_text(base, check, start, file);
-    libc::close(file);
 }
 
 // Prints the totals of TEXT over the arrays.
-fn print_totals(base: &[i32], check: &[i32])
+fn print_totals(rt: &(impl Files + Print + Eprint), base: &[i32], check: &[i32])
     requires { HoldsBuilt base.now check.now }
 {
     let started = score::start(base, check);
     let start = started.state;
-    print_file(base, check, start);
+    print_file(rt, base, check, start);
 }
 
 // Builds the arrays of the rows, and prints the totals over them.
-fn build_list(table: &[i32]) {
+fn build_list(rt: &(impl Files + Print + Eprint), table: &[i32]) {
     let mut base = [0i32; 4096];
     let mut check = [0i32; 4096];
     let mut work = [0u32; 512];
     match build::build(table, &mut base, &mut check, &mut work) {
-        Verdict::Refused { number, place } => print_refusal(number, place as u64),
-        Verdict::Accepted => print_totals(&base, &check),
+        Verdict::Refused { number, place } => print_refusal(rt, number, place as u64),
+        Verdict::Accepted => print_totals(rt, &base, &check),
     }
 }
 
-// What `io::read_full` does not tell: that LIST cannot be read further.
-fn tell_unread(file: i32) {
+// Reads until text is full, LIST ends or a read fails: how many bytes there are.
+fn read_full(file: &mut impl Read, text: &mut [u8]) -> usize
+    ensures { IsPrefixLen result text.new }
+{
+    let mut done = 0;
+    while done < text.len() {
+        match file.read(&mut text[done..]) {
+            Ok(got) if got > 0 => done += got,
+            _ => break,
+        }
+    }
+    done
+}
+
+// What `read_full` does not tell: that LIST cannot be read further.
+fn tell_unread(rt: &impl Eprint, file: &mut impl Read) {
     let mut further = [0u8; 16];
-    if libc::read(file, &mut further) < 0 {
-        tell(b"totals: LIST cannot be read\n");
+    if file.read(&mut further).is_err() {
+        tell(rt, "totals: LIST cannot be read");
     }
 }
 
 // The first bytes of LIST, as many as fit, and how many there are. The first 49,665 decide: 512 lines of 97, and one more.
-fn load_list(text: &mut [u8]) -> usize
+fn load_list(rt: &(impl Files + Eprint), text: &mut [u8]) -> usize
     ensures { IsPrefixLen result text.new }
 {
-    let file = os::open_read(b"LIST");
-    if file < 0 {
-        tell(b"totals: LIST cannot be opened\n");
-        return 0;
+    match fs::open(rt, "LIST") {
+        Ok(mut file) => {
+            let count = read_full(&mut file, text);
+            tell_unread(rt, &mut file);
+            count
+        }
+        Err(_) => {
+            tell(rt, "totals: LIST cannot be opened");
+            0
+        }
     }
-    let count = io::read_full(file, text);
-    tell_unread(file);
-    libc::close(file);
-    count
 }
 
-fn main() {
-    let mut text = io::large_buffer();
-    let count = load_list(&mut text);
+fn main(rt: HostRuntime) {
+    let mut text = [0u8; 65536];
+    let count = load_list(&rt, &mut text);
     let mut table = [0i32; 4096];
     match totals_list::read_list(&text[..count], &mut table) {
-        ListText::NotInForm(line) => print_refusal(backoff::TEXT_LINE, line),
+        ListText::NotInForm(line) => print_refusal(&rt, backoff::TEXT_LINE, line),
         ListText::Rows(rows) => {
             let end = 8 * rows;
-            build_list(&table[..end]);
+            build_list(&rt, &table[..end]);
         }
     }
 }

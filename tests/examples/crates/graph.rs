@@ -33,7 +33,8 @@ impl Crates {
     pub fn read() -> Crates {
         let mut read = Crates { crates: Vec::new(), functions: Vec::new() };
         let listed = text("crates.txt").expect("crates.txt can be read");
-        for (name, below) in listed.lines().filter(|line| !line.starts_with('#')).filter_map(|line| line.split_once(':')) {
+        for (head, below) in listed.lines().filter(|line| !line.starts_with('#')).filter_map(|line| line.split_once(':')) {
+            let name = head.trim_end_matches(" staticlib");
             let (below, of_the_kit): (Vec<&str>, Vec<&str>) = below.split_whitespace().partition(|other| read.find(other).is_some());
             let program = text(&format!("crates/{name}/src/main.rt"));
             let is_program = program.is_some();
