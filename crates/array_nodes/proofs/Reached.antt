@@ -133,6 +133,7 @@ module _ (base check : List ℤ) where
 
   child_of-all : (rs : List Reached) (r c : Reached) → Memᴰ r rs → Memᴰ c (children_of base check r) → Memᴰ c (children_of_all base check rs)
   unfolding children_of_all
+  child_of-all [] r c x'' m = elim x'' [ ]
   child_of-all (x ∷ rs) r c (Memᴰ.head e) m = Memᴰ.append_left (children_of_all base check rs) (rw e at m)
   child_of-all (x ∷ rs) r c (Memᴰ.tail h) m = Memᴰ.append_right (children_of base check x) (child_of-all rs r c h m)
 

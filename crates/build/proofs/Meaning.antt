@@ -23,7 +23,7 @@ use Rattle.double_array.proofs.DoubleArray.{sizes_told, opened_some}
 use Rattle.list_trie.specs.ListTrie.{placed_list}
 use Rattle.placed_list.specs.Build.{Built, untouched, filled, emptied, checked_build, IsBuilt}
 use Rattle.build.specs.Build.{build_outcome}
-use Rattle.build.specs.Meaning.{BadSizes, lengths_differ, too_few_slots, too_many_slots, short-work, BuildRefusedBy, bad_table, bad_sizes, bad_list, no_room, BuildMeans}
+use Rattle.build.specs.Meaning.{BadSizes, lengths_differ, too_few_slots, too_many_slots, short-work, BuildRefusedBy, bad_table, bad_sizes, bad_list, lacks_room, BuildMeans}
 use Rattle.build.proofs.Built.{build_accepted, build_holds, build_number}
 
 module _ (t B C : List ℤ) (W : List ℕ) where
@@ -64,7 +64,7 @@ module _ (t B C : List ℤ) (W : List ℕ) where
     where
       go : (b : Bool) → leb (placed_list t).top (length B) ≡ b → RefusedBy (cond b (filled t B C W) (emptied t B C W))
       go true r some = absurd (some refl)
-      go false r some = no_room (sizes-good z) (none-meets false t e) (leb-false _ _ r)
+      go false r some = lacks_room (sizes-good z) (none-meets false t e) (leb-false _ _ r)
 
   outcome_refused : RefusedBy (build_outcome t B C W)
   unfolding build_outcome untouched

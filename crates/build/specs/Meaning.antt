@@ -26,7 +26,7 @@ module _ (table base check : List ℤ) (work : List ℕ) where
     -- 3 to 9, as the check of the list answers
     bad_list : (BadSizes → ⊥) → (n p : ℕ) → (n ≡ 0 → ⊥) → VerdictMeans false table n p → BuildRefusedBy n p
     -- "the placing rule uses a slot ≥ N"
-    no_room : (BadSizes → ⊥) → NoneMeets false table → length base < (placed_list table).top → BuildRefusedBy no_room 0
+    lacks_room : (BadSizes → ⊥) → NoneMeets false table → length base < (placed_list table).top → BuildRefusedBy no_room 0
 
 -- The list is an accepted model, the placing rule keeps below slot N, and the array holds the list, all of it and only it.
 pub record HoldsModel (table : List ℤ) (N : ℕ) (base check : List ℤ) : Type 0 where

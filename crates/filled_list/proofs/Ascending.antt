@@ -80,6 +80,7 @@ way ws vs = go (precedes ws vs) (same_words ws vs) refl refl
     go false false e f = later e f
 
 in_insert : (ws : List ℕ) (rows : List (List ℕ)) (us : List ℕ) → In us rows → In us (insert ws rows)
+in_insert ws [] us m = elim m [ ]
 in_insert ws (vs ∷ rows) us m = go (way ws vs) m (in_insert ws rows us)
   where
     go : Way ws vs → In us (vs ∷ rows) → (In us rows → In us (insert ws rows)) → In us (insert ws (vs ∷ rows))
@@ -136,6 +137,7 @@ module _ (ws : List ℕ) (p : are_words ws ≡ true) where
 
   -- a sequence that is there is not put there again
   insert-present : (rows : List (List ℕ)) → AllWords rows → Ascending rows → In ws rows → insert ws rows ≡ rows
+  insert-present [] w _ x4 = elim x4 [ ]
   insert-present (vs ∷ rows) w (more f a) (Memᴰ.head z) =
       insert-same ws vs rows (ap (precedes ws) (sym z) ∙ precedes-not_self ws p) (ap (same_words ws) (sym z) ∙ same_refl ws)
   insert-present (vs ∷ rows) w (more f a) (Memᴰ.tail m) =
@@ -151,6 +153,7 @@ in_insert_all (ws ∷ added) rows us m = in_insert ws (insert_all added rows) us
 
 pub insert_all-has : (added rows : List (List ℕ)) (us : List ℕ) → In us added → In us (insert_all added rows)
 unfolding insert_all
+insert_all-has [] rows us x' = elim x' [ ]
 insert_all-has (ws ∷ added) rows us (Memᴰ.head q) = rw q (insert-has ws (insert_all added rows))
 insert_all-has (ws ∷ added) rows us (Memᴰ.tail m) = in_insert ws (insert_all added rows) us (insert_all-has added rows us m)
 
@@ -202,6 +205,7 @@ in_at (ws ∷ rows) zero l = Memᴰ.head refl
 in_at (ws ∷ rows) (suc i) l = Memᴰ.tail (in_at rows i (omega arith))
 
 pub place_of : (rows : List (List ℕ)) (ws : List ℕ) → In ws rows → (i : ℕ) × (i < length rows) × (get_or rows i [] ≡ ws)
+place_of [] ws x' = elim x' [ ]
 place_of (vs ∷ rows) ws (Memᴰ.head q) = (0, omega arith, sym q)
 place_of (vs ∷ rows) ws (Memᴰ.tail m) = let r = place_of rows ws m in (suc r.0, let l = r.1 in omega arith, r.2)
 

@@ -76,6 +76,7 @@ behind_in (u ∷ front) v ws l = rw (without_more v (u ∷ (front ++ ws)) (omega
 
 all_in : (rows : List (List ℕ)) (vs ws : List ℕ) → In vs rows → In ws (without_first_words vs) → In ws (all_without_first_words rows)
 unfolding all_without_first_words
+all_in [] vs ws x'' m = elim x'' [ ]
 all_in (us ∷ rows) vs ws (Memᴰ.head q) m = Memᴰ.append_left (all_without_first_words rows) (rw q at m)
 all_in (us ∷ rows) vs ws (Memᴰ.tail n) m = Memᴰ.append_right (without_first_words us) (all_in rows vs ws n m)
 

@@ -34,7 +34,7 @@ module _ (r : Recent) (k : IsRecent r) where
 
   pub history-are_words : are_words (in_use r) ≡ true
   unfolding in_use
-  history-are_words = are_words-drop (4 - r.count) r.words k.are_words
+  history-are_words = are_words-drop (4 - r.count) r.words k.are_words_lem
 
   pub history-length : length (in_use r) ≡ r.count
   unfolding in_use words_of

@@ -78,7 +78,7 @@ module _ {M : Model} (A : AcceptedModel M) where
         record {
           places = record {
             four = length_shifted r.words v four a;
-            are_words_lem = shifted_are_words r.words v four a o.places.are_words;
+            are_words_lem = shifted_are_words r.words v four a o.places.are_words_lem;
             few = omega (arith, most);
           };
           whole = omega (arith, o.whole);

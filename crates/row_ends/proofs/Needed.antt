@@ -46,6 +46,7 @@ module _ (t : List ℤ) where
 module _ (t : List ℤ) where
   each-addable : (rows : List (List ℕ)) → all_addable t rows ≡ true → (ws : List ℕ) → In ws rows → addable t ws ≡ true
   unfolding all_addable
+  each-addable [] e ws x'' = elim x'' [ ]
   each-addable (vs ∷ rows) e ws (Memᴰ.head q) = rw q (and_left (addable t vs) (all_addable t rows) e)
   each-addable (vs ∷ rows) e ws (Memᴰ.tail m) = each-addable rows (and_right (addable t vs) (all_addable t rows) e) ws m
 

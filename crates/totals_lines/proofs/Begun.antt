@@ -7,7 +7,7 @@ use native.Mathlib.Omega.{arith}
 use borrow.Author.Tests.{ne_eqb, lt-leb}
 use lib.Dec.{eqb}
 use lib.ListN.{length}
-use Rattle.bytes.specs.Bytes.{index_of, index_after}
+use Rattle.text_parts.specs.Parts.{before}
 use Rattle.backoff.specs.Refusal.{text_line}
 use Rattle.backoff.specs.Model.{Model}
 use Rattle.totals_text.specs.Lines.{is_text_line, refused_line}
@@ -18,7 +18,7 @@ use Rattle.totals_lines.specs.Steps.{finished}
 
 -- its characters without the first
 begun-rest : (c : ℕ) (l : List ℕ) → line_end (c ∷ l) ≡ suc (length l) → (eqb c 10 ≡ false) × (line_end l ≡ length l)
-unfolding index_of index_after
+unfolding before
 begun-rest c l e = go (eqb c 10) refl
   where
     go : (b : Bool) → eqb c 10 ≡ b → (eqb c 10 ≡ false) × (line_end l ≡ length l)
@@ -26,7 +26,7 @@ begun-rest c l e = go (eqb c 10) refl
     go false q = let k : suc (line_end l) ≡ suc (length l) = rw q at e in (q, omega arith)
 
 pub begun_more : (l : List ℕ) (c : ℕ) → line_end l ≡ length l → (c ≡ 10 → ⊥) → line_end (l ++ (c ∷ [])) ≡ suc (length l)
-unfolding index_of index_after
+unfolding before
 begun_more [] c e n = rw (ne_eqb c 10 n) refl
 begun_more (d ∷ l) c e n = let k = begun-rest d l e in rw k.0 (ap suc (begun_more l c k.1 n))
 

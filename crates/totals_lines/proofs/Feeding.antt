@@ -7,7 +7,7 @@ use native.Mathlib.Omega.{arith}
 use native.Mathlib.Numerals.{add-one}
 use lib.ListN.{length, take, drop, get_or, set, length-append, length-set, drop_of_length-le}
 use lib.Seq.{drop-cons, length-take-le, take-suc-set, append_snoc}
-use Rattle.bytes.specs.Bytes.{index_of}
+use Rattle.text_parts.specs.Parts.{before as before_byte}
 use Rattle.backoff.specs.Refusal.{text_line}
 use Rattle.backoff.specs.Model.{Model}
 use Rattle.totals_text.specs.Lines.{is_text_line, text_words, refused_line}
@@ -76,7 +76,7 @@ module _ {M : Model} {piece : List ℕ} {number₀ count₀ : ℕ} {line₀ line
 
     module _ (e : get_or piece i 0 ≡ 10) {r : Printed} {out' : List ℕ} (P : PrintedAs M number begun r (take written out) (written + r.length) out') where
       pub feeding_line : is_text_line begun ≡ true → length out' ≡ length out → Feeding M piece number₀ count₀ line₀ line out' (number + 1) 0 (written + r.length) (i + 1)
-      unfolding index_of
+      unfolding before_byte
       feeding_line t l = record {
         within = omega arith;
         buffer = F.buffer;

@@ -21,6 +21,7 @@ use Rattle.arpa_logs.specs.Logs.{decimals, unsigned, units_of_point, nearest, ro
 use Rattle.arpa_logs.specs.Held.{size_read, SmallSize}
 use Rattle.arpa_logs.proofs.Logs.{with_sign, points_none, points-signed, no_size, round_negative}
 use borrow.Author.Rules.{rules, sfits_of}
+use borrow.Author.Tests.{eq-eqb, ne_eqb}
 use Rattle.arpa_logs.proofs.read_points.Statement.{statement}
 use Rattle.arpa_logs.proofs.read_points.Tie as tie
 
@@ -39,14 +40,14 @@ minus j = eqb (get_or (text j) 0 0) 45
 started : (j : tie.Joined-minus) → j.if-minus.start ≡ cond (minus j) 1 0
 started j =
     ⊎_elim
-    (λ w. w.1 ∙ sym (ap (λ (t : Bool). cond {A = ℕ} t 1 0) w.0.true))
-    (λ w. w.1 ∙ sym (ap (λ (t : Bool). cond {A = ℕ} t 1 0) w.0.left))
+    (λ w. w.start-is ∙ sym (ap (λ (t : Bool). cond {A = ℕ} t 1 0) (eq-eqb _ _ w.if-minus.true)))
+    (λ w. w.start-is ∙ sym (ap (λ (t : Bool). cond {A = ℕ} t 1 0) (ne_eqb _ _ w.if-minus.false)))
     j.if-minus.branch-raw
 
 within : (j : tie.Joined-minus) → j.if-minus.start ≤ length (text j)
 within j =
     let n = j.if-text-eq0.false in
-    ⊎_elim (λ w. let e = w.1 in omega arith) (λ w. let e = w.1 in omega arith) j.if-minus.branch-raw
+    ⊎_elim (λ w. let e = w.start-is in omega arith) (λ w. let e = w.start-is in omega arith) j.if-minus.branch-raw
 
 sub-read-size : tie.Need-slice_bounds-read_size-count
 sub-read-size c = within c.before
@@ -97,8 +98,8 @@ few : (c : tie.After-nearest_point-points) → nearest c.in-Units.units ≤ 1000
 unfolding nearest
 few c = omega (arith, small c.before)
 
-read : (c : tie.After-nearest_point-points) → let j = c.before.before.before.before.before.before.before in
-    read_points (text j) ≡ with_sign (minus j) (some c.before.before.units-1.given.0.0)
+read : (c : tie.After-nearest_point-points) → let j = c.before.before.before.before.before in
+    read_points (text j) ≡ with_sign (minus j) (some c.in-Units.units)
 read c =
     let u = c.before in
     let a = u.before in
@@ -112,7 +113,7 @@ returns_3 c =
     let n = c.before in
     let k = n.in-Units.units in
     sym
-    (read n ∙ ap (λ (t : Bool). with_sign t (some k)) c.if-minus-2.true
+    (read n ∙ ap (λ (t : Bool). with_sign t (some k)) (eq-eqb _ _ c.if-minus-2.true)
     ∙ ap Of
     (round_negative k
     ∙ sym (to_z-of_z (sub-t15 c) ∙ ap (λ (y : ℤ). pos 0 -ℤ y) (points n) ∙ +ℤ_idl (neg_ℤ (pos (nearest k))))))
@@ -122,7 +123,7 @@ unfolding round_log
 returns-4 c =
     let n = c.before in
     let k = n.in-Units.units in
-    sym (read n ∙ ap (λ (t : Bool). with_sign t (some k)) c.if-minus-2.false ∙ ap Of (sym (points n)))
+    sym (read n ∙ ap (λ (t : Bool). with_sign t (some k)) (ne_eqb _ _ c.if-minus-2.false) ∙ ap Of (sym (points n)))
 
 pub read_points_spec : {M : Type 1} → statement M
 read_points_spec =

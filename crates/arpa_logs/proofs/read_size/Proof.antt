@@ -30,8 +30,8 @@ digits-up-to-requires c κs = search rules
 
 returns : tie.Need-returns-then-not-digits_up_to
 returns c =
-    let f = c.before.before.before in (
-      sym (unsigned-no-whole f.before.before.args.text.now f.find-byte.result f.find-byte.ensures.0 f.find-byte.ensures.1
+    let f = c.before.before in (
+      sym (unsigned-no-whole f.args.text.now f.find_byte-point.result f.find_byte-point.ensures.0 f.find_byte-point.ensures.1
           (sym c.digits_up_to.ensures ∙ c.if-not-digits_up_to.true)),
       search rules,
     )
@@ -46,20 +46,20 @@ abbrev place : tie.After-find_byte-point → ℕ
 place f = f.find_byte-point.result
 
 -- what stands before the point is in form
-whole : (c : tie.Else-not-digits_up_to) → digits_up_to 3 (take (place c.before.before.before) (text c.before.before.before)) ≡ true
+whole : (c : tie.Else-not-digits_up_to) → digits_up_to 3 (take (place c.before.before) (text c.before.before)) ≡ true
 whole c = sym c.digits_up_to.ensures ∙ c.if-not-digits_up_to.false
 
 value-requires : tie.Need-value-whole-requires
 value-requires c κs =
-    let f = c.before.before.before.before in
-    let m = at_most 3 (take (place f) (text f)) (whole c.before) in
-    (all_digits_lem 3 (take (place f) (text f)) (whole c.before), omega arith)
+    let f = c.before.before in
+    let m = at_most 3 (take (place f) (text f)) (whole c) in
+    (all_digits_lem 3 (take (place f) (text f)) (whole c), omega arith)
 
 -- three digits make less than 1,000
 below : (c : tie.After-value-whole) → c.value-whole.result < 1000
 below c =
-    let f = c.before.before.before.before.before in
-    let m = at_most 3 (take (place f) (text f)) (whole c.before.before) in
+    let f = c.before.before.before in
+    let m = at_most 3 (take (place f) (text f)) (whole c.before) in
     let p : 10 ^ length (take (place f) (text f)) ≤ 10 ^ 3 = pow-le-pow_right (omega arith) m in
     omega (arith, c.value-whole.ensures)
 
@@ -69,11 +69,11 @@ mul-whole c = omega (arith, below c)
 returns_2 : tie.Need-returns-then-point-text
 returns_2 c =
     let v = c.before in
-    let f = v.before.before.before.before.before in
+    let f = v.before.before.before in
     let e = v.value-whole.ensures.0 in
     let b = below v in (
       ap (λ (n : ℕ). some (n * 10 ^ decimals)) e
-          ∙ sym (unsigned-whole (text f) (place f) f.find-byte.ensures.0 c.if-point-text.true (whole v.before.before)),
+          ∙ sym (unsigned-whole (text f) (place f) f.find_byte-point.ensures.0 c.if-point-text.true (whole v.before)),
       omega arith,
     )
 
@@ -93,19 +93,19 @@ digits-up-to-requires-2 : tie.Need-digits_up_to-requires-2
 digits-up-to-requires-2 c κs = search rules
 
 -- and what stands behind it decides
-both : (c : tie.Else-point-text) → let f = c.before.before.before.before.before.before in
+both : (c : tie.Else-point-text) → let f = c.before.before.before.before in
     unsigned (parts 46 (text f)) ≡ cond (digits_up_to decimals (drop (place f + 1) (text f))) (some (value_from 0 (take (place f) (text f)) * 10 ^ decimals + fraction (drop (place f + 1) (text f)))) none
 both c =
     let v = c.before in
-    let f = v.before.before.before.before.before in
-    let w = f.find-byte.ensures in
+    let f = v.before.before.before in
+    let w = f.find_byte-point.ensures in
     let n = c.if-point-text.false in
-    unsigned-both (text f) (place f) w.0 (omega arith) (whole v.before.before)
+    unsigned-both (text f) (place f) w.0 (omega arith) (whole v.before)
 
 returns_3 : tie.Need-returns-then-not-digits_up_to-2
 returns_3 c =
     let b = c.before.before.before in
-    let f = b.before.before.before.before.before.before in
+    let f = b.before.before.before.before in
     let e : digits_up_to decimals (drop (place f + 1) (text f)) ≡ false =
     ap (digits_up_to decimals) (sym (part_to_end (text f) (place f + 1))) ∙ sym c.digits_up_to-2.ensures ∙ c.if-not-digits_up_to-2.true in
     (sym (both b ∙ rw e refl), search rules)
@@ -119,7 +119,7 @@ part-read-fraction-start c = search rules
 part-read-fraction-end : tie.Need-slice_bounds-read_fraction-end
 part-read-fraction-end c = search rules
 
-behind : (c : tie.Else-not-digits_up_to-2) → let f = c.before.before.before.before.before.before.before.before.before in
+behind : (c : tie.Else-not-digits_up_to-2) → let f = c.before.before.before.before.before.before.before in
     digits_up_to decimals (take (length (text f) - (place f + 1)) (drop (place f + 1) (text f))) ≡ true
 behind c = sym c.digits_up_to-2.ensures ∙ c.if-not-digits_up_to-2.false
 
@@ -134,7 +134,7 @@ returns-4 c =
     let d = c.before.before in
     let b = d.before.before.before in
     let v = b.before in
-    let f = v.before.before.before.before.before in
+    let f = v.before.before.before in
     let r = part_to_end (text f) (place f + 1) in
     let e : digits_up_to decimals (drop (place f + 1) (text f)) ≡ true = ap (digits_up_to decimals) (sym r) ∙ behind d in
     let w = v.value-whole.ensures.0 in

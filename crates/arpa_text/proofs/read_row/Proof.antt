@@ -68,7 +68,7 @@ fields c k e h =
 returns_2 : tie.Need-returns-in_default
 returns_2 c =
     let a = c.before in
-    let b = a.before.before in
+    let b = a.before in
     let f = b.before in
     let k = before 9 (rest f) in
     let p : read_points (take (tab f) (line f)) ≡ NotInForm = sym a.read_points.ensures ∙ c.in_default.is in
@@ -90,7 +90,7 @@ enum-told-2 : tie.Need-enum_told-in_default-read_backoff
 enum-told-2 c = search rules
 
 abbrev start : tie.After-part_end-to → tie.Else-tab-line
-start q = q.before.before.before.before
+start q = q.before.before.before
 
 -- how long the words are together
 abbrev size : tie.After-part_end-to → ℕ
@@ -101,7 +101,7 @@ words q = take (size q) (rest (start q).before)
 
 -- what the line says once its first log is read
 read : (c : tie.After-read_backoff) → let q = c.before in let f = (start q).before in
-    read_row (length_of_lem f) (line f) ≡ listed_with (length_of_lem f) (Of q.before.before.p-1.given.0.0) (parts 32 (words q)) c.read_backoff.result
+    read_row (length_of_lem f) (line f) ≡ listed_with (length_of_lem f) (Of q.in-Of.p) (parts 32 (words q)) c.read_backoff.result
 read c =
     let q = c.before in
     let b = start q in
@@ -142,7 +142,7 @@ backoff-read c = c.before
 -- what it says once both are read
 both : (c : tie.In-Of-read_backoff) → let q = (backoff-read c).before in let f = (start q).before in
     read_row (length_of_lem f) (line f)
-    ≡ listed_with (length_of_lem f) (Of q.before.before.p-1.given.0.0) (parts 32 (words q)) (Of c.before.b-1.given.0.0)
+    ≡ listed_with (length_of_lem f) (Of q.in-Of.p) (parts 32 (words q)) (Of c.in-Of-read_backoff.b)
 both c =
     let a = backoff-read c in
     let q = a.before in

@@ -21,12 +21,12 @@ last-end-requires : tie.Need-last_end-last-requires
 last-end-requires c κs = search rules
 
 slice-aggregate-count-words : tie.Need-slice_bounds-count_words-end
-slice-aggregate-count-words c = sym (length-take-le _ _ (within c.before))
+slice-aggregate-count-words c = sym (length-take-le _ _ (within c))
 
 count-words-requires : tie.Need-count_words-requires
 count-words-requires c κs =
     let e = c.before.before in
-    (omega (arith, length-take-le _ (start e).args.lengths.now (within e), e.last-end.ensures, (start e).requires), (search rules, (start e).requires.1))
+    (omega (arith, length-take-le _ (start e).args.lengths.now (within e), e.last_end-last.ensures, (start e).requires), (search rules, (start e).requires.1))
 
 counted-sheet-requires : tie.Need-counted_sheet-requires
 counted-sheet-requires c κs = search rules
@@ -36,11 +36,11 @@ returns c =
     let k = c.before in
     let e = k.before.before.before in
     let s = start e in
-    let last = e.last-end.result in
+    let last = e.last_end-last.result in
     λ closing t.
-    rw (sym e.last-end.ensures)
+    rw (sym e.last_end-last.ensures)
     (c.counted_sheet.ensures
-    ∙ rw (to_z-of_z s.fits.total) (counted-bytes closing (take last s.args.lengths.now) _ (k.count_words.ensures closing [] t) (length s.args.ends.now) last s.args.total))
+    ∙ rw (to_z-of_z s.ranges.total) (counted-bytes closing (take last s.args.lengths.now) _ (k.count_words.ensures closing [] t) (length s.args.ends.now) last s.args.total))
 
 pub full_sheet_spec : {M : Type 1} → statement M
 full_sheet_spec =

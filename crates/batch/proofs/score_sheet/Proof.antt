@@ -7,6 +7,7 @@ use native.Mathlib.Omega.{arith}
 use borrow.Author.Rules.{sfits_of}
 use lib.ListN.{length}
 use lib.IntN.{ℤ}
+use mir.Syntax.{w64}
 use mir.Facts.{to_z-of_z}
 use Rattle.backoff.specs.Limits.{run_limit}
 use Rattle.backoff.specs.Run.{Run}
@@ -113,7 +114,7 @@ returns c =
     let d = scored_from w in
     let s = start d in
     let u = all-scored w in
-    all_outcome (array s) (ends s) (asked s) w.in-All.total (points d) (lengths d) (counts d) u (long s) _ (to_z-of_z (sfits_of m.in-All.known_told-1-own.given.0.1)) c.full_sheet.result
+    all_outcome (array s) (ends s) (asked s) w.in-All.total (points d) (lengths d) (counts d) u (long s) _ (to_z-of_z {w = w64} (sfits_of m.in-All.known_told-1-own.given.0.1)) c.full_sheet.result
     (c.full_sheet.ensures (closing_bytes (array s) (sentences 0 (ends s) (asked s))) u.tallied)
 
 same-length-3 : tie.Need-shape_of-points-in-Refused

@@ -30,7 +30,7 @@ fits : (c : tie.Else-not-table_fits) → table_fits (length c.args.table.now) �
 fits c = sym c.table_fits.ensures ∙ c.if-not-table_fits.false
 
 abbrev passed : tie.After-sizes_ok → tie.Else-not-table_fits
-passed c = c.before.before.before
+passed c = c.before
 
 abbrev start : tie.After-sizes_ok → tie.Start
 start c = (passed c).before.before.before
@@ -62,34 +62,34 @@ bad_sizes c = rw (sym c.sizes_ok.ensures ∙ c.if-not-sizes_ok.true)
 
 short-work : (c : tie.Then-work-rows) → sized c.before.before ≡ false
 unfolding rows_of
-short-work c = let k = c.before.before in and_no (sizes k) (leb (rows k) (items k)) (lt-leb (rows k) (items k) (ltb-true (items k) (rows k) c.if-work-rows.true))
+short-work c = let k = c.before.before in and_no (sizes k) (leb (rows k) (items k)) (lt-leb (rows k) (items k) c.if-work-rows.true)
 
 good-sizes : (c : tie.Else-work-rows) → sized c.before.before ≡ true
 unfolding rows_of
 good-sizes c =
     let k = c.before.before in
     and_both (sizes k) (leb (rows k) (items k)) (sym k.sizes_ok.ensures ∙ c.if-not-sizes_ok.false)
-    (le-leb (rows k) (items k) (ltb-false (items k) (rows k) c.if-work-rows.false))
+    (le-leb (rows k) (items k) c.if-work-rows.false)
 
 returns_2 : tie.Need-returns-then-not-sizes_ok
 returns_2 c =
     let k = c.before in
     answers _ _ _ _
     (outcome_sizes _ _ _ _ (fits (passed k))
-    (⊎_elim (λ v. bad_sizes (record { before = k; if2 = v })) (λ v. short-work (record { before = record { before = k; if2 = v.0 }; if3 = v.1 })) c.then-not-sizes_ok.branch-raw))
+    (⊎_elim (λ v. bad_sizes (record { before = k; if-not-sizes_ok = v.if-not-sizes_ok })) (λ v. short-work (record { before = record { before = k; if-not-sizes_ok = v.if-not-sizes_ok }; if-work-rows = v.if-work-rows })) c.then-not-sizes_ok.branch-raw))
 
 slice-relend-prefix-check-and-place : tie.Need-slice_bounds-check_and_place-end
-slice-relend-prefix-check-and-place c = ltb-false _ _ c.if-work-rows.false
+slice-relend-prefix-check-and-place c = c.if-work-rows.false
 
 slice-aggregate-check-and-place : tie.Need-slice_bounds-check_and_place-end-2
-slice-aggregate-check-and-place c = sym (length-take-le _ _ (ltb-false _ _ c.if-work-rows.false))
+slice-aggregate-check-and-place c = sym (length-take-le _ _ c.if-work-rows.false)
 
 check-and-place-requires : tie.Need-check_and_place-requires
 unfolding rows_of
 check-and-place-requires c κs =
     let e = c.before.before.before in
     let k = e.before.before in
-    (fits (passed k), sym k.sizes_ok.ensures ∙ e.if-not-sizes_ok.false, length-take-le _ _ (ltb-false _ _ e.if-work-rows.false))
+    (fits (passed k), sym k.sizes_ok.ensures ∙ e.if-not-sizes_ok.false, length-take-le _ _ e.if-work-rows.false)
 
 same-length-3 : tie.Need-shape_of-base
 same-length-3 c = c.check_and_place.auto.base

@@ -8,7 +8,6 @@ use lib.Seq.{length-sets}
 use Rattle.integer.proofs.Stores.{sets-whole}
 use Rattle.carried_state.specs.Numbers.{numbers_of}
 use Rattle.c_states.proofs.Items.{items-drop, equal_nine, read_back, in_nine}
-use borrow.Author.Rules.{length_unmapped}
 use Rattle.c_states.proofs.store.Statement.{statement}
 use Rattle.c_states.proofs.store.Tie as tie
 
@@ -67,10 +66,10 @@ same_length : tie.Need-shape_of-numbers
 same_length c = length-sets c.args.numbers.now 0 (_ ∷ _ ∷ _ ∷ _ ∷ _ ∷ _ ∷ _ ∷ _ ∷ _ ∷ [])
 
 four-words : (s : tie.Start) → length s.args.state.words ≡ 4
-four-words s = length_unmapped ℤ s.args.state.words 4 s.well_formed.0.1.1.1.0.1.0.1
+four-words s = s.well_formed.0.1.1.1.0.1.0.1
 
 four-backoffs : (s : tie.Start) → length s.args.state.backoffs ≡ 4
-four-backoffs s = length_unmapped ℤ s.args.state.backoffs 4 s.well_formed.0.1.1.1.1.0.1.0.1
+four-backoffs s = s.well_formed.0.1.1.1.1.0.1.0.1
 
 returns : tie.Need-returns
 unfolding numbers_of

@@ -1,6 +1,7 @@
 -- `closed_sentence::close` meets its contract. Assumes nothing.
 use native.Mathlib.Omega.{arith}
 use borrow.Author.Rules.{rules, sfits_of}
+use mir.Syntax.{w64}
 use mir.Facts.{to_z-of_z}
 use Rattle.closed_sentence.proofs.Calls.{closing_no, closing_yes}
 use Rattle.closed_sentence.proofs.close.Statement.{statement}
@@ -27,7 +28,7 @@ array-read-t17 c = search rules
 returns_2 : tie.Need-returns
 returns_2 c =
     let k = c.before.before.before.before.before in
-    closing_yes k.run_passed-ran.ensures c.if-ran-ne0.false _ (to_z-of_z (sfits_of c.struct_told-1.given.1.1.0.1))
+    closing_yes k.run_passed-ran.ensures c.if-ran-ne0.false _ (to_z-of_z {w = w64} (sfits_of c.struct_told-1.given.1.1.0.1))
 
 pub close_spec : {M : Type 1} → statement M
 close_spec =

@@ -36,7 +36,7 @@ answer k = answer_of k.run_passed-ran.result k.run_passed-ran.new.points k.run_p
 
 -- both totals are small
 words-total : (k : tie.After-run_passed-ran) → nat_abs k.run_passed-ran.result.total ≤ run_total
-words-total k = let s = start k in run-answer_small s.args.base.now s.args.check.now (numbers_of s.args.started.state-1) (asked s) (answer k) k.run_passed-ran.ensures
+words-total k = let s = start k in run-answer_small s.args.base.now s.args.check.now (numbers_of s.args.started.state) (asked s) (answer k) k.run_passed-ran.ensures
 
 closing_total : (t : tie.In-Whole) → nat_abs t.in-Whole.total ≤ run_total
 closing_total t =

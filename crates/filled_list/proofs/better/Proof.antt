@@ -53,14 +53,14 @@ size c = sym (sym c.if-length_of-k.false ∙ c.length_of.ensures.0)
 returns_3 : tie.Need-returns-then-not-key_less
 unfolding rows_of
 returns_3 c =
-    let y = c.before.before.before.before in
+    let y = c.before.before.before.before.before in
     let d = y.before.before.before.before in
     let p = d.requires in
     best_old _ p.0 _ _ _ p.4 p.1 p.2 _ _ _ _ _ _ p.6 d.bound_of-row.ensures (inside y) (size y) y.end_key-key.ensures c.if-best-rows.true (sym c.key_less.ensures ∙ c.if-not-key_less.true)
 
 returns-4 : tie.Need-returns-else-not-key_less
 returns-4 c =
-    let y = c.before.before.before.before in
+    let y = c.before.before.before.before.before in
     let d = y.before.before.before.before in
     let p = d.requires in
     best-new _ p.0 _ _ _ p.4 p.1 p.2 _ _ _ _ _ _ p.6 d.bound_of-row.ensures (inside y) (size y) y.end_key-key.ensures (λ _. sym c.key_less.ensures ∙ c.if-not-key_less.false)

@@ -67,7 +67,7 @@ next-end-requires-2 c κs =
     (v.checked, (l.loop-next.count + 1, next_on _ v.checked _ _ _ _ _ _ v.next i.loop-next-test.true _ _ c.key_after.ensures))
 
 loop-less : tie.Need-loop-next-smaller invariant-loop decreases-loop
-loop-less c = let h = (found c.before.before.before.before).0 in omega arith
+loop-less c = let h = (found c.before.before.before.before.before).0 in omega arith
 
 loop-again : tie.Need-loop-next-preserved invariant-loop decreases-loop
 loop-again c =
@@ -77,7 +77,7 @@ loop-again c =
     record {
       checked = v.checked;
       next = c.next_end-next-in-loop-next.ensures _ (next_on _ v.checked _ _ _ _ _ _ v.next i.loop-next-test.true _ _ c.key_after.ensures);
-      in_range = addable-more _ v.checked _ _ _ _ v.in_range e.end_fits-fits.ensures (found i).1;
+      in_range = addable-more _ v.checked _ _ _ _ v.in_range e.end_fits-fits.ensures (found i.before).1;
     }
 
 returns : tie.Need-returns invariant-loop decreases-loop

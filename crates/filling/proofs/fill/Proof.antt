@@ -38,7 +38,7 @@ abbrev passed : tie.After-struct_known-2-1 → tie.Else-checked-ne0
 passed c = c.before.before.before.before.before
 
 cast-t11 : tie.Need-overflow_cast-result
-cast-t11 c = let e = passed c in omega (arith, e.before.before.check_all-checked.ensures.rows_are e.if-checked-ne0.left, (fills e).few)
+cast-t11 c = let e = passed c in omega (arith, e.before.before.check_all-checked.ensures.rows_are e.if-checked-ne0.false, (fills e).few)
 
 same_length : tie.Need-shape_of-filled
 same_length c = search rules

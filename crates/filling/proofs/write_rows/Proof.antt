@@ -78,30 +78,30 @@ write-row-requires c κs =
     (best-end _ v.checked _ _ _ _ _ _ v.next.filling.some (v.next.best l) (v.next.one l) _ c.length_of-k.ensures.0, rw (length-take, length-drop) (omega (arith, (room d).0)))
 
 key-after-requires : tie.Need-key_after-requires invariant-loop decreases-loop
-key-after-requires c κs = let t = c.before.before.before.before in let v = under t in next-high _ v.checked _ _ _ _ _ _ v.next t.loop-next-test.true
+key-after-requires c κs = let t = c.before.before.before.before in let v = under t.before in next-high _ v.checked _ _ _ _ _ _ v.next t.loop-next-test.true
 
 next-end-requires-2 : tie.Need-next_end-next-requires-in-loop-next invariant-loop decreases-loop
 next-end-requires-2 c κs =
     let t = c.before.before.before.before.before.before in
-    let v = under t in
+    let v = under t.before in
     (v.checked, (v.place + 1, next_on _ v.checked _ _ _ _ _ _ v.next t.loop-next-test.true _ _ c.key_after.ensures))
 
 loop-less : tie.Need-loop-next-smaller invariant-loop decreases-loop
-loop-less c = let t = c.before.before.before.before.before.before.before in omega (arith, (found t).0, (under t).writing.at)
+loop-less c = let t = c.before.before.before.before.before.before.before in omega (arith, (found t.before).0, (under t.before).writing.at)
 
 loop-again : tie.Need-loop-next-preserved invariant-loop decreases-loop
 loop-again c =
     let k = c.before.before in
     let r = k.before.before in
     let t = r.before.before.before in
-    let v = under t in
+    let v = under t.before in
     record {
       checked = v.checked;
       place = v.place + 1;
       next = c.next_end-next-in-loop-next.ensures _ (next_on _ v.checked _ _ _ _ _ _ v.next t.loop-next-test.true _ _ k.key_after.ensures);
       writing =
-          writing_on _ v.checked _ _ _ _ v.writing v.next.filling.bracket.within (found t).0 _
-          (r.write_row.ensures ∙ ap (filled_row (lent t)) (sym (found t).1));
+          writing_on _ v.checked _ _ _ _ v.writing v.next.filling.bracket.within (found t.before).0 _
+          (r.write_row.ensures ∙ ap (filled_row (lent t.before)) (sym (found t.before).1));
     }
 
 same_length : tie.Need-shape_of-filled invariant-loop decreases-loop

@@ -64,14 +64,14 @@ module _ (n : tie.After-next-d invariant_behind decreases_behind invariant-loop 
   start = n.before.before.before
 
   abbrev d : ℕ
-  d = n.next.result
+  d = n.next-d.result
 
   passed : PassedTo N room (fits room (words start)) n.before.free.d
-  passed = n.before.free.inv N b room L
+  passed = n.before.free.invariant N b room L
 
   -- where the chain leads
   led : d ≡ next_free N room n.before.free.d
-  led = n.next.ensures N b room _ L passed.inside passed.member
+  led = n.next-d.ensures N b room _ L passed.inside passed.member
 
   -- the search has come there
   come : Searched N room (fits room (words start)) d
@@ -89,8 +89,8 @@ module _ (n : tie.After-next-d invariant_behind decreases_behind invariant-loop 
     free = come.free i
 
     -- the last child's slot may be tested before all
-    tested_first : (behind : Bool) → all_open room behind d (words start) ≡ all_open room behind d (n.before.before.last_word.result ∷ words start)
-    tested_first behind = n.before.before.last_word.ensures.same room behind d (open_yes room d come.positive free)
+    tested_first : (behind : Bool) → all_open room behind d (words start) ≡ all_open room behind d (n.before.before.last_word-last.result ∷ words start)
+    tested_first behind = n.before.before.last_word-last.ensures.same room behind d (open_yes room d come.positive free)
 
     finds : (behind : Bool) → all_open room behind d (words start) ≡ true → all_open room true d (words start) ≡ behind → FoundFit N room start.args.rows.now d behind
     finds behind h s =
@@ -191,7 +191,7 @@ missed c {N} {b} {room} L =
     (c.before.before.loop-w.invariant.2 N b room L ∙ open_fails _ _ _ _ _ _ _ (open_taken _ _ (tested c.before L ∙ c.if-not-is_free.true)))
 
 free-less : tie.Need-free-smaller invariant_behind decreases_behind invariant-loop decreases-loop invariant_free decreases_free
-free-less c = let e = chosen (gone c.before) in let L = e.before.before.before.before.pre.1.linked in less e.before L (inside e L)
+free-less c = let e = chosen (gone c.before) in let L = e.before.before.before.before.requires.1.linked in less e.before L (inside e L)
 
 free-again : tie.Need-free-preserved invariant_behind decreases_behind invariant-loop decreases-loop invariant_free decreases_free
 free-again c N b room L = let e = chosen (gone c.before) in goes_on e.before L (inside e L) (missed c L)

@@ -22,7 +22,7 @@ first-fit-requires : tie.Need-first_fit-d-requires
 first-fit-requires c κs = search rules
 
 abbrev start : tie.After-first_fit-d → tie.Start
-start f = f.before.before.before.before
+start f = f.before.before
 
 abbrev d : tie.After-first_fit-d → ℕ
 d f = f.first_fit-d.result.d
@@ -31,7 +31,7 @@ few : (c : tie.After-first_fit-d) → d c ≤ slot_limit
 few c = let p = (start c).requires.1 in let L = p.3.linked in omega (arith, (c.first_fit-d.ensures p.0 p.1 p.2 L).d_is, L.size)
 
 new-top-requires : tie.Need-new_top-reached-requires
-new-top-requires c κs = let s = start c in (s.pre.0.0, s.pre.1.3.children, few c)
+new-top-requires c κs = let s = start c in (s.requires.0.0, s.requires.1.3.children, few c)
 
 abbrev words : tie.Start → List ℕ
 words s = oldest_of s.args.rows.now
@@ -57,15 +57,15 @@ module _ (w : tie.After-new_top-reached) {N : ℕ} {b room : Room} (S : Asked (s
   side = side_of N room (start o).args.rows.now
 
   found : FoundFit N room (start o).args.rows.now (d o) (behind o)
-  found = o.first-fit.ensures N b room S.linked
+  found = o.first_fit-d.ensures N b room S.linked
 
   abbrev top : ℕ
   top = (start o).args.top
 
-  answered : min w.new-top.result (suc N) ≡ min (top_with top side fit ws) (suc N)
-  answered = ap (λ (x : ℕ). min x (suc N)) w.new-top.ensures ∙ fit_room N room ws S.linked.past top found.d_is found.side_is
+  answered : min w.new_top-reached.result (suc N) ≡ min (top_with top side fit ws) (suc N)
+  answered = ap (λ (x : ℕ). min x (suc N)) w.new_top-reached.ensures ∙ fit_room N room ws S.linked.past top found.d_is found.side_is
 
-  module _ (yes : w.new-top.result ≤ N) where
+  module _ (yes : w.new_top-reached.result ≤ N) where
     inside : top_with 0 side fit ws ≤ N
     inside = omega (arith, answered, reach-max top side fit ws)
 

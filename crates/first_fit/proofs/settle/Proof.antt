@@ -82,7 +82,7 @@ loop-less c = search rules
 -- the child's slot is taken
 took : (k : tie.After-take invariant-loop decreases-loop) {N : ℕ} {b room : Room} → let l = k.before.before.before.before.before.before in let s = start l in
     let t = child_slot s.args.behind s.args.d (word_of (field s.args.rows.now l.loop-k.k 1)) in
-    Linked N b room l.loop-k.base l.loop-k.check → is_free (room t) ≡ true → Linked N (update b t (pos 0)) (update room t (pos s.args.node.slot)) k.take.new.0 k.take.new.1.0
+    Linked N b room l.loop-k.base l.loop-k.check → is_free (room t) ≡ true → Linked N (update b t (pos 0)) (update room t (pos s.args.node.slot)) k.take.new.base k.take.new.check
 took k {N} {b} {room} L free =
     let t = k.before.before.before in
     let e = child-is t in
@@ -126,7 +126,7 @@ cast-set-base c = let l = c.before.before.before.before.before.before.before in 
 -- the marker's slot is taken
 marked : (k : tie.After-take-2 invariant-loop decreases-loop) {N : ℕ} {b room : Room} {z : ℤ} → let l = k.before.before.before.before in let s = start l in
     Settles N b room s.args.base.now s.args.check.now s.args.rows.now s.args.node.slot z → Fitting N room s.args.rows.now s.args.behind s.args.d
-    → Linked N (update b s.args.d s.args.node.load) (update (own s.args.behind s.args.d s.args.node.slot (oldest_of s.args.rows.now) room) s.args.d s.args.node.mark) k.take-2.new.0 k.take-2.new.1.0
+    → Linked N (update b s.args.d s.args.node.load) (update (own s.args.behind s.args.d s.args.node.slot (oldest_of s.args.rows.now) room) s.args.d s.args.node.mark) k.take-2.new.base k.take-2.new.check
 marked k {N} {b} {room} {z} S F =
     let l = k.before.before.before.before in
     let o = l.loop-k.invariant N b room z S F in
@@ -146,13 +146,13 @@ slot-taken : (l : tie.After-loop-k invariant-loop decreases-loop) {N : ℕ} {b r
 slot-taken l {N} {b} {room} {z} S F =
     let s = start l.before in
     let o = l.before.loop-k.invariant N b room z S F in
-    let apart : s.args.node.slot ≢ s.args.d = λ e. false≢true (sym o.true ∙ ap (λ (x : ℕ). is_free (o.c x)) e ∙ o.d_free) in
+    let apart : s.args.node.slot ≢ s.args.d = λ e. false≢true (sym o.taken ∙ ap (λ (x : ℕ). is_free (o.c x)) e ∙ o.d_free) in
     ap is_free (update_other (own s.args.behind s.args.d s.args.node.slot (oldest_of s.args.rows.now) room) s.args.d s.args.node.mark s.args.node.slot apart)
-    ∙ ap (λ (c : Room). is_free (c s.args.node.slot)) (sym (owning_end o (ended l))) ∙ o.true
+    ∙ ap (λ (c : Room). is_free (c s.args.node.slot)) (sym (owning_end o (ended l))) ∙ o.taken
 
 settled : (e : tie.After-set_base invariant-loop decreases-loop) {N : ℕ} {b room : Room} {z : ℤ} → let k = e.before.before.before.before in let s = start k.before.before.before.before in
     Settles N b room s.args.base.now s.args.check.now s.args.rows.now s.args.node.slot z → Fitting N room s.args.rows.now s.args.behind s.args.d
-    → Linked N (update (update b s.args.d s.args.node.load) s.args.node.slot (pos s.args.d)) (update (own s.args.behind s.args.d s.args.node.slot (oldest_of s.args.rows.now) room) s.args.d s.args.node.mark) e.set_base.new.0 k.take-2.new.1.0
+    → Linked N (update (update b s.args.d s.args.node.load) s.args.node.slot (pos s.args.d)) (update (own s.args.behind s.args.d s.args.node.slot (oldest_of s.args.rows.now) room) s.args.d s.args.node.mark) e.set_base.new.base k.take-2.new.check
 settled e {N} S F =
     let k = e.before.before.before.before in
     let s = start k.before.before.before.before in

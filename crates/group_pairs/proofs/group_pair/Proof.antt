@@ -50,10 +50,10 @@ high-found : (c : tie.After-first_with-high) → FirstWith (start c).args.totals
 high-found c = let e = to_z-of_z (high_fits (told c)) in rw e at c.first_with-high.ensures
 
 low-inside : (c : tie.After-first_with-high) → low-at c < length (start c).args.totals.now
-low-inside c = let s = start c in low_in_listing s.args.totals.now s.args.first s.args.weight s.args.count s.pre.0 s.args.range.low s.args.range.high s.pre.1.spans (low-at c) (low-found c)
+low-inside c = let s = start c in low_in_listing s.args.totals.now s.args.first s.args.weight s.args.count s.requires.0 s.args.range.low s.args.range.high s.requires.1.spans (low-at c) (low-found c)
 
 high-inside : (c : tie.After-first_with-high) → high-at c < length (start c).args.totals.now
-high-inside c = let s = start c in high_in_listing s.args.totals.now s.args.first s.args.weight s.args.count s.pre.0 s.args.range.low s.args.range.high s.pre.1.spans (high-at c) (high-found c)
+high-inside c = let s = start c in high_in_listing s.args.totals.now s.args.first s.args.weight s.args.count s.requires.0 s.args.range.low s.args.range.high s.requires.1.spans (high-at c) (high-found c)
 
 distance-fits : (t : tie.After-struct_told-1) → SFits w64 t.args.range.distance
 distance-fits t = sfits_of t.struct_told-1.given.1.1.0.1

@@ -78,18 +78,18 @@ loop-again c =
     let l = i.before in
     let s = l.before.before in
     let x = total_at s.args.totals.now (s.args.first + l.loop-s.s * s.args.weight) in
-    let low : Chosen (lt_z x (to_z w64 l.loop-s.low-bits)) x (to_z w64 l.loop-s.low-bits) (to_z w64 j.if-total-low.low) =
+    let low : Chosen (lt_z x (to_z w64 l.loop-s.low-bits)) x (to_z w64 l.loop-s.low-bits) (to_z w64 j.if-total-low.low-bits) =
     ⊎_elim
-    (λ w. inl (rw (new-total t) at w.0.true, ap (to_z w64) w.1 ∙ new-total t))
-    (λ w. inr (rw (new-total t) at w.0.left, ap (to_z w64) w.1))
+    (λ w. inl (rw (new-total t) at w.if-total-low.true, w.low-is ∙ new-total t))
+    (λ w. inr (rw (new-total t) at w.if-total-low.false, w.low-is))
     j.if-total-low.branch-raw in
-    let high : Chosen (lt_z (to_z w64 l.loop-s.high-bits) x) x (to_z w64 l.loop-s.high-bits) (to_z w64 c.if-high-total.high) =
+    let high : Chosen (lt_z (to_z w64 l.loop-s.high-bits) x) x (to_z w64 l.loop-s.high-bits) (to_z w64 c.if-high-total.high-bits) =
     ⊎_elim
-    (λ w. inl (rw (new-total t) at w.0.true, ap (to_z w64) w.1 ∙ new-total t))
-    (λ w. inr (rw (new-total t) at w.0.left, ap (to_z w64) w.1))
+    (λ w. inl (rw (new-total t) at w.if-high-total.true, w.high-is ∙ new-total t))
+    (λ w. inr (rw (new-total t) at w.if-high-total.false, w.high-is))
     c.if-high-total.branch-raw in
     record {
-      spans = spans-more s.args.totals.now s.args.first s.args.weight l.loop-s.s (to_z w64 l.loop-s.low-bits) (to_z w64 l.loop-s.high-bits) l.loop-s.invariant.spans (to_z w64 j.if-total-low.low) (to_z w64 c.if-high-total.high) low high;
+      spans = spans-more s.args.totals.now s.args.first s.args.weight l.loop-s.s (to_z w64 l.loop-s.low-bits) (to_z w64 l.loop-s.high-bits) l.loop-s.invariant.spans (to_z w64 j.if-total-low.low-bits) (to_z w64 c.if-high-total.high-bits) low high;
       few = omega (arith, i.loop-s-test.true);
       step = omega (arith, l.loop-s.invariant.step);
     }

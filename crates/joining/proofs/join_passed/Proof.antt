@@ -102,11 +102,11 @@ returns : tie.Need-returns-then-not-again
 returns c =
     let k = c.before.before.before in
     let s = entry k in
-    c.refused.ensures ∙ ap crossed (sym (rescored_refused s.args.order (fragment_in s.args.one) (fragment_in s.args.two) k.rescore-again.result (alone s) (after s) (again k) c.if-not-again.true))
+    c.refused.ensures ∙ ap crossed (sym (rescored_refused s.args.order (fragment_in s.args.one) (fragment_in s.args.two) k.rescore-again.result (alone s) (after s) (again k) (not-true _ c.if-not-again.true)))
 
 -- both scorings are sound, and their totals small
 sound : (c : tie.Else-not-again) → c.rescore-again.result.sound ≡ true
-sound c = c.if-not-again.false
+sound c = not-false _ c.if-not-again.false
 
 small : (c : tie.Else-not-again) → (nat_abs c.rescore-again.result.less ≤ 4 * most_points) × (nat_abs c.rescore-again.result.plus ≤ 4 * most_points)
 small c =

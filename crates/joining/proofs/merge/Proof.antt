@@ -104,7 +104,7 @@ array-share-prefix-words : tie.Need-slice_bounds-words-end
 array-share-prefix-words c = within-two c.before.before.before.before.before.before
 
 slice-aggregate-first-words : tie.Need-slice_bounds-first_words-end
-slice-aggregate-first-words c = let s = c.before.before.before.before.before.before.before in sym (length-take-le s.args.two.kept s.args.two.first-1 (within-two s))
+slice-aggregate-first-words c = let s = c.before.before.before.before.before.before.before in sym (length-take-le s.args.two.kept s.args.two.first (within-two s))
 
 sub-first-words : tie.Need-overflow_sub-order
 sub-first-words c = search rules
@@ -123,10 +123,10 @@ add_t17 : tie.Need-overflow_add-result
 add_t17 c = let s = entry c in rw (to_z-of_z (fits_one s), to_z-of_z (fits-two s)) (both_fit s)
 
 sub-t18 : tie.Need-overflow_sub-result
-sub-t18 c = let s = entry c in rw (to_z-of_z (fits_one s), to_z-of_z (fits-two s), to_z-of_z (both_fit s), to_z-of_z s.fits.less) (less_fits s)
+sub-t18 c = let s = entry c in rw (to_z-of_z (fits_one s), to_z-of_z (fits-two s), to_z-of_z (both_fit s), to_z-of_z s.ranges.less) (less_fits s)
 
 add-t19 : tie.Need-overflow_add-result-2
-add-t19 c = let s = entry c in rw (to_z-of_z (fits_one s), to_z-of_z (fits-two s), to_z-of_z (both_fit s), to_z-of_z s.fits.less, to_z-of_z (less_fits s), to_z-of_z s.fits.plus) (total-fits s)
+add-t19 c = let s = entry c in rw (to_z-of_z (fits_one s), to_z-of_z (fits-two s), to_z-of_z (both_fit s), to_z-of_z s.ranges.less, to_z-of_z (less_fits s), to_z-of_z s.ranges.plus) (total-fits s)
 
 cast-kept-of : tie.Need-overflow_cast-count
 cast-kept-of c = search rules
@@ -142,14 +142,14 @@ returns c =
     let s = entry c.before in
     let one = s.args.one in
     let two = s.args.two in
-    let words = kept_in one.kept one.first-1 ++ kept_in two.kept two.first-1 in
-    let kept : min (s.args.order - 1) (one.count + two.count) ≡ length (take (s.args.order - 1) words) = omega (arith, length-take (s.args.order - 1) words, length-append (kept_in one.kept one.first-1) (kept_in two.kept two.first-1), length-kept_in one.kept one.first-1, length-kept_in two.kept two.first-1, kept-one s, kept-two s) in
+    let words = kept_in one.kept one.first ++ kept_in two.kept two.first in
+    let kept : min (s.args.order - 1) (one.count + two.count) ≡ length (take (s.args.order - 1) words) = omega (arith, length-take (s.args.order - 1) words, length-append (kept_in one.kept one.first) (kept_in two.kept two.first), length-kept_in one.kept one.first, length-kept_in two.kept two.first, kept-one s, kept-two s) in
     let e = c.before.before.before.before.before in
     λ i. record {
-      total = sum_back (fits_one s) (fits-two s) s.fits.less s.fits.plus (both_fit s) (less_fits s) (total-fits s) i;
+      total = sum_back (fits_one s) (fits-two s) s.ranges.less s.ranges.plus (both_fit s) (less_fits s) (total-fits s) i;
       count = one.count + two.count;
       kept = (c.kept_of.ensures ∙ kept) i;
-      first = (e.first_words-first.ensures ∙ ap₂ (λ (x y : List ℕ). four_places (take (s.args.order - 1) (x ++ y))) (sym (kept_in-within one.kept one.first-1 (within-one s))) (sym (kept_in-within two.kept two.first-1 (within-two s)))) i;
+      first = (e.first_words-first.ensures ∙ ap₂ (λ (x y : List ℕ). four_places (take (s.args.order - 1) (x ++ y))) (sym (kept_in-within one.kept one.first (within-one s))) (sym (kept_in-within two.kept two.first (within-two s)))) i;
       state = (e.end_of-state.ensures ∙ from-cond (leb (s.args.order - 1) two.count) two.state s.args.end (state-two s) (state-end s)) i;
     }
 

@@ -7,6 +7,7 @@ use borrow.Author.Rules.{rules, sfits_of}
 use mir.Facts.{to_z-of_z}
 use lib.ListN.{length}
 use lib.Seq.{length-take-le}
+use mir.Syntax.{w64}
 use Rattle.backoff.specs.Store.{Store}
 use Rattle.double_array.specs.DoubleArray.{opened}
 use Rattle.sentence_totals.specs.Totals.{sentence_total}
@@ -94,23 +95,23 @@ slice-reshare-prefix-largest-pair : tie.Need-slice_bounds-largest_pair-end
 slice-reshare-prefix-largest-pair c = long c.before.before
 
 slice-aggregate-largest-pair : tie.Need-slice_bounds-largest_pair-end-2
-slice-aggregate-largest-pair c = sym (length-take-le _ _ (long c.before.before.before))
+slice-aggregate-largest-pair c = sym (length-take-le _ _ (long c.before.before))
 
 largest-pair-requires : tie.Need-largest_pair-largest-requires
 largest-pair-requires c κs =
-    let e = c.before.before in
+    let e = c.before in
     let k = e.before in
     let a = counted k in
     let s = start a in
     let z = k.if-listing-ne0.false in (
       totals_small s.args.base.now s.args.check.now s.args.k s.args.words.now s.args.totals.now _ a.list_counted-counted.ensures.0 z (long k),
-      is-listing s.args.base.now s.args.check.now s.args.k s.args.words.now s.args.totals.now _ a.list_counted-counted.ensures.0 z (long k) _ (usable-is k) e.if2.false,
+      is-listing s.args.base.now s.args.check.now s.args.k s.args.words.now s.args.totals.now _ a.list_counted-counted.ensures.0 z (long k) _ (usable-is k) e.if-counted-lt2.false,
     )
 
 -- ---- what the search found
 
 abbrev known : tie.After-largest_pair-largest → tie.After-struct_known-2-1
-known f = f.before.before.before.before
+known f = f.before.before.before
 
 within : (f : tie.After-largest_pair-largest) → Within 65536 f.largest_pair-largest.result
 within f =
@@ -145,7 +146,7 @@ returns_3 c =
     let a = counted k in
     let s = start a in
     found-answers s.args.base.now s.args.check.now s.args.k s.args.words.now s.args.totals.now _ a.list_counted-counted.ensures.0 _ k.if-listing-ne0.false
-    (returned f.largest_pair-largest.result _ (found f) _ (to_z-of_z (sfits_of c.struct_told-1.given.0.1)))
+    (returned f.largest_pair-largest.result _ (found f) _ (to_z-of_z {w = w64} (sfits_of c.struct_told-1.given.0.1)))
 
 pub find_largest_move_spec : {M : Type 1} → statement M
 find_largest_move_spec =

@@ -59,7 +59,7 @@ returns c =
     let l = c.before in
     let s = l.before in
     let e : l.loop-block.block ≡ length s.args.totals.now = omega (arith, l.loop-block.invariant.within, c.loop-block-test.false) in
-    place_seen s.args.totals.now s.args.count s.requires.1.0.place s.args.weight l.loop-block.auto s.requires.1.0.two s.requires.1.0.weight_is (rw e at l.loop-block.invariant.so_far)
+    place_seen s.args.totals.now s.args.count s.requires.1.0.place s.args.weight l.loop-block.kept s.requires.1.0.two s.requires.1.0.weight_is (rw e at l.loop-block.invariant.so_far)
 
 pub at_place_spec : {M : Type 1} → statement M
 at_place_spec =

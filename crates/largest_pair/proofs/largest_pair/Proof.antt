@@ -65,7 +65,7 @@ returns c =
     let s = l.before in
     let e : l.loop-place.place ≡ s.args.k = omega (arith, l.loop-place.invariant.within, c.loop-place-test.false) in
     let w : l.loop-place.weight ≡ s.args.count ^ s.args.k = l.loop-place.invariant.weight_is ∙ ap (λ n. s.args.count ^ n) e in
-    all_seen s.args.count s.args.k s.requires.1.two s.args.totals.now l.loop-place.auto s.requires.1.long s.requires.1.some (rw w at l.loop-place.invariant.so_far)
+    all_seen s.args.count s.args.k s.requires.1.two s.args.totals.now l.loop-place.kept s.requires.1.long s.requires.1.some (rw w at l.loop-place.invariant.so_far)
 
 pub largest_pair_spec : {M : Type 1} → statement M
 largest_pair_spec =

@@ -44,7 +44,7 @@ returns c =
     let l = c.before in
     let s = l.before in
     let e : l.loop-group.group ≡ s.args.weight = omega (arith, l.loop-group.invariant.0, c.loop-group-test.false) in
-    block_seen s.args.totals.now s.args.count s.args.weight s.args.block l.loop-group.auto s.requires.1.0 (rw e at l.loop-group.invariant.1)
+    block_seen s.args.totals.now s.args.count s.args.weight s.args.block l.loop-group.kept s.requires.1.0 (rw e at l.loop-group.invariant.1)
 
 pub with_block_spec : {M : Type 1} → statement M
 with_block_spec =

@@ -70,7 +70,7 @@ returns_3 : tie.Need-returns
 returns_3 c =
     let p = c.before in
     let s = (ranged (tested p.before.before).before.before).before in
-    rw c.keep.ensures (group_seen s.args.totals.now s.args.count s.args.weight s.args.first s.pre.1.0 s.args.kept p.group_pair-next.result s.pre.1.1 p.group_pair-next.ensures)
+    rw c.keep.ensures (group_seen s.args.totals.now s.args.count s.args.weight s.args.first s.requires.1.0 s.args.kept p.group_pair-next.result s.requires.1.1 p.group_pair-next.ensures)
 
 pub with_group_spec : {M : Type 1} → statement M
 with_group_spec =

@@ -23,16 +23,16 @@ same-length-3 : tie.Need-shape_of-work-then-check-top
 same-length-3 c = c.place_root-top.auto.work
 
 returns : tie.Need-returns-then-check-top
-returns c = let r = c.before.before.before.before.before in over_refused 1 (omega (arith, c.if-check-top.true, r.place_root-top.auto.1.1.0)) r.place_root-top.ensures
+returns c = let r = c.before.before.before.before.before in over_refused 1 (omega (arith, c.if-check-top.true, r.place_root-top.auto.check)) r.place_root-top.ensures
 
 abbrev start : tie.Else-check-top → tie.Start
 start c = c.before.before.before.before.before.before.before.before.before.before.before
 
 room : (c : tie.Else-check-top) → let r = c.before.before.before.before.before in r.place_root-top.result ≤ length r.before.before.before.before.before.before.args.check.now
-room c = let r = c.before.before.before.before.before in omega (arith, c.if-check-top.false, r.place_root-top.auto.1.1.0)
+room c = let r = c.before.before.before.before.before in omega (arith, c.if-check-top.false, r.place_root-top.auto.check)
 
 placed : (c : tie.Else-check-top) → let r = c.before.before.before.before.before in let s = r.before.before.before.before.before.before in
-    Filled s.args.table.now (length s.args.check.now) (placed_nodes s.args.table.now 1) r.place_root-top.new.1.0 r.place_root-top.new.1.1.0 r.place_root-top.new.1.1.1.0
+    Filled s.args.table.now (length s.args.check.now) (placed_nodes s.args.table.now 1) r.place_root-top.new.base r.place_root-top.new.check r.place_root-top.new.work
 placed c = c.place_root-top.ensures.filled (room c)
 
 order-of-requires : tie.Need-order_of-requires
@@ -49,13 +49,13 @@ place-rows-requires c κs =
     (((start e).requires.0.0, rw b.order_of.ensures.0 at b.rows_below-shorter.ensures, omega (arith, room e, r.place_root-top.ensures.answer), (start e).requires.0.1), filled-here (placed e))
 
 same-length-4 : tie.Need-shape_of-base
-same-length-4 c = let r = c.before.before.before.before in r.place_rows.auto.1.1.0 ∙ r.before.before.before.before.before.before.before.before.before.before.before.place_root-top.auto.1.0
+same-length-4 c = let r = c.before.before.before.before in r.place_rows.auto.base ∙ r.place_root-top.auto.base
 
 same-length-5 : tie.Need-shape_of-check
-same-length-5 c = let r = c.before.before.before.before in r.place_rows.auto.1.1.1.0 ∙ r.before.before.before.before.before.before.before.before.before.before.before.place_root-top.auto.1.1.0
+same-length-5 c = let r = c.before.before.before.before in r.place_rows.auto.check ∙ r.place_root-top.auto.check
 
 same-length-6 : tie.Need-shape_of-work
-same-length-6 c = let r = c.before.before.before.before in r.place_rows.auto.1.1.1.1.1.0 ∙ r.before.before.before.before.before.before.before.before.before.before.before.place_root-top.auto.1.1.1.0
+same-length-6 c = let r = c.before.before.before.before in r.place_rows.auto.work ∙ r.place_root-top.auto.work
 
 returns_2 : tie.Need-returns
 returns_2 c =

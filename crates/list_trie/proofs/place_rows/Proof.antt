@@ -79,13 +79,13 @@ turn c =
     rw (e, filled-check (at c).loop-i.invariant.filled) at c.place_row-top.ensures
 
 same_length : tie.Need-shape_of-base-then-check-top invariant-loop decreases-loop
-same_length c = let p = c.before.before.before.before.before in p.place_row-top.auto.1.1.1.0 ∙ base_kept (at p)
+same_length c = let p = c.before.before.before.before.before in p.place_row-top.auto.base ∙ base_kept (at p)
 
 same-length_2 : tie.Need-shape_of-check-then-check-top invariant-loop decreases-loop
-same-length_2 c = let p = c.before.before.before.before.before in p.place_row-top.auto.1.1.1.1.0 ∙ filled-check (at p).loop-i.invariant.filled
+same-length_2 c = let p = c.before.before.before.before.before in p.place_row-top.auto.check ∙ filled-check (at p).loop-i.invariant.filled
 
 same-length-3 : tie.Need-shape_of-work-then-check-top invariant-loop decreases-loop
-same-length-3 c = let p = c.before.before.before.before.before in p.place_row-top.auto.1.1.1.1.1.1.0 ∙ work-kept (at p)
+same-length-3 c = let p = c.before.before.before.before.before in p.place_row-top.auto.work ∙ work-kept (at p)
 
 returns : tie.Need-returns-then-check-top invariant-loop decreases-loop
 returns c =
@@ -120,27 +120,27 @@ short-filled c = rw (short-placed c) at c.loop-i.invariant.filled
 
 place-longest-requires : tie.Need-place_longest-requires invariant-loop decreases-loop
 place-longest-requires c κs =
-    let e = c.before.before in
+    let e = c.before in
     let s = start e.before in
     ((s.requires.0.0, s.requires.0.1), (_, _, short-filled e))
 
 same-length-4 : tie.Need-shape_of-base invariant-loop decreases-loop
-same-length-4 c = c.place_longest.auto.base ∙ base_kept c.before.before.before.before.before
+same-length-4 c = c.place_longest.auto.base ∙ base_kept c.before.before.before.before
 
 same-length-5 : tie.Need-shape_of-check invariant-loop decreases-loop
 same-length-5 c = filled-check c.loop-i.invariant.filled
 
 same-length-6 : tie.Need-shape_of-work invariant-loop decreases-loop
-same-length-6 c = work-kept c.before.before.before.before.before
+same-length-6 c = work-kept c.before.before.before.before
 
 tried_same : {t : List ℤ} {N q r : ℕ} {P : Placed} {base check : List ℤ} {work : List ℕ} → r ≡ q → Tried t N P q base check work → Tried t N P r base check work
 tried_same e T = rw e T
 
 returns_2 : tie.Need-returns invariant-loop decreases-loop
 returns_2 c =
-    let e = c.before.before.before.before in
+    let e = c.before.before.before in
     let l = e.before in
-    tried_same (l.loop.invariant.top-is ∙ ap (λ (i : ℕ). (placed_nodes (table l) (i + 1)).top) (short-placed e)) (c.place_longest.ensures _ _ (short-filled e))
+    tried_same (l.loop-i.invariant.top-is ∙ ap (λ (i : ℕ). (placed_nodes (table l) (i + 1)).top) (short-placed e)) (c.place_longest.ensures _ _ (short-filled e))
 
 pub place_rows_spec : {M : Type 1} → statement M
 place_rows_spec =

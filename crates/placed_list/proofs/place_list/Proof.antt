@@ -20,7 +20,7 @@ abbrev begun : tie.After-wipe → tie.Start
 begun p = p.before.before.before.before.before.before
 
 -- nothing is placed
-none : (p : tie.After-wipe) → let t = (begun p).args.table.now in Filled t (length (begun p).args.check.now) (placed_nodes t 0) p.wipe.new.0 p.wipe.new.1.0 p.wipe.new.1.1.0
+none : (p : tie.After-wipe) → let t = (begun p).args.table.now in Filled t (length (begun p).args.check.now) (placed_nodes t 0) p.wipe.new.base p.wipe.new.check p.wipe.new.work
 none p = filled_none (begun p).args.table.now (begun p).requires p.wipe.ensures
 
 place-nodes-requires : tie.Need-place_nodes-top-requires
@@ -37,11 +37,11 @@ tried c = rw (filled-check (none (wiped c))) at c.place_nodes-top.ensures
 
 -- where all nodes have room
 room : (e : tie.Then-top-check) → let c = e.before.before.before.before.before in c.place_nodes-top.result ≤ length (start c).args.check.now
-room e = let c = e.before.before.before.before.before in omega (arith, e.if-top-check.true, c.place_nodes-top.auto.1.1.0, filled-check (none (wiped c)))
+room e = let c = e.before.before.before.before.before in omega (arith, e.if-top-check.true, c.place_nodes-top.auto.check, filled-check (none (wiped c)))
 
 -- the slices with links, once all nodes are placed
 linked : (e : tie.Then-top-check) → let c = e.before.before.before.before.before in let t = (start c).args.table.now in
-    Linked (length (start c).args.check.now) (placed_list t).base-1 (placed_list t).check-1 c.place_nodes-top.new.1.0 c.place_nodes-top.new.1.1.0
+    Linked (length (start c).args.check.now) (placed_list t).base (placed_list t).check c.place_nodes-top.new.base c.place_nodes-top.new.check
 linked e = ((tried e.before.before.before.before.before).filled (room e)).linked
 
 finish-requires : tie.Need-finish-requires
@@ -87,8 +87,8 @@ returns_2 c =
     let s = start n in
     let p = (wiped n).wipe.auto in
     let k = n.place_nodes-top.auto in
-    built-refused s.args.table.now s.args.base.now s.args.check.now s.args.work.now (sizes_told _ _ s.requires.sizes).same s.requires.each (omega (arith, e.if-top-check.false, k.1.1.0, filled-check (none (wiped n)))) (tried n)
-    (k.1.0 ∙ p.0) (k.1.1.0 ∙ p.1.0) (k.1.1.1.1.0 ∙ p.1.1.0) w.wipe-2.ensures
+    built-refused s.args.table.now s.args.base.now s.args.check.now s.args.work.now (sizes_told _ _ s.requires.sizes).same s.requires.each (omega (arith, e.if-top-check.false, k.check, filled-check (none (wiped n)))) (tried n)
+    (k.base ∙ p.base) (k.check ∙ p.check) (k.work ∙ p.work) w.wipe-2.ensures
 
 pub place_list_spec : {M : Type 1} → statement M
 place_list_spec =

@@ -28,10 +28,10 @@ replaced-requires : tie.Need-replaced-known-requires
 replaced-requires c κs = search rules
 
 module _ (c : tie.After-replaced-known) where
-  known_is : to_z w32 (of_z w32 c.replaced.result) ≡ pos (replaced (model c.before) c.before.args.word)
-  known_is = let f : SFits w32 c.replaced.result = sfits_of c.replaced.type-inv in to_z-of_z f ∙ c.replaced.ensures
+  known_is : to_z w32 (of_z w32 c.replaced-known.result) ≡ pos (replaced (model c.before) c.before.args.word)
+  known_is = let f : SFits w32 c.replaced-known.result = sfits_of c.replaced-known.type_inv in to_z-of_z f ∙ c.replaced-known.ensures
 
-  word-is : word_of (to_z w32 (of_z w32 c.replaced.result)) ≡ replaced (model c.before) c.before.args.word
+  word-is : word_of (to_z w32 (of_z w32 c.replaced-known.result)) ≡ replaced (model c.before) c.before.args.word
   word-is = ap word_of known_is ∙ word_of-pos _ (first_limit _ [] (replaced-is-word (model c.before) c.before.args.word (accepted c.before)))
 
 score-word-requires : tie.Need-score_word-scored-requires

@@ -56,7 +56,7 @@ score-words-requires c κs =
     let n = c.before.before in
     let e = n.before in
     let f = fits _ (no-refusal e) in
-    (accepted e.before.before, n.length_of-n.ensures.0, f.few, f.points-1, f.lengths-1)
+    (accepted e.before.before, n.length_of-n.ensures.0, f.few, f.points, f.lengths)
 
 same_length : tie.Need-shape_of-points
 same_length c = search rules

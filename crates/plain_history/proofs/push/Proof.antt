@@ -54,7 +54,7 @@ returns_2 c =
     let p1 = p2.before in
     let e = p1.before.before in
     let s = e.before in
-    rw (ne_eqb _ _ e.if-word-eq-END_WORD.false, to_z-of_z (fits_1 p1), to_z-of_z (fits_2 p2), to_z-of_z (fits_3 p3), to_z-of_z s.fits.known, c.smaller.ensures, shift s.args.recent.words s.args.known (four p1.before))
+    rw (ne_eqb _ _ e.if-word-eq-END_WORD.false, to_z-of_z (fits_1 p1), to_z-of_z (fits_2 p2), to_z-of_z (fits_3 p3), to_z-of_z s.ranges.known, c.smaller.ensures, shift s.args.recent.words s.args.known (four p1.before))
 
 pub push_spec : {M : Type 1} → statement M
 push_spec =

@@ -38,12 +38,12 @@ known c =
 marked : (c : tie.Joined-word-eq-UNKNOWN_WORD) → c.if-word-eq-UNKNOWN_WORD.byte ≡ c.args.matched + mark c.before
 marked c =
     ⊎_elim
-    (λ w. omega (arith, w.1, unknown (record { before = c.before; if1 = w.0 })))
-    (λ w. omega (arith, w.1, known (record { before = c.before; if1 = w.0 })))
+    (λ w. omega (arith, w.byte-is, unknown (record { before = c.before; if-word-eq-UNKNOWN_WORD = w.if-word-eq-UNKNOWN_WORD })))
+    (λ w. omega (arith, w.byte-is, known (record { before = c.before; if-word-eq-UNKNOWN_WORD = w.if-word-eq-UNKNOWN_WORD })))
     c.if-word-eq-UNKNOWN_WORD.branch-raw
 
 add-byte-2 : tie.Need-overflow_add-byte-then-extended
-add-byte-2 c = ⊎_elim (λ w. omega (arith, w.1)) (λ w. omega (arith, w.1)) c.if-word-eq-UNKNOWN_WORD.branch-raw
+add-byte-2 c = ⊎_elim (λ w. omega (arith, w.byte-is)) (λ w. omega (arith, w.byte-is)) c.if-word-eq-UNKNOWN_WORD.branch-raw
 
 returns : tie.Need-returns-then-extended
 unfolding length_byte mark

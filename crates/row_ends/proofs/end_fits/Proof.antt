@@ -3,6 +3,7 @@ use mathlib.Core.Path.{ap, ◌∙◌}
 use lib.IntN.{ℤ, pos}
 use mir.Facts.{to_z-of_z}
 use borrow.Author.Rules.{rules, sfits_of}
+use mir.Syntax.{w32}
 use Rattle.integer.specs.Integer.{between}
 use Rattle.backoff.specs.Limits.{least_probability}
 use Rattle.backoff.specs.Model.{in_probability}
@@ -26,7 +27,7 @@ returns c =
     let e = c.before in
     let s = e.before.before in
     c.in_range.ensures
-    ∙ ap (λ (z : ℤ). between least_probability (pos 0) z) (to_z-of_z (sfits_of e.end_probability.type_inv) ∙ e.end_probability.ensures)
+    ∙ ap (λ (z : ℤ). between least_probability (pos 0) z) (to_z-of_z {w = w32} (sfits_of e.end_probability.type_inv) ∙ e.end_probability.ensures)
     ∙ addable_by _ s.requires.checked s.args.i s.args.m
 
 pub end_fits_spec : {M : Type 1} → statement M

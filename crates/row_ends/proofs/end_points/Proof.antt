@@ -60,7 +60,7 @@ owed c = to_z w32 (of_z w32 (to_z w32 (at_loop c).loop-at.owed-bits +ℤ to_z w3
 b-summed : (c : tie.After-row_of-owed invariant-loop decreases-loop) → Sum (to_z w32 (at_loop c).loop-at.owed-bits) c.row_of-owed.result.b (found_row (table c) (find_in (table c) (words_from (table c) (at c) (past c - 1 - at c)))).b
 b-summed c =
     let s = (at_loop c).before in
-    backoff-summed s.pre.0 s.pre.3 (at_loop c).loop-at.invariant.sum _ c.row_of-owed.ensures
+    backoff-summed s.requires.0 s.requires.3 (at_loop c).loop-at.invariant.sum _ c.row_of-owed.ensures
 
 owed_on : (c : tie.After-row_of-owed invariant-loop decreases-loop) → Owed (table c) (at_loop c).args.from (past c) (owed c) (at c + 1)
 owed_on c =
@@ -89,7 +89,7 @@ first c = c.before.before.before
 p-summed : (c : tie.After-row_of-row invariant-loop decreases-loop) → Sum (owed (first c)) c.row_of-row.result.p (found_row (table (first c)) (find_in (table (first c)) (words_from (table (first c)) (at (first c) + 1) (past (first c) - (at (first c) + 1))))).p
 p-summed c =
     let s = (at_loop (first c)).before in
-    probability-summed s.pre.0 s.pre.3 (owed_on (first c)) _ c.row_of-row.ensures
+    probability-summed s.requires.0 s.requires.3 (owed_on (first c)) _ c.row_of-row.ensures
 
 add-result : tie.Need-overflow_add-result invariant-loop decreases-loop
 add-result c = (p-summed c.before.before.before).fits
@@ -99,7 +99,7 @@ returns c =
     let w = c.before.before.before in
     let s = (at_loop (first w)).before in
     let e = sym (found-listed _ _ w.row_of-row.ensures) ∙ c.if-row.true in
-    (p-summed w).sum_is ∙ sym (owed-here (owed_on (first w)) (listed-some _ _ _ (checked-good true _ s.pre.0) e) e)
+    (p-summed w).sum_is ∙ sym (owed-here (owed_on (first w)) (listed-some _ _ _ (checked-good true _ s.requires.0) e) e)
 
 loop-less : tie.Need-loop-at-smaller invariant-loop decreases-loop
 loop-less c = omega arith

@@ -4,6 +4,7 @@ use native.Mathlib.Omega.{arith}
 use lib.Dec.{lit<}
 use mir.Facts.{to_z-of_z}
 use borrow.Author.Rules.{rules, sfits_of}
+use mir.Syntax.{w32}
 use Rattle.rows.proofs.Table.{row_in, length_limit}
 use Rattle.row_ends.proofs.Points.{end-places}
 use Rattle.row_ends.proofs.Ends.{own-probability, added-probability, added-absent}
@@ -29,13 +30,13 @@ end-points-requires c κs =
     (e.checked, q.0, q.1, q.2, q.3, added-absent _ _ _ _ e c.if-m-k.true)
 
 returns : tie.Need-returns-then-m-k
-returns c = to_z-of_z (sfits_of c.end_points.type_inv) ∙ c.end_points.ensures ∙ added-probability _ _ _ _ c.requires c.if-m-k.true
+returns c = to_z-of_z {w = w32} (sfits_of c.end_points.type_inv) ∙ c.end_points.ensures ∙ added-probability _ _ _ _ c.requires c.if-m-k.true
 
 field-requires : tie.Need-field-requires
 field-requires c κs = (row_in _ _ c.requires.within, lit< tt)
 
 returns_2 : tie.Need-returns
-returns_2 c = to_z-of_z (sfits_of c.field.type_inv) ∙ c.field.ensures ∙ own-probability _ _ _ _ c.requires c.if-m-k.false
+returns_2 c = to_z-of_z {w = w32} (sfits_of c.field.type_inv) ∙ c.field.ensures ∙ own-probability _ _ _ _ c.requires c.if-m-k.false
 
 pub end_probability_spec : {M : Type 1} → statement M
 end_probability_spec =

@@ -3,6 +3,7 @@ use mathlib.Core.Path.{◌∙◌}
 use native.Mathlib.Omega.{arith}
 use mir.Facts.{to_z-of_z}
 use borrow.Author.Rules.{rules, sfits_of}
+use mir.Syntax.{w32}
 use Rattle.row_ends.proofs.Written.{place_default, place-word}
 use Rattle.row_ends.proofs.word_or_zero.Statement.{statement}
 use Rattle.row_ends.proofs.word_or_zero.Tie as tie
@@ -27,7 +28,7 @@ returns_2 c =
     let s = c.before.before in
     let l = c.if-past-from.false in
     let q = s.requires.0 in
-    to_z-of_z (sfits_of c.result-1.given) ∙ place-word _ _ _ _ (omega (arith, s.requires.1)) s.requires.2 l
+    to_z-of_z {w = w32} (sfits_of c.result-1.given) ∙ place-word _ _ _ _ (omega (arith, s.requires.1)) s.requires.2 l
 
 pub word_or_zero_spec : {M : Type 1} → statement M
 word_or_zero_spec =

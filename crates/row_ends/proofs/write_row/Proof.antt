@@ -106,8 +106,8 @@ returns c =
     (word s 2 (sfits_of w₃.word_or_zero-x.type_inv) w₃.word_or_zero-x.ensures)
     (word s 3 (sfits_of w₄.word_or_zero-y.type_inv) w₄.word_or_zero-y.ensures)
     (word s 4 (sfits_of w₅.word_or_zero-z.type_inv) w₅.word_or_zero-z.ensures)
-    (to_z-of_z (sfits_of q.end_probability-p.type_inv) ∙ q.end_probability-p.ensures)
-    (to_z-of_z (sfits_of b.end_backoff-b.type_inv) ∙ b.end_backoff-b.ensures))
+    (to_z-of_z {w = w32} (sfits_of q.end_probability-p.type_inv) ∙ q.end_probability-p.ensures)
+    (to_z-of_z {w = w32} (sfits_of b.end_backoff-b.type_inv) ∙ b.end_backoff-b.ensures))
 
 pub write_row_spec : {M : Type 1} → statement M
 write_row_spec =

@@ -2,7 +2,6 @@
 use mathlib.Core.Path.{◌≡◌, refl, sym, ap, ◌∙◌}
 use mathlib.Core.Bool.{Bool, true, false, not, cond}
 use borrow.Author.Rules.{rules}
-use borrow.Author.Tests.{not-true, not-false}
 use Rattle.backoff.specs.Limits.{order_limit}
 use Rattle.backoff.specs.Refusal.{row_backoff}
 use Rattle.rows.specs.Table.{length_of, places_fit}

@@ -10,7 +10,7 @@ use mir.Syntax.{w32}
 use mir.Val.{SFits, of_z}
 use mir.Facts.{to_z-of_z}
 use borrow.Author.Rules.{sfits_of}
-use borrow.Author.Tests.{not-true, not-false, eq-eqb, ne_eqb}
+use borrow.Author.Tests.{eq-eqb, ne_eqb}
 use Rattle.integer.specs.Integer.{eq_z, between}
 use Rattle.integer.proofs.Arithmetic.{zarith, bits_test}
 use Rattle.backoff.specs.Limits.{order_limit, word_limit}

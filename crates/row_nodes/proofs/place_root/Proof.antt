@@ -36,17 +36,17 @@ slice-relend-prefix-place-node : tie.Need-slice_bounds-place_node-end-2
 slice-relend-prefix-place-node c = search rules
 
 slice-aggregate-place-node-2 : tie.Need-slice_bounds-place_node-end-3
-slice-aggregate-place-node-2 c = let o = c.before.before.before.before in sym (length-take-le _ _ (omega (arith, o.rows_below-k.ensures.within, o.before.before.requires.1.each)))
+slice-aggregate-place-node-2 c = let o = c.before.before.before in sym (length-take-le _ _ (omega (arith, o.rows_below-k.ensures.within, o.before.before.requires.1.each)))
 
 place-node-requires : tie.Need-place_node-requires
 place-node-requires c κs =
-    let o = c.before.before.before.before in
+    let o = c.before.before.before in
     let s = o.before.before in
     let t = s.args.table.now in
-    let k = o.rows-below.result in
-    let fits = root-fits t s.requires.0 s.requires.1 k o.rows-below.ensures in (
-      (child-rows t s.requires.0 0 k fits, length-take-le _ _ (omega (arith, o.rows-below.ensures.within, s.requires.1.each)) ∙ sym (count-rows t 0 k fits)),
-      (_, _, _, root_settles t s.requires.0 s.requires.1 k o.rows-below.ensures),
+    let k = o.rows_below-k.result in
+    let fits = root-fits t s.requires.0 s.requires.1 k o.rows_below-k.ensures in (
+      (child-rows t s.requires.0 0 k fits, length-take-le _ _ (omega (arith, o.rows_below-k.ensures.within, s.requires.1.each)) ∙ sym (count-rows t 0 k fits)),
+      (_, _, _, root_settles t s.requires.0 s.requires.1 k o.rows_below-k.ensures),
     )
 
 same_length : tie.Need-shape_of-base
@@ -61,11 +61,11 @@ same-length-3 c = search rules
 returns : tie.Need-returns
 returns c =
     let p = c.before.before.before.before in
-    let o = p.before.before.before.before.before in
+    let o = p.before.before.before.before in
     let s = o.before.before in
-    root_tried s.args.table.now s.requires.0 s.requires.1 o.rows-below.result o.rows-below.ensures
+    root_tried s.args.table.now s.requires.0 s.requires.1 o.rows_below-k.result o.rows_below-k.ensures
     (to_z_pos w32 (omega (arith, few s)) ∙ ap pos s.requires.1.each)
-    (p.place_node.ensures _ _ _ (root_settles s.args.table.now s.requires.0 s.requires.1 o.rows-below.result o.rows-below.ensures))
+    (p.place_node.ensures _ _ _ (root_settles s.args.table.now s.requires.0 s.requires.1 o.rows_below-k.result o.rows_below-k.ensures))
 
 pub place_root_spec : {M : Type 1} → statement M
 place_root_spec =

@@ -78,7 +78,7 @@ part-place-node-end-2 c = search rules
 
 -- the node may be placed
 settles : (n : tie.After-row_node-node) → let s = start n in let P = placed_nodes (table s) (s.args.i + 1) in
-    Settles (length s.args.check.now) P.base-1 P.check-1 s.args.base.now s.args.check.now (take (8 * to s - 8 * from s) (drop (8 * from s) (table s))) n.row_node-node.result.slot n.row_node-node.result.mark
+    Settles (length s.args.check.now) P.base P.check s.args.base.now s.args.check.now (take (8 * to s - 8 * from s) (drop (8 * from s) (table s))) n.row_node-node.result.slot n.row_node-node.result.mark
 settles n =
     let s = start n in
     let e = n.row_node-node.ensures in

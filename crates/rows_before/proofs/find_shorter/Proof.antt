@@ -38,19 +38,19 @@ slice-aggregate-has-key : tie.Need-slice_bounds-has_key-end
 slice-aggregate-has-key c = sym (length-take-le _ _ (omega arith))
 
 has-key-requires : tie.Need-has_key-requires
-has-key-requires c κs = let s = c.before.before.before in part_good _ _ (omega arith) s.requires.1
+has-key-requires c κs = let s = c in part_good _ _ (omega arith) s.requires.1
 
 returns : tie.Need-returns-then-has_key
 returns c =
     let h = c.before in
-    let d = h.before.before.before in
-    let s = d.before in
+    let d = h in
+    let s = d in
     let t = s.args.table.now in
     let i = s.args.i in
     let two = h.if-m-eq2.true in
     let ws = first_of-two t i s.requires.0 (sym s.requires.3 ∙ two) in
     let at = h.has_key.ensures c.if-has_key.true in
-    let same : key (without_last t i) ≡ d.digit.result = ap key ws ∙ key_of-one _ ∙ sym d.digit.ensures.0 in
+    let same : key (without_last t i) ≡ d.digit-word.result = ap key ws ∙ key_of-one _ ∙ sym d.digit-word.ensures.0 in
     sym (finds_key (take (8 * i) t) (part_good t i (omega arith) s.requires.1) (without_last t i) _ (are_words-without_last t i s.requires.2 s.requires.0) at.0 (omega (arith, at.1)))
 
 find-without-last-requires : tie.Need-find_without_last-requires

@@ -49,11 +49,11 @@ part-find-near-end c = search rules
 
 find-near-requires : tie.Need-find_near-requires
 find-near-requires c κs =
-    let s = c.before.before.before in
-    (part_good _ _ (omega arith) s.requires.1, rw length-take (omega arith), rw (part c.before.before) (are_words-asked _ _ s.requires.2 s.requires.0 _))
+    let s = c in
+    (part_good _ _ (omega arith) s.requires.1, rw length-take (omega arith), rw (part c.before) (are_words-asked _ _ s.requires.2 s.requires.0 _))
 
 returns : tie.Need-returns
-returns c = rw (part c.before.before.before) at c.find_near.ensures
+returns c = rw (part c.before.before) at c.find_near.ensures
 
 pub find_without_first_spec : {M : Type 1} → statement M
 find_without_first_spec =

@@ -44,11 +44,11 @@ part-find-of-length-end c = search rules
 
 find-of-length-requires : tie.Need-find_of_length-requires
 find-of-length-requires c κs =
-    let s = c.before.before in
+    let s = c.before in
     (part_good _ _ (omega arith) s.requires.1, rw length-take (omega arith), rw (part s) (are_words-without_last _ _ s.requires.2 s.requires.0))
 
 returns : tie.Need-returns
-returns c = rw (part c.before.before.before) at c.find_of_length.ensures
+returns c = rw (part c.before.before) at c.find_of_length.ensures
 
 pub find_without_last_spec : {M : Type 1} → statement M
 find_without_last_spec =

@@ -168,32 +168,32 @@ byte c = byte_of (score c).kind (score c).extended
 abbrev scored-word : tie.After-struct_told-1 invariant-loop decreases-loop → tie.In-Scored invariant-loop decreases-loop
 scored-word c = c.before.before
 
-x_fits : (c : tie.After-struct_told-1 invariant-loop decreases-loop) → SFits w32 (score (scored-word c)).points-1
+x_fits : (c : tie.After-struct_told-1 invariant-loop decreases-loop) → SFits w32 (score (scored-word c)).points
 x_fits c = search rules
 
-word-is : (c : tie.In-Scored invariant-loop decreases-loop) → word_step (S c.before) (held c.before) (w c.before) ≡ scored (score c).points-1 (byte c) (held_in (left c) (backoffs c.before))
+word-is : (c : tie.In-Scored invariant-loop decreases-loop) → word_step (S c.before) (held c.before) (w c.before) ≡ scored (score c).points (byte c) (held_in (left c) (backoffs c.before))
 word-is c = step_told (step_is c.before) _ c.in-Scored.is
 
-sizes : (c : tie.In-Scored invariant-loop decreases-loop) → (nat_abs (score c).points-1 ≤ order_limit * largest_backoff) × (byte c < 256)
+sizes : (c : tie.In-Scored invariant-loop decreases-loop) → (nat_abs (score c).points ≤ order_limit * largest_backoff) × (byte c < 256)
 sizes c =
     let d = c.before in
     let l = turn d in
     let s = entry l in
     let o = (order_is s).1 in
-    scored-sizes (S d) (rows-in_probability s.args.base.now s.args.check.now) ((S d).order - 1) (omega arith) (held d) (carries_bounded (S d).order o l.loop-i.carried l.loop-i.backoffs l.loop-i.invariant.carries) (w d) (score c).points-1 (byte c) (held_in (left c) (backoffs d)) (word-is c)
+    scored-sizes (S d) (rows-in_probability s.args.base.now s.args.check.now) ((S d).order - 1) (omega arith) (held d) (carries_bounded (S d).order o l.loop-i.carried l.loop-i.backoffs l.loop-i.invariant.carries) (w d) (score c).points (byte c) (held_in (left c) (backoffs d)) (word-is c)
 
 cast-total : tie.Need-overflow_cast-total invariant-loop decreases-loop
 cast-total c = to-wide tt (x_fits c)
 
 -- as the cast left them
-x_wide : (c : tie.After-struct_told-1 invariant-loop decreases-loop) → to_z w64 (of_z w64 (to_z w32 (of_z w32 (score (scored-word c)).points-1))) ≡ (score (scored-word c)).points-1
+x_wide : (c : tie.After-struct_told-1 invariant-loop decreases-loop) → to_z w64 (of_z w64 (to_z w32 (of_z w32 (score (scored-word c)).points))) ≡ (score (scored-word c)).points
 x_wide c = to_z-of_z (cast-total c) ∙ to_z-of_z (x_fits c)
 
 add_total : tie.Need-overflow_add-total invariant-loop decreases-loop
 add_total c =
     let m = scored-word c in
     let l = turn m.before in
-    omega (zarith, x_wide c, (sizes m).0, l.loop-i.invariant.running.total_small, abs (score m).points-1, abs (to_z w64 l.loop-i.total-bits), l.loop-i.invariant.running.at, (entry l).requires.1.1.1.0)
+    omega (zarith, x_wide c, (sizes m).0, l.loop-i.invariant.running.total_small, abs (score m).points, abs (to_z w64 l.loop-i.total-bits), l.loop-i.invariant.running.at, (entry l).requires.1.1.1.0)
 
 write-word-requires : tie.Need-write_word-requires invariant-loop decreases-loop
 write-word-requires c κs =
@@ -214,7 +214,7 @@ abbrev stepped : tie.After-slice_known-in-loop-i-1 invariant-loop decreases-loop
 stepped c = (word c).before
 
 -- the slices with the word
-points_now : (c : tie.After-slice_known-in-loop-i-1 invariant-loop decreases-loop) → c.write_word.new.points ≡ set (turn (stepped c)).loop-i.points (turn (stepped c)).loop-i.i (score (word c)).points-1
+points_now : (c : tie.After-slice_known-in-loop-i-1 invariant-loop decreases-loop) → c.write_word.new.points ≡ set (turn (stepped c)).loop-i.points (turn (stepped c)).loop-i.i (score (word c)).points
 points_now c = c.write_word.ensures.0
 
 lengths_now : (c : tie.After-slice_known-in-loop-i-1 invariant-loop decreases-loop) → c.write_word.new.lengths ≡ set (turn (stepped c)).loop-i.lengths (turn (stepped c)).loop-i.i (byte (word c))
@@ -237,7 +237,7 @@ next-state-requires c κs =
     let d = c.before.before in
     let m = word d in
     let s = entry (turn (stepped d)) in
-    (s.pre.0, (s.pre.1.0, (step_is (stepped d)).carries (score m) (left m) m.in-Scored.is))
+    (s.requires.0, (s.requires.1.0, (step_is (stepped d)).carries (score m) (left m) m.in-Scored.is))
 
 -- the state that the next word is scored from, as `next_state` told it
 abbrev written-word : tie.After-next_state-onward invariant-loop decreases-loop → tie.After-slice_known-in-loop-i-1 invariant-loop decreases-loop
@@ -252,11 +252,11 @@ next-is c r e =
     subst (λ (k : NextState). NextIs (entry (turn d)).args.order (next_state (S d) (w d) (held_in (left (word (written-word c))) (backoffs d))) k (backoffs_on c)) e c.next_state-onward.ensures
 
 -- the word's step, with that state
-stepped_to : (c : tie.After-slice_known-in-loop-i-1 invariant-loop decreases-loop) (next : Option Carried) → next_state (S (stepped c)) (w (stepped c)) (held_in (left (word c)) (backoffs (stepped c))) ≡ next → step (S (stepped c)) (held (stepped c)) (w (stepped c)) ≡ step_to (score (word c)).points-1 (byte (word c)) next
+stepped_to : (c : tie.After-slice_known-in-loop-i-1 invariant-loop decreases-loop) (next : Option Carried) → next_state (S (stepped c)) (w (stepped c)) (held_in (left (word c)) (backoffs (stepped c))) ≡ next → step (S (stepped c)) (held (stepped c)) (w (stepped c)) ≡ step_to (score (word c)).points (byte (word c)) next
 stepped_to c next e =
     let d = stepped c in
     let m = word c in
-    step-next (S d) (held d) (w d) (score m).points-1 (byte m) (held_in (left m) (backoffs d)) (word-is m) ∙ ap (step_to (score m).points-1 (byte m)) e
+    step-next (S d) (held d) (w d) (score m).points (byte m) (held_in (left m) (backoffs d)) (word-is m) ∙ ap (step_to (score m).points (byte m)) e
 
 enum-known-onward : tie.Need-enum_known-onward invariant-loop decreases-loop
 enum-known-onward c = search rules
@@ -268,7 +268,7 @@ refuse-word-requires-2 : tie.Need-refuse_word-requires-in_default-onward invaria
 refuse-word-requires-2 c κs =
     let d = written-word c.before.before.before in
     let s = entry (turn (stepped d)) in
-    ((omega (arith, points-long d, s.pre), omega (arith, lengths-long d, s.pre)), omega (arith, more (stepped d), s.pre.1.1.1.0))
+    ((omega (arith, points-long d, s.requires), omega (arith, lengths-long d, s.requires)), omega (arith, more (stepped d), s.requires.1.1.1.0))
 
 same-length-3 : tie.Need-shape_of-points-in_default-onward invariant-loop decreases-loop
 same-length-3 c =
@@ -294,7 +294,7 @@ returns_2 c =
     rw k.refuse_word-in_default-onward.ensures.0
     (running_refused (S d) (state_in (numbers_of s.args.state)) s.args.words.now s.args.points.now s.args.lengths.now (held d) (to_z w64 l.loop-i.total-bits) l.loop-i.i l.loop-i.points l.loop-i.lengths l.loop-i.invariant.running (more d) (stepped_to v none (next-is b NotBegun g.in_default-onward.is))
     (numbers_of s.args.state) k.refuse_word-in_default-onward.new.points k.refuse_word-in_default-onward.new.lengths
-    (k.refuse_word-in_default-onward.ensures.1.0 ∙ ap (written (replicate n (pos 0))) (points_now v) ∙ written-set (replicate n (pos 0)) l.loop-i.points l.loop-i.i (score m).points-1 (omega (arith, more d, length-replicate n (pos 0))))
+    (k.refuse_word-in_default-onward.ensures.1.0 ∙ ap (written (replicate n (pos 0))) (points_now v) ∙ written-set (replicate n (pos 0)) l.loop-i.points l.loop-i.i (score m).points (omega (arith, more d, length-replicate n (pos 0))))
     (k.refuse_word-in_default-onward.ensures.1.1 ∙ ap (written (replicate n 0)) (lengths_now v) ∙ written-set (replicate n 0) l.loop-i.lengths l.loop-i.i (byte m) (omega (arith, more d, length-replicate {A = ℕ} n 0))))
 
 -- the turn's word
@@ -322,7 +322,7 @@ loop-again c =
     let s = entry l in
     let o = next-is u.before (Onward u.in-Carried.next) u.in-Carried.is in
     again (to_z-of_z (add_total (read v)) ∙ ap (λ (z : ℤ). to_z w64 l.loop-i.total-bits +ℤ z) (x_wide (read v))) (points_now v) (lengths_now v) (rw (order_is s).0 o.1)
-    (running_on (S d) (state_in (numbers_of s.args.state)) s.args.words.now s.args.points.now s.args.lengths.now (held d) (to_z w64 l.loop-i.total-bits) l.loop-i.i l.loop-i.points l.loop-i.lengths l.loop-i.invariant.running (score m).points-1 (byte m) (held_in u.in-Carried.next (backoffs_on u.before)) (more d) s.requires.1.1.1.1.0 s.requires.1.1.1.1.1 (sizes m).0 (stepped_to v _ o.0)) d.next_word-ahead-in-loop-i.ensures
+    (running_on (S d) (state_in (numbers_of s.args.state)) s.args.words.now s.args.points.now s.args.lengths.now (held d) (to_z w64 l.loop-i.total-bits) l.loop-i.i l.loop-i.points l.loop-i.lengths l.loop-i.invariant.running (score m).points (byte m) (held_in u.in-Carried.next (backoffs_on u.before)) (more d) s.requires.1.1.1.1.0 s.requires.1.1.1.1.1 (sizes m).0 (stepped_to v _ o.0)) d.next_word-ahead-in-loop-i.ensures
 
 all-scored-requires : tie.Need-all_scored-requires invariant-loop decreases-loop
 all-scored-requires c κs = let l = c.before in omega (arith, l.loop-i.invariant.carries.few, order_is (entry l))

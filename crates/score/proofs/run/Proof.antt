@@ -41,7 +41,7 @@ passed c =
     passed-all s.args.base.now s.args.check.now (numbers_of s.args.state) (asked s) (sym c.early_refusal-number.ensures ∙ c.if-number-ne0.false)
 
 run-passed-requires : tie.Need-run_passed-requires
-run-passed-requires c κs = let p = passed c.before.before in (p.array, (p.state, (p.sizes.few, (p.sizes.points-1, p.sizes.lengths-1))))
+run-passed-requires c κs = let p = passed c.before.before in (p.array, (p.state, (p.sizes.few, (p.sizes.points, p.sizes.lengths))))
 
 same_length : tie.Need-shape_of-points
 same_length c = search rules

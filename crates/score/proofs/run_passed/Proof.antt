@@ -26,7 +26,7 @@ score-words-requires : tie.Need-score_words-requires
 score-words-requires c κs =
     let o = c.before.before in
     let p = passed o.before.before.before in
-    (p.array, (o.order_of-order.ensures, (rw o.order_of-order.ensures p.state, (p.sizes.few, (p.sizes.points-1, p.sizes.lengths-1)))))
+    (p.array, (o.order_of-order.ensures, (rw o.order_of-order.ensures p.state, (p.sizes.few, (p.sizes.points, p.sizes.lengths)))))
 
 same_length : tie.Need-shape_of-points
 same_length c = search rules

@@ -93,10 +93,10 @@ more : (i : tie.In-loop-g invariant-loop decreases-loop) → i.loop-g.g < length
 more i = omega (arith, groups (entry i.before), i.loop-g-test.true, i.power-groups.ensures.0)
 
 words_long : (l : tie.At-loop-g invariant-loop decreases-loop) → length l.loop-g.words ≡ length (entry l).args.words.now
-words_long l = let s = entry l in all-words-long (array s) (us s) s.args.k s.pre.1.1.0.0 s.args.words.now s.args.totals.now (words_fit s) (totals_fit s) l.loop-g.g (within l) l.loop-g.words l.loop-g.totals l.loop-g.invariant.1
+words_long l = let s = entry l in all-words-long (array s) (us s) s.args.k s.requires.1.1.0.0 s.args.words.now s.args.totals.now (words_fit s) (totals_fit s) l.loop-g.g (within l) l.loop-g.words l.loop-g.totals l.loop-g.invariant.1
 
 totals-long : (l : tie.At-loop-g invariant-loop decreases-loop) → length l.loop-g.totals ≡ length (entry l).args.totals.now
-totals-long l = let s = entry l in all-totals-long (array s) (us s) s.args.k s.pre.1.1.0.0 s.args.words.now s.args.totals.now (words_fit s) (totals_fit s) l.loop-g.g (within l) l.loop-g.words l.loop-g.totals l.loop-g.invariant.1
+totals-long l = let s = entry l in all-totals-long (array s) (us s) s.args.k s.requires.1.1.0.0 s.args.words.now s.args.totals.now (words_fit s) (totals_fit s) l.loop-g.g (within l) l.loop-g.words l.loop-g.totals l.loop-g.invariant.1
 
 -- the slices have room for the next group
 room : (i : tie.In-loop-g invariant-loop decreases-loop) → ((entry i.before).args.k * (i.loop-g.g * (entry i.before).args.count) + (entry i.before).args.k * (entry i.before).args.count ≤ length i.loop-g.words) × (i.loop-g.g * (entry i.before).args.count + (entry i.before).args.count ≤ length i.loop-g.totals)
@@ -154,7 +154,7 @@ write-group-requires c κs =
       record {
         array = s.requires.0;
         started = sym (ap (λ (x : Started). x.number) begins) ∙ l.if-started-ne0.false;
-        numbers = ap (λ (x : Started). x.state-1) begins;
+        numbers = ap (λ (x : Started). x.state) begins;
       },
       (((omega (arith, a.if-count-eq0.false), s.requires.1.0.0), s.requires.1.0.1), (s.requires.1.1.0, (rw rest-lent (omega (arith, room i, length-drop (s.args.k * (l.loop-g.g * s.args.count)) l.loop-g.words)), rw rest-lent (omega (arith, room i, length-drop (l.loop-g.g * s.args.count) l.loop-g.totals))))),
     )

@@ -129,26 +129,26 @@ returns c =
     (front_unscored a.base.now a.check.now a.state s.requires.0 (front s) (sum x) (sum_is x) (get_or (us s) 0 0) (short s) c.if-before-ne0.true)
 
 -- the state that they left, as it is carried
-arrays : (x : tie.After-sum_words-before invariant-loop decreases-loop) → Four (sum x).end-1
+arrays : (x : tie.After-sum_words-before invariant-loop decreases-loop) → Four (sum x).end
 arrays x = record { words = search rules; backoffs = search rules }
 
 order_is : (x : tie.After-sum_words-before invariant-loop decreases-loop) → x.order_of-order.result ≡ order_in (entry x).args.check.now
 order_is x = x.order_of-order.ensures
 
 limit : (x : tie.After-sum_words-before invariant-loop decreases-loop) → order_in (entry x).args.check.now ≤ order_limit
-limit x = let s = entry x in (opened-order s.args.base.now s.args.check.now s.pre.0.array).1
+limit x = let s = entry x in (opened-order s.args.base.now s.args.check.now s.requires.0.array).1
 
-left_ok : (x : tie.After-sum_words-before invariant-loop decreases-loop) → (sum x).number ≡ 0 → state_ok (order_in (entry x).args.check.now) (numbers_of (sum x).end-1) ≡ true
-left_ok x z = let s = entry x in front_ok s.args.base.now s.args.check.now s.args.state s.pre.0 (front s) (sum x) (sum_is x) z
+left_ok : (x : tie.After-sum_words-before invariant-loop decreases-loop) → (sum x).number ≡ 0 → state_ok (order_in (entry x).args.check.now) (numbers_of (sum x).end) ≡ true
+left_ok x z = let s = entry x in front_ok s.args.base.now s.args.check.now s.args.state s.requires.0 (front s) (sum x) (sum_is x) z
 
 pack-requires : tie.Need-pack-carried-requires invariant-loop decreases-loop
-pack-requires c κs = let x = c.before.before.before in packable (order_in (entry x).args.check.now) (sum x).end-1 (arrays x) (limit x) (left_ok x c.if-before-ne0.false)
+pack-requires c κs = let x = c.before.before.before in packable (order_in (entry x).args.check.now) (sum x).end (arrays x) (limit x) (left_ok x c.if-before-ne0.false)
 
 lent-requires : tie.Need-lent-backoffs-requires invariant-loop decreases-loop
 lent-requires c κs = search rules
 
 replaced-requires : tie.Need-replaced-closing-requires invariant-loop decreases-loop
-replaced-requires c κs = let s = entry c.before.before.before.before.before in (opened-head s.args.base.now s.args.check.now s.pre.0.array).root-check
+replaced-requires c κs = let s = entry c.before.before.before.before.before in (opened-head s.args.base.now s.args.check.now s.requires.0.array).root-check
 
 loop-holds : tie.Need-loop-j-init invariant-loop decreases-loop
 loop-holds c =
@@ -178,12 +178,12 @@ carried_so e d f h = rw (e, d, f) h
 left_carried : (l : tie.At-loop-j invariant-loop decreases-loop) → Carries (summed-up l).order_of-order.result l.pack-carried.result l.lent-backoffs.result
 left_carried l =
     let x = summed-up l in
-    carried_so (order_is x) l.pack-carried.ensures l.lent-backoffs.ensures (packed-carries (order_in (entry x).args.check.now) (sum x).end-1 (arrays x) (limit x) (left_ok x (accepted l)))
+    carried_so (order_is x) l.pack-carried.ensures l.lent-backoffs.ensures (packed-carries (order_in (entry x).args.check.now) (sum x).end (arrays x) (limit x) (left_ok x (accepted l)))
 
-left-held : (l : tie.At-loop-j invariant-loop decreases-loop) → held_in l.pack-carried.result l.lent-backoffs.result ≡ state_in (numbers_of (sum (summed-up l)).end-1)
+left-held : (l : tie.At-loop-j invariant-loop decreases-loop) → held_in l.pack-carried.result l.lent-backoffs.result ≡ state_in (numbers_of (sum (summed-up l)).end)
 left-held l =
     let x = summed-up l in
-    ap₂ held_in l.pack-carried.ensures l.lent-backoffs.ensures ∙ packed-held (order_in (entry x).args.check.now) (sum x).end-1 (arrays x) (limit x) (left_ok x (accepted l))
+    ap₂ held_in l.pack-carried.ensures l.lent-backoffs.ensures ∙ packed-held (order_in (entry x).args.check.now) (sum x).end (arrays x) (limit x) (left_ok x (accepted l))
 
 within : (l : tie.At-loop-j invariant-loop decreases-loop) → l.loop-j.j ≤ length (us (start l))
 within l = omega (arith, counted (start l), l.loop-j.invariant.0)
@@ -215,7 +215,7 @@ abbrev w : tie.In-loop-j invariant-loop decreases-loop → ℕ
 w i = get_or (us (start i.before)) i.loop-j.j 0
 
 w_is : (i : tie.In-loop-j invariant-loop decreases-loop) → get_or (start i.before).args.usable i.loop-j.j 0 ≡ w i
-w_is i = let a = (start i.before).args in sym (get_or-take a.count a.t4 i.loop-j.j 0 i.loop-j-test.true)
+w_is i = let a = (start i.before).args in sym (get_or-take a.count a.usable i.loop-j.j 0 i.loop-j-test.true)
 
 -- which is usable
 last-usable : (i : tie.In-loop-j invariant-loop decreases-loop) → usable_child (start i.before).args.check.now (w i) ≡ true
@@ -244,7 +244,7 @@ same-length_2 : tie.Need-shape_of-totals-in_default invariant-loop decreases-loo
 same-length_2 c = totals-long c.before.before.before
 
 -- what it and its 3 came to
-closed_told : (c : tie.After-sum_closed-closed invariant-loop decreases-loop) (r : Closed) → c.sum_closed-closed.result ≡ r → r ≡ points_over (S (start c.before.before)) (w c.before ∷ end_word ∷ []) (state_in (numbers_of (sum (summed-up c.before.before)).end-1))
+closed_told : (c : tie.After-sum_closed-closed invariant-loop decreases-loop) (r : Closed) → c.sum_closed-closed.result ≡ r → r ≡ points_over (S (start c.before.before)) (w c.before ∷ end_word ∷ []) (state_in (numbers_of (sum (summed-up c.before.before)).end))
 closed_told c r e =
     let l = c.before.before in
     sym e ∙ c.sum_closed-closed.ensures ∙ ap₂ (λ (v : ℕ) (t : Carried). points_over (S (start l)) (v ∷ end_word ∷ []) t) (w_is c.before) (left-held l)

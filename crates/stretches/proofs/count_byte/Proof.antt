@@ -33,13 +33,13 @@ element-copy-out-counts-2 : tie.Need-bounds-counts-8
 element-copy-out-counts-2 c = search rules
 
 add-counts-2 : tie.Need-overflow_add-counts-2
-add-counts-2 c = let s = c.before.before in omega (arith, ninth s, s.requires)
+add-counts-2 c = let s = c.before.before in omega (arith, ninth s.before, s.requires)
 
 element-write-counts-2 : tie.Need-bounds-counts-8-2
 element-write-counts-2 c = search rules
 
 returns : tie.Need-returns
-returns c = rw (ninth c.before.before)
+returns c = rw (ninth c.before.before.before)
 
 pub count_byte_spec : {M : Type 1} → statement M
 count_byte_spec =

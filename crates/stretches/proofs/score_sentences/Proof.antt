@@ -134,8 +134,8 @@ called c = c.before.before.before.before.before.before
 
 add-sum : tie.Need-overflow_add-sum invariant-loop decreases-loop
 add-sum c =
-    let v = c.in-Whole.scored.given in
-    next_fits (turn (ended (called c))) (answered (called c)) v.0.0 v.0.1.0 v.1
+    let v = c.in-Whole in
+    next_fits (turn (ended (called c))) (answered (called c)) v.total v.closing v.is
 
 add-i : tie.Need-overflow_add-i invariant-loop decreases-loop
 add-i c = let t = turn (ended (called c)) in omega (arith, t.inside, t.few-ends)
@@ -145,8 +145,8 @@ loop-less c = omega (arith, (turn (ended (called c))).inside)
 
 loop-again : tie.Need-loop-i-preserved invariant-loop decreases-loop
 loop-again c =
-    let v = c.in-Whole.scored.given in
-    turn_on (turn (ended (called c))) (answered (called c)) v.0.0 v.0.1.0 v.1 _ c.count_byte.ensures
+    let v = c.in-Whole in
+    turn_on (turn (ended (called c))) (answered (called c)) v.total v.closing v.is _ c.count_byte.ensures
 
 same-length-3 : tie.Need-shape_of-points invariant-loop decreases-loop
 same-length-3 c = c.loop-i.invariant.points-done.long
@@ -158,7 +158,7 @@ returns_2 : tie.Need-returns invariant-loop decreases-loop
 returns_2 c =
     let l = c.loop-i in
     let s = start c.before in
-    batching_ends (opened s.args.base.now s.args.check.now) s.args.ends.now (asked s) l.a l.i (to_z w64 l.sum) l.points l.lengths l.counts l.invariant (search rules)
+    batching_ends (opened s.args.base.now s.args.check.now) s.args.ends.now (asked s) l.a l.i (to_z w64 l.sum-bits) l.points l.lengths l.counts l.invariant (search rules)
 
 pub score_sentences_spec : {M : Type 1} → statement M
 score_sentences_spec =

@@ -50,10 +50,10 @@ more : (c : tie.In-loop-i invariant-loop decreases-loop) → c.loop-i.i < 2
 more c = omega (arith, c.loop-i-test.true)
 
 mul-word : tie.Need-offset_bounds-words-i invariant-loop decreases-loop
-mul-word c = scaled_Fits c.loop-i.i 2 4 (more c) (lit< tt)
+mul-word c = scaled_Fits c.loop-i.i 2 4 (omega (arith, c.loop-i-test.true)) (lit< tt)
 
 array-read-word : tie.Need-bounds-words-i invariant-loop decreases-loop
-array-read-word c = more c
+array-read-word c = omega (arith, c.loop-i-test.true)
 
 -- slot 1 is the root's marker
 root-child-requires : tie.Need-root_child-requires invariant-loop decreases-loop
@@ -112,7 +112,7 @@ slot c = c.in-At.slot
 child-is : (c : tie.In-At invariant-loop decreases-loop) → child_at (turn c).args.base.now (turn c).args.check.now 0 (word (turn c)) ≡ At (slot c)
 child-is c =
     let s = (turn c).before.before in
-    sym (root-child s.args.base.now s.args.check.now s.pre.0 (word (turn c))) ∙ sym c.root_child.ensures ∙ c.in-At.is
+    sym (root-child s.args.base.now s.args.check.now s.requires.0 (word (turn c))) ∙ sym c.root_child.ensures ∙ c.in-At.is
 
 -- the state that the word is scored from, by the array's own order
 held : (c : tie.In-loop-i invariant-loop decreases-loop) → Carries (order_in c.args.check.now) c.loop-i.carried c.loop-i.backoffs
@@ -122,8 +122,8 @@ walk-requires : tie.Need-walk-reached-requires invariant-loop decreases-loop
 walk-requires c κs =
     let t = c.before in
     let s = (turn t).before.before in
-    let same = (opened-sizes s.args.base.now s.args.check.now s.pre.0).same in
-    (s.pre.0, (subst (λ (n : ℕ). slot t < n) (sym same) (child-inside s.args.base.now s.args.check.now 0 (word (turn t)) (slot t) (child-is t)), held (turn t)))
+    let same = (opened-sizes s.args.base.now s.args.check.now s.requires.0).same in
+    (s.requires.0, (subst (λ (n : ℕ). slot t < n) (sym same) (child-inside s.args.base.now s.args.check.now 0 (word (turn t)) (slot t) (child-is t)), held (turn t)))
 
 -- the walk's first node
 abbrev begun : tie.After-walk-reached invariant-loop decreases-loop → tie.In-At invariant-loop decreases-loop

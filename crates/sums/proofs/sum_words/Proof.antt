@@ -5,7 +5,7 @@ use mathlib.Core.List.{List}
 use Prim.Native.Nat.{ℕ, ◌-◌, ◌≤◌}
 use native.Mathlib.Nat.{le_of_lt}
 use native.Mathlib.Omega.{arith}
-use borrow.Author.Rules.{sfits_of, scaled_Fits, length_unmapped}
+use borrow.Author.Rules.{sfits_of, scaled_Fits}
 use lib.ListN.{length, take, drop, length-drop}
 use lib.Seq.{length-take-le}
 use lib.IntN.{ℤ, ◌+ℤ◌}
@@ -41,7 +41,7 @@ decreases-loop base check order state words points₀ lengths₀ end₀ sum₀ a
 arrays : (s : tie.Start invariant-loop decreases-loop) → Four s.args.state
 arrays s =
     let g = s.well_formed.1.1.1.0.1.1.1 in
-    record { words = length_unmapped ℤ s.args.state.words 4 g.0.1.0.1; backoffs = length_unmapped ℤ s.args.state.backoffs 4 g.1.0.1.0.1 }
+    record { words = g.0.1.0.1; backoffs = g.1.0.1.0.1 }
 
 -- the array's order, which is the code's
 order_is : (s : tie.Start invariant-loop decreases-loop) → ((store_in s.args.base.now s.args.check.now).order ≡ s.args.order) × ((store_in s.args.base.now s.args.check.now).order ≤ order_limit)
@@ -128,7 +128,7 @@ returns c = sym ((told c.before.before.before.before.before).refused c.if-ran-ne
 
 -- the piece's total, as it is added
 total-back : (c : tie.After-struct_told-1 invariant-loop decreases-loop) → to_z w64 (of_z w64 c.score_words-ran.result.total) ≡ c.score_words-ran.result.total
-total-back c = to_z-of_z (sfits_of c.struct_told-1.given.1.1.0.1)
+total-back c = to_z-of_z {w = w64} (sfits_of c.struct_told-1.given.1.1.0.1)
 
 add-sum : tie.Need-overflow_add-sum invariant-loop decreases-loop
 add-sum c =

@@ -23,18 +23,13 @@ decreases-loop base check start piece line₀ out₀ number₀ count₀ written�
 
 loop-holds : tie.Need-loop-i-init invariant-loop decreases-loop
 loop-holds c =
-    let s = c.before.before.before in
-    feeding_start _ _ s.args.progress s.args.line.now s.args.out.now s.requires.1.0 s.requires.1.1.1
+    feeding_start _ _ c.args.progress c.args.line.now c.args.out.now c.requires.1.0 c.requires.1.1.1
 
 shared-slice-read-c : tie.Need-bounds-piece-i invariant-loop decreases-loop
 shared-slice-read-c c = search rules
 
 add-i : tie.Need-overflow_add-i invariant-loop decreases-loop
 add-i c = search rules
-
-slice_reshare_prefix_append_sentence :
-    tie.Need-slice_bounds-append_sentence-end invariant-loop decreases-loop
-slice_reshare_prefix_append_sentence c = search rules
 
 slice-aggregate-append-sentence : tie.Need-slice_bounds-append_sentence-end-then-c-eq-LF invariant-loop decreases-loop
 slice-aggregate-append-sentence c =
@@ -44,8 +39,7 @@ slice-aggregate-append-sentence c =
 append-sentence-requires : tie.Need-append_sentence-printed-requires invariant-loop decreases-loop
 append-sentence-requires c κs =
     let l = c.loop-i in
-    let s = c.before.before.before.before.before.before.before.before.before in
-    (s.requires.0, feeding_room l.invariant s.requires.1.1.0.0 c.loop-i-test.true)
+    (c.requires.0, feeding_room l.invariant c.requires.1.1.0.0 c.loop-i-test.true)
 
 add-written : tie.Need-overflow_add-written invariant-loop decreases-loop
 add-written c = search rules
@@ -54,23 +48,20 @@ refused-at-requires : tie.Need-refused_at-requires invariant-loop decreases-loop
 refused-at-requires c κs = search rules
 
 same_length : tie.Need-shape_of-line-then-not-printed invariant-loop decreases-loop
-same_length c = c.loop-i.invariant.buffer ∙ sym c.before.before.before.before.before.before.before.before.before.before.before.before.before.before.before.before.requires.1.0.buffer
+same_length c = c.loop-i.invariant.buffer ∙ sym c.requires.1.0.buffer
 
 same-length_2 : tie.Need-shape_of-out-then-not-printed invariant-loop decreases-loop
-same-length_2 c = c.append_sentence-printed.auto.out ∙ c.loop-i.invariant.size ∙ sym c.before.before.before.before.before.before.before.before.before.before.before.before.before.before.before.before.requires.1.1.1
+same-length_2 c = c.append_sentence-printed.auto.out ∙ c.loop-i.invariant.size ∙ sym c.requires.1.1.1
 
 returns : tie.Need-returns-then-not-printed invariant-loop decreases-loop
 returns c =
-    let k = c.before in
-    let r = k.before.before.before.before.before in
-    let t = r.before.before.before.before.before in
-    let l = t.loop-i in
-    let P = r.append_sentence-printed.ensures in
-    let room = feeding_line_within l.invariant k.before.before.before.before.before.before.before.before.before.before.before.before.before.before.before.requires.1.1.0.0 t.loop-test.true r.append_sentence-printed.auto.out r.append_sentence-printed.result.length P.room in
-    let a = k.before.before.before.before.before.before.before.before.before.before.before.before.before.before.before.args in
-    let out = r.append_sentence-printed.new.out in
+    let l = c.loop-i in
+    let P = c.append_sentence-printed.ensures in
+    let room = feeding_line_within l.invariant c.requires.1.1.0.0 c.loop-i-test.true c.append_sentence-printed.auto.out c.append_sentence-printed.result.length P.room in
+    let a = c.args in
+    let out = c.append_sentence-printed.new.out in
     subst (λ (q : Progress). (q.written ≤ length out) × Fed (array_model a.base.now a.check.now) a.piece.now a.progress a.line.now q l.line (take q.written out)) (sym c.refused_at.ensures)
-    (room, fed_refused l.invariant t.loop-test.true refl r.if-c-eq-LF.true P (sym P.accepted ∙ k.if-not-printed.true))
+    (room, fed_refused l.invariant c.loop-i-test.true refl c.if-c-eq-LF.true P (sym P.accepted ∙ not-true _ c.if-not-printed.true))
 
 add-number : tie.Need-overflow_add-number invariant-loop decreases-loop
 add-number c = search rules
@@ -80,17 +71,14 @@ loop-less c = search rules
 
 loop-again : tie.Need-loop-i-preserved-then-c-eq-LF invariant-loop decreases-loop
 loop-again c =
-    let r = c.before.before.before.before.before in
-    let t = r.before.before.before.before.before in
-    let l = t.loop-i in
-    let P = r.append_sentence-printed.ensures in
-    feeding_line l.invariant t.loop-test.true r.if-c-eq-LF.true P (sym P.accepted ∙ c.if-not-printed.false) r.append_sentence-printed.auto.out
+    let l = c.loop-i in
+    let P = c.append_sentence-printed.ensures in
+    feeding_line l.invariant c.loop-i-test.true c.if-c-eq-LF.true P (sym P.accepted ∙ not-false _ c.if-not-printed.false) c.append_sentence-printed.auto.out
 
 append-refusal-requires : tie.Need-append_refusal-end-requires invariant-loop decreases-loop
 append-refusal-requires c κs =
     let l = c.loop-i in
-    let s = c.before.before.before.before.before.before.before.before.before in
-    feeding_room l.invariant s.requires.1.1.0.0 c.loop-i-test.true
+    feeding_room l.invariant c.requires.1.1.0.0 c.loop-i-test.true
 
 refused-at-requires-2 : tie.Need-refused_at-requires-then-count-eq-TEXT_LINE invariant-loop decreases-loop
 refused-at-requires-2 c κs = search rules
@@ -103,15 +91,12 @@ same-length-4 c = c.append_refusal-end.auto.out ∙ c.loop-i.invariant.size ∙ 
 
 returns_2 : tie.Need-returns-then-count-eq-TEXT_LINE invariant-loop decreases-loop
 returns_2 c =
-    let k = c.before in
-    let r = k.before.before in
-    let t = k.before.before.before.before.before.before.before in
-    let l = t.loop-i in
-    let room = feeding_within l.invariant k.requires.1.1.0.0 t.loop-i-test.true r.append_refusal-end.auto.out r.append_refusal-end.result r.append_refusal-end.ensures.0 in
-    let a = k.args in
-    let out = r.append_refusal-end.new.out in
+    let l = c.loop-i in
+    let room = feeding_within l.invariant c.requires.1.1.0.0 c.loop-i-test.true c.append_refusal-end.auto.out c.append_refusal-end.result c.append_refusal-end.ensures.0 in
+    let a = c.args in
+    let out = c.append_refusal-end.new.out in
     subst (λ (q : Progress). (q.written ≤ length out) × Fed (array_model a.base.now a.check.now) a.piece.now a.progress a.line.now q l.line (take q.written out)) (sym c.refused_at-then-count-eq-TEXT_LINE.ensures)
-    (room, fed_long l.invariant t.loop-i-test.true refl k.if-c-eq-LF.false k.if-count-eq-TEXT_LINE.true r.append_refusal-end.result r.append_refusal-end.new.out r.append_refusal-end.ensures.1)
+    (room, fed_long l.invariant c.loop-i-test.true refl c.if-c-eq-LF.false c.if-count-eq-TEXT_LINE.true c.append_refusal-end.result c.append_refusal-end.new.out c.append_refusal-end.ensures.1)
 
 slice-write-line : tie.Need-bounds-line-count invariant-loop decreases-loop
 slice-write-line c = search rules

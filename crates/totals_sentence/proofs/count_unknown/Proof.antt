@@ -40,8 +40,8 @@ loop-again c =
     let v = l.loop-i.invariant in
     let h : l.loop-i.i < length bytes = search rules in (
       omega (arith, h),
-      ⊎_elim (λ w. (omega (arith, w.1, v.1.0), w.1 ∙ count_yes bytes l.loop-i.i h v.1.1 w.0.true))
-          (λ w. (omega (arith, w.1, v.1.0), w.1 ∙ count_no bytes l.loop-i.i h v.1.1 w.0.left)) c.if-lengths-i-eq1.branch-raw,
+      ⊎_elim (λ w. (omega (arith, w.count-is, v.1.0), w.count-is ∙ count_yes bytes l.loop-i.i h v.1.1 w.if-lengths-i-eq1.true))
+          (λ w. (omega (arith, w.count-is, v.1.0), w.count-is ∙ count_no bytes l.loop-i.i h v.1.1 w.if-lengths-i-eq1.false)) c.if-lengths-i-eq1.branch-raw,
     )
 
 returns : tie.Need-returns invariant-loop decreases-loop

@@ -7,6 +7,7 @@ use Prim.Native.Nat.{ℕ, ◌-◌}
 use native.Mathlib.Omega.{arith}
 use lib.ListN.{length}
 use lib.Seq.{length-take-le}
+use mir.Syntax.{w64}
 use mir.Facts.{to_z-of_z}
 use Rattle.backoff.specs.Run.{written}
 use Rattle.totals_text.specs.Lines.{sentence_line}
@@ -44,7 +45,7 @@ returns c =
     let ran = c.run-ran in
     let r = c.sentence_line.ensures in
     let unknown = c.count_unknown-unknown.ensures ∙ scored-unknown s.requires.0 _ s.requires.1.1 refl refl ran.ensures.0 (length s.args.words.now - 1) (omega arith) in
-    let total = to_z-of_z (sfits_of c.struct_told-1.given.1.1.0.1) ∙ scored-total s.requires.0 _ s.requires.1.1 refl refl ran.ensures.0 in
+    let total = to_z-of_z {w = w64} (sfits_of {w = w64} c.struct_told-1.given.1.1.0.1) ∙ scored-total s.requires.0 _ s.requires.1.1 refl refl ran.ensures.0 in
     let q = ap₂ (λ (u : ℕ) (t : ℤ). sentence_line s.args.number s.args.n u t) unknown total in
     (r.0 ∙ ap length q, (r.1.0, r.1.1 ∙ ap (λ (l : List ℕ). written l s.args.out.now) q))
 

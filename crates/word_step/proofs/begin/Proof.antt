@@ -50,14 +50,14 @@ slot c = c.in-At.slot
 child-is : (c : tie.In-At) → child_at (chosen c).args.base.now (chosen c).args.check.now 0 (word c) ≡ At (slot c)
 child-is c =
     let s = (chosen c).before in
-    sym (root-child s.args.base.now s.args.check.now s.pre.0 (word c)) ∙ sym c.root_child.ensures ∙ c.in-At.is
+    sym (root-child s.args.base.now s.args.check.now s.requires.0 (word c)) ∙ sym c.root_child.ensures ∙ c.in-At.is
 
 walk-alone-requires : tie.Need-walk_alone-walked-requires
 walk-alone-requires c κs =
     let t = c.before in
     let s = (chosen t).before in
-    let z = opened-sizes s.args.base.now s.args.check.now s.pre.0 in
-    (s.pre.0, (s.pre.1.0, (omega (arith, child-inside s.args.base.now s.args.check.now 0 (word t) (slot t) (child-is t)), s.pre.1.1)))
+    let z = opened-sizes s.args.base.now s.args.check.now s.requires.0 in
+    (s.requires.0, (s.requires.1.0, (omega (arith, child-inside s.args.base.now s.args.check.now 0 (word t) (slot t) (child-is t)), s.requires.1.1)))
 
 -- the lent back-offs as the walk left them
 abbrev backoffs : tie.After-walk_alone-walked → List ℤ
@@ -72,7 +72,7 @@ answered-requires c κs =
     let t = c.before.before in
     let s = (chosen t).before in
     let a = s.args in
-    answerable a.base.now a.check.now s.pre.0 nothing a.backoffs.now (held s) (word t) (slot t) (child-is t) c.walk_alone-walked.result (backoffs c) (c.walk_alone-walked.ensures (word t) (child-is t))
+    answerable a.base.now a.check.now s.requires.0 nothing a.backoffs.now (held s) (word t) (slot t) (child-is t) c.walk_alone-walked.result (backoffs c) (c.walk_alone-walked.ensures (word t) (child-is t))
 
 returns_2 : tie.Need-returns
 returns_2 c =
@@ -80,7 +80,7 @@ returns_2 c =
     let t = k.before.before in
     let s = (chosen t).before in
     let a = s.args in
-    stepped a.base.now a.check.now s.pre.0 nothing a.backoffs.now (held s) (word t) (slot t) (child-is t) a.order start_word s.pre.1.0 (chosen t).replaced-word.ensures k.walk_alone-walked.result (backoffs k) (k.walk_alone-walked.ensures (word t) (child-is t)) c.answered.result c.answered.ensures
+    stepped a.base.now a.check.now s.requires.0 nothing a.backoffs.now (held s) (word t) (slot t) (child-is t) a.order start_word s.requires.1.0 (chosen t).replaced-word.ensures k.walk_alone-walked.result (backoffs k) (k.walk_alone-walked.ensures (word t) (child-is t)) c.answered.result c.answered.ensures
 
 pub begin_spec : {M : Type 1} → statement M
 begin_spec =

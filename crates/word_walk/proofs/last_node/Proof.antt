@@ -59,7 +59,7 @@ sum_fits : (c : tie.In-Last) → SFits w32 (sum c)
 sum_fits c = sfits_of c.in-Last.known_told-in-Last-1-own.given.1.1.0.1
 
 read-marker-requires : tie.Need-read_marker-marker-requires
-read-marker-requires c κs = let s = start c in ((opened-sizes s.args.base.now s.args.check.now s.pre.0.0).same, ((to_read c).0, s.pre.0.1))
+read-marker-requires c κs = let s = start c in ((opened-sizes s.args.base.now s.args.check.now s.requires.0.0).same, ((to_read c).0, s.requires.0.1))
 
 end-walk-requires : tie.Need-end_walk-requires
 end-walk-requires c κs =
@@ -74,9 +74,9 @@ enum_told c = search rules
 
 returns : tie.Need-returns-in-End
 returns c = λ t v o.
-    let g = c.in-End.reached.given in
-    let fits : SFits w32 g.0.0 = sfits_of c.in-End.known_told-1-own.given.0.1 in
-    read_as (to_z-of_z fits) refl refl (reached c.before (End g.0.0 g.0.1.0 g.0.1.1.0 g.0.1.1.1.0) g.1 t v o)
+    let g = c.in-End in
+    let fits : SFits w32 g.points = sfits_of g.known_told-1-own.given.0.1 in
+    read_as (to_z-of_z fits) refl refl (reached c.before (End g.points g.passed g.kept g.extended) g.is t v o)
 
 returns_2 : tie.Need-returns-in-Last
 returns_2 c = λ t v o.

@@ -102,7 +102,7 @@ room : (s : Entry) → s.args.carried.count ≤ length s.args.backoffs.now
 room s = subst (λ (n : ℕ). s.args.carried.count ≤ n) (sym (five s)) (le_trans (count-few s) (lit≤ tt))
 
 owed-size : (s : Entry) (j : ℕ) → nat_abs (sum (drop j (left s))) ≤ 4 * largest_backoff
-owed-size s j = omega (arith, backoffs-size (left s) j s.pre.1.1.in_backoffs, length-take-le s.args.carried.count s.args.backoffs.now (room s), count-few s)
+owed-size s j = omega (arith, backoffs-size (left s) j s.requires.1.1.in_backoffs, length-take-le s.args.carried.count s.args.backoffs.now (room s), count-few s)
 
 owed_small : (l : Turn) → nat_abs (to_z w32 l.loop-passed.owed-bits) ≤ 4 * largest_backoff
 owed_small l = rw l.loop-passed.invariant.owing.owed-is (owed-size (start l) l.loop-passed.passed)
@@ -149,7 +149,7 @@ returns c = (
       let r = c.before in
       let l = r.before.before in
       let s = start l in
-      walking_broken s.args.base.now s.args.check.now v (words s) l.loop-passed.s l.loop-passed.passed l.loop-passed.auto l.loop-passed.backoffs (l.loop-passed.invariant.walking v e) (in_words s l.loop-passed.invariant.few) (marker_is r Broken c.in_default.is),
+      walking_broken s.args.base.now s.args.check.now v (words s) l.loop-passed.s l.loop-passed.passed l.loop-passed.kept l.loop-passed.backoffs (l.loop-passed.invariant.walking v e) (in_words s l.loop-passed.invariant.few) (marker_is r Broken c.in_default.is),
 )
 
 -- what the node's marker holds
@@ -242,7 +242,7 @@ noted_same kept j f g h = rw (g, h)
 noted_is : (c : tie.After-longest_live-kept invariant-loop decreases-loop) → c.longest_live-kept.result ≡ cond (live c.before.before) (record { count = (node c.before.before).loop-passed.passed + 1; owed = total c.before.before }) (node c.before.before).loop-passed.kept
 noted_is c =
     let m = c.before.before in
-    c.longest_live-kept.ensures ∙ noted_same (node m).loop-passed.auto ((node m).loop-passed.passed + 1) (f m) (sum_is c.before) (to_z-of_z (b-fits c.before.before))
+    c.longest_live-kept.ensures ∙ noted_same (node m).loop-passed.kept ((node m).loop-passed.passed + 1) (f m) (sum_is c.before) (to_z-of_z (b-fits c.before.before))
 
 read_is : (c : tie.In-Sound invariant-loop decreases-loop) → set (node c).loop-passed.backoffs (node c).loop-passed.passed (to_z w32 (of_z w32 (b c))) ≡ set (node c).loop-passed.backoffs (node c).loop-passed.passed (b c)
 read_is c = ap (set (node c).loop-passed.backoffs (node c).loop-passed.passed) (to_z-of_z (b-fits c))
@@ -362,8 +362,8 @@ returns_3 c =
     let m = marker_at s.args.base.now s.args.check.now (s.args.carried.count + 1) l.loop-passed.s in (
       (long l, (l.loop-passed.invariant.inside, owed_small l, le_trans o.total_small (mul-le-mul_right largest_backoff (le_trans l.loop-passed.invariant.few (count-few s))))),
       λ v e.
-          subst (λ (j : ℕ). WalkedOver (store_in s.args.base.now s.args.check.now) (held_in s.args.carried s.args.backoffs.now) v (ended_at m j (to_z w32 l.loop-passed.owed-bits) (to_z w32 l.loop-passed.sum-bits) l.loop-passed.auto) (stored_at m j l.loop-passed.backoffs)) all
-          (walk_ends s.args.base.now s.args.check.now v (words s) l.loop-passed.s l.loop-passed.passed l.loop-passed.auto l.loop-passed.backoffs (l.loop-passed.invariant.walking v e) s.args.carried.count s.args.backoffs.now (to_z w32 l.loop-passed.sum-bits) (to_z w32 l.loop-passed.owed-bits) o (five s) (all ∙ sym (length-words s)) (words-short s (count-few s)) m
+          subst (λ (j : ℕ). WalkedOver (store_in s.args.base.now s.args.check.now) (held_in s.args.carried s.args.backoffs.now) v (ended_at m j (to_z w32 l.loop-passed.owed-bits) (to_z w32 l.loop-passed.sum-bits) l.loop-passed.kept) (stored_at m j l.loop-passed.backoffs)) all
+          (walk_ends s.args.base.now s.args.check.now v (words s) l.loop-passed.s l.loop-passed.passed l.loop-passed.kept l.loop-passed.backoffs (l.loop-passed.invariant.walking v e) s.args.carried.count s.args.backoffs.now (to_z w32 l.loop-passed.sum-bits) (to_z w32 l.loop-passed.owed-bits) o (five s) (all ∙ sym (length-words s)) (words-short s (count-few s)) m
           (ap (λ (j : ℕ). marker_at s.args.base.now s.args.check.now j l.loop-passed.s) deep)),
     )
 
