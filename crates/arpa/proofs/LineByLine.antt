@@ -29,7 +29,7 @@ use Rattle.arpa_lines.specs.Reading.{add_row, row_fits, record_fits, word_step, 
 use Rattle.arpa.specs.Meaning.{row_lines, Position, at-start, in_counts, in_section, at-end, Leads, skipped, data_line_lem, count_line, first_heading, row_of_lem, next_heading, end_line_lem, number_by, HasLine, LineMeets, not-in_form, no-word_line, heading_count, end-count, row-no-longer-fits, text-no-longer-fits, ReadTo, no_lines, one_more, lines_in, last_in, AllRead, ReadRefusedBy, at_line, no-end_line, no-line_end, bad_list}
 use Rattle.arpa.proofs.RowLines.{NoTab, other_line, empty-no_tab, data_no_tab, end-no_tab, section_no_tab, count-no_tab, row-has_tab}
 use Rattle.arpa.proofs.NewTexts.{known-met}
-use Rattle.arpa.proofs.LineRows.{only_text, only_number, texts_with, no-row-more, row_more, Fresh, Holds, holds-begun, row_count, word_held, word_number, only-text, word_there, all_listed, longer-held}
+use Rattle.arpa.proofs.LineRows.{only_text, only_number, texts_with, no-row-more, row_more, Fresh, Holds, holds-begun, row_count_lem, word_held, word_number, only-text, word_there, all_listed, longer-held}
 
 -- ---- what a line may be behind a position
 
@@ -254,7 +254,7 @@ module _ (room size : ℕ) (ls : List (List ℕ)) (r : Reading) (h : Holds room 
             behind = position_at r.stage cs (suc r.lines);
             leads = leads;
             listed = λ l' e o u i. listed o u (subst (λ (s : Listed). Memᴰ u s.texts) (some_same (sym e ∙ is)) i);
-            row_fits = λ l' e. let f = leb-true (8 * suc (length r.rows)) room fits in let c = row_count room size r (row_lines ls) h in omega arith;
+            row_fits = λ l' e. let f = leb-true (8 * suc (length r.rows)) room fits in let c = row_count_lem room size r (row_lines ls) h in omega arith;
             text-fits = λ l' e o u i. texts o u (subst (λ (s : Listed). Memᴰ u s.texts) (some_same (sym e ∙ is)) i);
             heading = λ a e. absurd (row-only m line l is (section_no_tab (suc m) line (ap (λ (i : List ℕ). same_words i (section_line (suc m))) e ∙ same_refl (section_line (suc m)))));
             end = λ a e. absurd (row-only m line l is (end-no_tab line (ap (λ (i : List ℕ). same_words i end_line) e ∙ same_refl end_line)));
@@ -262,7 +262,7 @@ module _ (room size : ℕ) (ls : List (List ℕ)) (r : Reading) (h : Holds room 
 
       too_many : row_fits room r ≡ false → room < 8 * suc (length (row_lines ls))
       unfolding row_fits
-      too_many e = let f = leb-false (8 * suc (length r.rows)) room e in let c = row_count room size r (row_lines ls) h in omega arith
+      too_many e = let f = leb-false (8 * suc (length r.rows)) room e in let c = row_count_lem room size r (row_lines ls) h in omega arith
 
       more_rows : row_lines ls ++ (line ∷ []) ≡ row_lines (ls ++ (line ∷ []))
       more_rows = sym (row_more ls line (row-has_tab m line l is))

@@ -190,8 +190,8 @@ holds-begun room size = record {
 }
 
 module _ (room size : ℕ) (r : Reading) (lines : List (List ℕ)) (h : Holds room size r lines) where
-  pub row_count : length r.rows ≡ length lines
-  row_count = ap length h.rows ∙ length-map lines (line_row (number_in (drop 3 r.texts)))
+  pub row_count_lem : length r.rows ≡ length lines
+  row_count_lem = ap length h.rows ∙ length-map lines (line_row (number_in (drop 3 r.texts)))
 
   module _ (line : List ℕ) (m : ℕ) (l : Listed) (is : read_row m line ≡ some l) where
     in_line : (u : List ℕ) → Memᴰ u (line_texts line) → Memᴰ u l.texts

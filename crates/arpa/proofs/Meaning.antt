@@ -50,7 +50,7 @@ use Rattle.arpa.specs.Outcome.{read_arpa, Leaves}
 use Rattle.arpa.specs.Meaning.{row_lines, texts_in, line_texts, row_with, line_row, word_texts, new_texts, number_stored, EachItsOwn, ReadsTheLines, number_by, AllRead, list_of, ReadRefusedBy, bad_list, ReadMeans}
 use Rattle.arpa.proofs.RowLines.{row-same-numbers}
 use Rattle.arpa.proofs.NewTexts.{number_in, Known, search-more, known-is-number, known-number}
-use Rattle.arpa.proofs.LineRows.{number_by_lem, Holds, row_count}
+use Rattle.arpa.proofs.LineRows.{number_by_lem, Holds, row_count_lem}
 use Rattle.arpa.proofs.LineByLine.{refused-some, LinesTold, all_told}
 use Rattle.arpa.proofs.OrderedRows.{order-joined, sorted_row, one-word-row}
 
@@ -350,7 +350,7 @@ module _ (filling : Bool) (room size : ℕ) (text : List ℕ) where
       let listed : verdict_for filling (take (8 * length r.rows) (padded room (ordered r))) ≡ Accepted = ap (verdict_for filling) front ∙ accepted in (
         record {
           in_form_lem = held.said;
-          count = row_count room size r lines held;
+          count = row_count_lem room size r lines held;
           listed = listed-table room size r lines held filling accepted;
           stored = ap₂ store_with (sym (store_long room size r lines held filling accepted)) (texts-met room size r lines held filling accepted);
           unknown = reserved-stored room size r lines held filling accepted 0 unknown_text (lit< tt) refl refl (unknown-met room size r lines held filling accepted);

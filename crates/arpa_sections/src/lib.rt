@@ -12,7 +12,7 @@ use arpa_headings::Count;
 use backoff::{LINE_FORM, SECTION_COUNT};
 
 // Where the reading stands: before the data section, in it, in the section of a length, or behind the end line.
-#[derive(Drop)]
+#[derive(Clone, Copy)]
 pub enum Stage {
     Start,
     Counts,
@@ -21,7 +21,7 @@ pub enum Stage {
 }
 
 // What was read so far: the counts announced and how many they are, the lines of this section, all rows, the next word's number, and the index's chains.
-#[derive(Drop)]
+#[derive(Clone, Copy)]
 pub struct Progress {
     pub stage: Stage,
     pub counts: [u32; 5],
@@ -33,7 +33,7 @@ pub struct Progress {
 }
 
 // What a line came to: a refusal's number, or 0 and the progress with it.
-#[derive(Drop)]
+#[derive(Clone, Copy)]
 pub struct Stepped {
     pub fault: u32,
     pub progress: Progress,

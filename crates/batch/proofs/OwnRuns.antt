@@ -9,7 +9,7 @@ use lib.ListN.{length}
 use lib.Seq.{take_all}
 use lib.IntN.{ℤ}
 use borrow.Author.Tests.{eq-eqb}
-use Rattle.backoff.specs.Run.{Run, refusal, accepted}
+use Rattle.backoff.specs.Run.{Run, refusal}
 use Rattle.backoff.specs.Runs.{standing, Alike}
 use Rattle.backoff.specs.Store.{Store, run_outcome}
 use Rattle.backoff.proofs.Runs.{AnsweredAlike}

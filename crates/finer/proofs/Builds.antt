@@ -17,7 +17,7 @@ use Rattle.backoff.specs.Refusal.{table_length, array_length}
 use Rattle.backoff.specs.Run.{written}
 use Rattle.backoff.specs.declared.Verdict.{Verdict}
 use Rattle.backoff.specs.declared.Verdict.TheVariants.{Accepted, Refused}
-use Rattle.rows.specs.Table.{rows_of, probability_at, order_of, words}
+use Rattle.rows.specs.Table.{rows_of, probability_at, order_of}
 use Rattle.list.specs.Check.{table_fits, verdict}
 use Rattle.list.proofs.Check.{accepted-row}
 use Rattle.child_slots.specs.Children.{child_slot}

@@ -13,7 +13,7 @@ use Rattle.integer.proofs.Arithmetic.{zarith, shr}
 use Rattle.integer.proofs.Ranges.{between-yes, and_both}
 use Rattle.integer.proofs.Items.{get_or_in, in_get_or}
 use Rattle.backoff.specs.Limits.{largest_backoff}
-use Rattle.backoff.specs.Model.{in_probability, in_backoff, backoff}
+use Rattle.backoff.specs.Model.{in_probability, in_backoff}
 use Rattle.backoff.specs.declared.Verdict.TheVariants.{Accepted}
 use Rattle.rows.specs.Table.{rows_of, probability_at, backoff_at, order_of, words}
 use Rattle.row_search.specs.Search.{find_in}

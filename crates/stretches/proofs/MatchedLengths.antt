@@ -16,7 +16,7 @@ use Rattle.backoff.specs.Model.{Model, in_backoff, backoff, reach}
 use Rattle.backoff.specs.Rule.{replaced}
 use Rattle.backoff.specs.Counts.{has_matched, count}
 use Rattle.backoff.specs.State.{State, matched_from, extended_from, step_byte, step_next}
-use Rattle.backoff.specs.Run.{Run, accepted, refused_run, run_bytes}
+use Rattle.backoff.specs.Run.{Run, refused_run, run_bytes}
 use Rattle.backoff.specs.Runs.{flat}
 use Rattle.backoff.specs.NineNumbers.{state_in, state_ok}
 use Rattle.backoff.specs.Store.{Store, model_in, run_in, run_outcome}

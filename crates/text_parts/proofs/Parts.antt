@@ -10,7 +10,6 @@ use lib.Dec.{eqb}
 use lib.ListN.{length, take, drop, drop_of_length-le, get_or}
 use lib.Seq.{take_all, drop-cons}
 use borrow.Author.Tests.{eq-eqb, ne_eqb}
-
 use Rattle.integer.proofs.Ranges.{lt_or_ge}
 use Rattle.decimal.specs.Digits.{all_digits, digits_up_to}
 use Rattle.decimal.proofs.Digits.{digit_range, all_digits_lem}

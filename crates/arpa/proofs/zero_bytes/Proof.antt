@@ -8,35 +8,35 @@ use Rattle.integer.proofs.Each.{Written, written_none, written_next, written_all
 use Rattle.arpa.proofs.zero_bytes.Statement.{statement}
 use Rattle.arpa.proofs.zero_bytes.Tie as tie
 
-abbrev invariant-loop : tie.invariant-loop
+abbrev invariant-loop : tie.invariant-loop-i
 invariant-loop bytes₀ i₀ bytes i = Written (λ (x : ℕ). 0) bytes₀ bytes i
 
-abbrev decreases-loop : tie.decreases-loop
+abbrev decreases-loop : tie.decreases-loop-i
 decreases-loop bytes₀ i₀ bytes i = length bytes₀ - i
 
-loop-holds : tie.Need-loop-init invariant-loop decreases-loop
+loop-holds : tie.Need-loop-i-init invariant-loop decreases-loop
 loop-holds c = written_none _ _
 
-slice-write-bytes : tie.Need-slice-write-bytes invariant-loop decreases-loop
+slice-write-bytes : tie.Need-bounds-bytes-i invariant-loop decreases-loop
 slice-write-bytes c = search rules
 
-add-i : tie.Need-overflow-add-i invariant-loop decreases-loop
+add-i : tie.Need-overflow_add-i invariant-loop decreases-loop
 add-i c = search rules
 
-loop-less : tie.Need-loop-smaller invariant-loop decreases-loop
-loop-less c = omega (arith, c.loop-test.true, c.before.loop.invariant.same_length)
+loop-less : tie.Need-loop-i-smaller invariant-loop decreases-loop
+loop-less c = omega (arith, c.loop-i-test.true, c.loop-i.invariant.same_length)
 
-loop-again : tie.Need-loop-preserved invariant-loop decreases-loop
-loop-again c = written_next _ _ _ _ _ 0 c.before.loop.invariant c.loop-test.true refl
+loop-again : tie.Need-loop-i-preserved invariant-loop decreases-loop
+loop-again c = written_next _ _ _ _ _ 0 c.loop-i.invariant c.loop-i-test.true refl
 
-same_length : tie.Need-same-length invariant-loop decreases-loop
-same_length c = c.before.loop.invariant.same_length
+same_length : tie.Need-shape_of-bytes invariant-loop decreases-loop
+same_length c = c.loop-i.invariant.same_length
 
 returns : tie.Need-returns invariant-loop decreases-loop
-returns c = written_all _ _ _ _ c.before.loop.invariant c.loop-test.false ∙ map_same 0 c.before.before.args.bytes.now
+returns c = written_all _ _ _ _ c.loop-i.invariant c.loop-i-test.false ∙ map_same 0 c.args.bytes.now
 
-pub zero-bytes-spec : {M : Type 1} → statement M
-zero-bytes-spec =
+pub zero_bytes_spec : {M : Type 1} → statement M
+zero_bytes_spec =
     tie.close
     (tie.spec
     invariant-loop

@@ -10,7 +10,7 @@ use Rattle.arpa_lines.proofs.LineSteps.{section_step_lem}
 use Rattle.arpa_lines.proofs.section_step.Statement.{statement}
 use Rattle.arpa_lines.proofs.section_step.Tie as tie
 
-closes-section-requires : tie.Need-closes-section-requires
+closes-section-requires : tie.Need-closes_section-requires
 closes-section-requires c κs = search rules
 
 -- the section is one of those announced
@@ -22,34 +22,34 @@ inside p =
     let l = i.1 in
     (i.0, omega arith)
 
-close-section-requires : tie.Need-close-section-requires
+close-section-requires : tie.Need-close_section-requires
 close-section-requires c κs =
     let p = c.before.before.before.before in
     inside p
 
-returns : tie.Need-returns
+returns : tie.Need-returns-then-closes_section
 returns c =
     λ a h.
     let q = c.before.before in
     let p = q.before.before.before in
     let t = p.args.table.now in
     let s = p.args.store.now in
-    let e = section_step_lem (length t) (length s) t s p.args.progress a h p.args.m p.args.line.now q.closes-section.result q.closes-section.ensures in
-    rw (e, c.before.if1.true) (c.close-section.ensures a (length t) (length s) t s p.requires.1 h)
+    let e = section_step_lem (length t) (length s) t s p.args.progress a h p.args.m p.args.line.now q.closes_section.result q.closes_section.ensures in
+    rw (e, c.if-closes_section.true) (c.close_section.ensures a (length t) (length s) t s p.requires.1 h)
 
-row-step-requires : tie.Need-row-step-requires
+row-step-requires : tie.Need-row_step-requires
 row-step-requires c κs =
     let p = c.before.before.before.before.before.before in
     let i = inside p in
     (p.requires.0, p.requires.1, i.0, i.1)
 
-same_length : tie.Need-same-length
+same_length : tie.Need-shape_of-table
 same_length c = search rules
 
-same-length_2 : tie.Need-same-length-2
+same-length_2 : tie.Need-shape_of-store
 same-length_2 c = search rules
 
-returns_2 : tie.Need-returns-2
+returns_2 : tie.Need-returns
 returns_2 c =
     λ a h.
     let r = c.before.before.before in
@@ -58,11 +58,11 @@ returns_2 c =
     let p = q.before.before.before in
     let t = p.args.table.now in
     let s = p.args.store.now in
-    let f = section_step_lem (length t) (length s) t s p.args.progress a h p.args.m p.args.line.now q.closes-section.result q.closes-section.ensures in
-    rw (f, e.if1.false) (r.Row-step.ensures a h)
+    let f = section_step_lem (length t) (length s) t s p.args.progress a h p.args.m p.args.line.now q.closes_section.result q.closes_section.ensures in
+    rw (f, e.if-closes_section.false) (r.row_step.ensures a h)
 
-pub section-step-spec : {M : Type 1} → statement M
-section-step-spec =
+pub section_step_spec : {M : Type 1} → statement M
+section_step_spec =
     tie.close
     (tie.spec
     closes-section-requires

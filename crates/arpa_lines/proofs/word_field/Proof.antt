@@ -10,16 +10,16 @@ use borrow.Author.Rules.{rules}
 use Rattle.arpa_lines.proofs.word_field.Statement.{statement}
 use Rattle.arpa_lines.proofs.word_field.Tie as tie
 
-cast-result : tie.Need-overflow-cast-result
+cast-result : tie.Need-overflow_cast-result
 cast-result c = search rules
 
-returns : tie.Need-returns
+returns : tie.Need-returns-then-k-gt-LINK_LIMIT
 unfolding word_field
-returns c = rw (lt-leb c.before.args.k link_limit c.if1.true)
+returns c = rw (lt-leb c.args.k link_limit c.if-k-gt-LINK_LIMIT.true)
 
-returns_2 : tie.Need-returns-2
+returns_2 : tie.Need-returns-else-k-gt-LINK_LIMIT
 unfolding word_field
-returns_2 c = let h = c.if1.false in rw (le-leb c.before.args.k link_limit h) (to_z_pos w32 c.before.args.k (omega arith))
+returns_2 c = let h = c.if-k-gt-LINK_LIMIT.false in rw (le-leb c.args.k link_limit h) (to_z_pos w32 c.args.k (omega arith))
 
-pub word-field-spec : {M : Type 1} → statement M
-word-field-spec = tie.close (tie.spec cast-result returns returns_2)
+pub word_field_spec : {M : Type 1} → statement M
+word_field_spec = tie.close (tie.spec cast-result returns returns_2)

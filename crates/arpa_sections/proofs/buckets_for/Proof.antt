@@ -5,13 +5,13 @@ use Rattle.arpa_sections.specs.Held.{buckets_for}
 use Rattle.arpa_sections.proofs.buckets_for.Statement.{statement}
 use Rattle.arpa_sections.proofs.buckets_for.Tie as tie
 
-returns : tie.Need-returns
+returns : tie.Need-returns-then-buckets-eq0
 unfolding buckets_for
-returns c = ⊎_elim (λ w. omega arith) (λ w. omega arith) c.before.if1.branch
+returns c = ⊎_elim (λ w. omega arith) (λ w. omega arith) c.if-rows-buckets.branch-raw
 
-returns_2 : tie.Need-returns-2
+returns_2 : tie.Need-returns-else-buckets-eq0
 unfolding buckets_for
-returns_2 c = ⊎_elim (λ w. omega arith) (λ w. omega arith) c.before.if1.branch
+returns_2 c = ⊎_elim (λ w. omega arith) (λ w. omega arith) c.if-rows-buckets.branch-raw
 
-pub buckets-for-spec : {M : Type 1} → statement M
-buckets-for-spec = tie.close (tie.spec returns returns_2)
+pub buckets_for_spec : {M : Type 1} → statement M
+buckets_for_spec = tie.close (tie.spec returns returns_2)

@@ -11,50 +11,50 @@ use borrow.Author.Rules.{rules}
 use Rattle.arpa_sections.proofs.data_step.Statement.{statement}
 use Rattle.arpa_sections.proofs.data_step.Tie as tie
 
-add-read-count : tie.Need-overflow-add-read-count
+add-read-count : tie.Need-overflow_add-order
 add-read-count c = search rules
 
-read-count-requires : tie.Need-read-count-requires
+read-count-requires : tie.Need-read_count-requires
 read-count-requires c κs = search rules
 
-enum-known-count : tie.Need-enum-known-count
+enum-known-count : tie.Need-enum_known-count
 enum-known-count c = search rules
 
 announce-requires : tie.Need-announce-requires
 announce-requires c κs = search rules
 
-returns : tie.Need-returns
+returns : tie.Need-returns-in-Announced
 returns c a size t s e h =
-    let k = c.before.before in
-    let r = k.before.before in
+    let k = c.before in
+    let r = k.before in
     let b = r.before.before.before in
-    data_announced b.args.room size t s b.args.progress a h b.args.line.now k.count.given.0.0 e r.before.if1.true
-    (sym r.read_count.ensures ∙ k.count.given.1) c.announce.result c.announce.ensures
+    data_announced b.args.room size t s b.args.progress a h b.args.line.now k.in-Announced.count e r.if-order-lt5.true
+    (sym r.read_count.ensures ∙ k.in-Announced.is) c.announce.result c.announce.ensures
 
-enum_told : tie.Need-enum-told
+enum_told : tie.Need-enum_told-1
 enum_told c = search rules
 
-first-section-requires : tie.Need-first-section-requires
+first-section-requires : tie.Need-first_section-requires
 first-section-requires c κs = search rules
 
 -- the line announces nothing
-no-count : (c : tie.Joined1) (a : Reading) (size : ℕ) (t : List ℤ) (s : List ℕ) → let b = c.before.before in
+no-count : (c : tie.Joined-order-lt5) (a : Reading) (size : ℕ) (t : List ℤ) (s : List ℕ) → let b = c.before.before in
     Held b.args.room size t s b.args.progress a → data_step a b.args.line.now ≡ first_section a b.args.line.now
 no-count c a size t s h =
     let b = c.before.before in
     ⊎_elim
-    (λ w. data_not_count b.args.room size t s b.args.progress a h b.args.line.now w.0.taken (sym w.1.ensures ∙ w.3.given.1))
-    (λ w. data_all_announced b.args.room size t s b.args.progress a h b.args.line.now w.left)
-    c.if1.branch
+    (λ w. data_not_count b.args.room size t s b.args.progress a h b.args.line.now w.if-order-lt5.true (sym w.read_count.ensures ∙ w.in_default.is))
+    (λ w. data_all_announced b.args.room size t s b.args.progress a h b.args.line.now w.if-order-lt5.false)
+    c.if-order-lt5.branch-raw
 
-returns_2 : tie.Need-returns-2
+returns_2 : tie.Need-returns
 returns_2 c a size t s e h =
     let j = c.before in
     let b = j.before.before in
-    subst (λ (x : Step). StepHeld b.args.room size t s x c.first-section.result) (sym (no-count j a size t s h)) (c.first-section.ensures a size t s e h)
+    subst (λ (x : Step). StepHeld b.args.room size t s x c.first_section.result) (sym (no-count j a size t s h)) (c.first_section.ensures a size t s e h)
 
-pub data-step-spec : {M : Type 1} → statement M
-data-step-spec =
+pub data_step_spec : {M : Type 1} → statement M
+data_step_spec =
     tie.close
     (tie.spec
     add-read-count

@@ -6,12 +6,14 @@ use borrow.Author.Rules.{rules}
 use Rattle.arpa_words.proofs.reserved_number.Statement.{statement}
 use Rattle.arpa_words.proofs.reserved_number.Tie as tie
 
+same-bytes-requires : tie.Need-same_bytes-requires
 same-bytes-requires c κs = search rules
 
 returns : tie.Need-returns-then-same_bytes
 unfolding reserved_number
 returns c = (rw (sym c.same_bytes.ensures ∙ c.if-same_bytes.true) refl, omega arith)
 
+same-bytes-requires-2 : tie.Need-same_bytes-requires-2
 same-bytes-requires-2 c κs = search rules
 
 returns_2 : tie.Need-returns-then-same_bytes-2
@@ -20,6 +22,7 @@ returns_2 c =
     let l = c.before.before.before in
     (rw (sym l.same_bytes.ensures ∙ l.if-same_bytes.false, sym c.same_bytes-2.ensures ∙ c.if-same_bytes-2.true) refl, omega arith)
 
+same-bytes-requires-3 : tie.Need-same_bytes-requires-3
 same-bytes-requires-3 c κs = search rules
 
 returns_3 : tie.Need-returns-then-same_bytes-3

@@ -25,7 +25,7 @@ slice-aggregate-count-words c = sym (length-take-le _ _ (within c))
 
 count-words-requires : tie.Need-count_words-requires
 count-words-requires c κs =
-    let e = c.before.before in
+    let e = c.before in
     (omega (arith, length-take-le _ (start e).args.lengths.now (within e), e.last_end-last.ensures, (start e).requires), (search rules, (start e).requires.1))
 
 counted-sheet-requires : tie.Need-counted_sheet-requires
@@ -34,7 +34,7 @@ counted-sheet-requires c κs = search rules
 returns : tie.Need-returns
 returns c =
     let k = c.before in
-    let e = k.before.before.before in
+    let e = k.before.before in
     let s = start e in
     let last = e.last_end-last.result in
     λ closing t.

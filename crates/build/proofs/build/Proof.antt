@@ -7,7 +7,7 @@ use lib.Dec.{leb}
 use lib.ListN.{length}
 use lib.Seq.{length-take-le}
 use borrow.Author.Rules.{rules}
-use borrow.Author.Tests.{ltb-true, ltb-false, le-leb, lt-leb, not-true, not-false}
+use borrow.Author.Tests.{le-leb, lt-leb}
 use Rattle.integer.proofs.Arithmetic.{and_no}
 use Rattle.integer.proofs.Ranges.{and_both}
 use Rattle.rows.specs.Table.{rows_of}

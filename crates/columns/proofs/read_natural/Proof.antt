@@ -8,7 +8,6 @@ use Prim.Native.Nat.{◌^◌, ◌≤◌}
 use lib.ListN.{length}
 use mir.Syntax.{w64}
 use mir.Facts.{to_z_pos}
-use borrow.Author.Tests.{not-true, not-false}
 use Rattle.decimal.specs.Digits.{most_digits}
 use Rattle.decimal.proofs.Digits.{natural-all}
 use Rattle.columns.specs.Columns.{if_held, read_natural}

@@ -10,7 +10,7 @@ use mir.Syntax.{w64}
 use mir.Val.{to_z}
 use mir.Facts.{to_z-of_z, to_z_pos}
 use Rattle.integer.proofs.Arithmetic.{zarith}
-use borrow.Author.Tests.{not-true, not-false, eq-eqb, ne_eqb}
+use borrow.Author.Tests.{eq-eqb, ne_eqb}
 use Rattle.decimal.specs.Digits.{most_digits, is_natural, value_from}
 use Rattle.decimal.proofs.Digits.{natural-all}
 use Rattle.columns.specs.Columns.{if_held, read_negative}

@@ -3,7 +3,6 @@ use mathlib.Core.Path.{◌≡◌, sym, ◌∙◌}
 use Prim.Native.Nat.{◌<◌}
 use native.Mathlib.Omega.{arith}
 use borrow.Author.Rules.{rules}
-use borrow.Author.Tests.{not-true, not-false}
 use Rattle.rows.specs.Table.{rows_of, length_of}
 use Rattle.filled_list.proofs.Next.{least-same, best-new, best_old}
 use Rattle.filled_list.proofs.better.Statement.{statement}

@@ -6,7 +6,6 @@ use Prim.Native.Nat.{ℕ, ◌+◌, ◌-◌, ◌/◌, ◌≤◌, ◌<◌}
 use native.Mathlib.Omega.{arith}
 use lib.ListN.{length}
 use borrow.Author.Rules.{rules}
-use borrow.Author.Tests.{not-true, not-false}
 use Rattle.backoff.specs.Limits.{word_limit, slot_limit}
 use Rattle.rows.specs.Table.{rows_of}
 use Rattle.child_slots.specs.Children.{child_slot}

@@ -2,7 +2,6 @@
 use mathlib.Core.Path.{◌≡◌, sym, ◌∙◌}
 use mathlib.Core.Bool.{Bool, true}
 use borrow.Author.Rules.{rules}
-use borrow.Author.Tests.{not-true, not-false}
 use Rattle.fragments.specs.Fragment.{fragment_ok}
 use Rattle.fragments.specs.Outcome.{fragment_in}
 use Rattle.joining.proofs.first_bad.Statement.{statement}

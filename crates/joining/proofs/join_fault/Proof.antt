@@ -2,7 +2,6 @@
 use mathlib.Core.Path.{◌≡◌, sym, ◌∙◌}
 use mathlib.Core.Bool.{true}
 use borrow.Author.Rules.{rules}
-use borrow.Author.Tests.{not-true, not-false}
 use Rattle.double_array.specs.DoubleArray.{is_array, store_in}
 use Rattle.double_array.proofs.DoubleArray.{opened-head, opened-order, opened_some, opened-none}
 use Rattle.joining.proofs.join_fault.Statement.{statement}

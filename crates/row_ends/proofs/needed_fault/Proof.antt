@@ -4,7 +4,6 @@ use mathlib.Core.List.{List}
 use Prim.Native.Nat.{ℕ, ◌<◌, ◌≤◌}
 use native.Mathlib.Omega.{arith}
 use lib.IntN.{ℤ}
-use borrow.Author.Tests.{not-true, not-false}
 use Rattle.rows.specs.Table.{rows_of, length_of}
 use Rattle.rows.proofs.Table.{row_in}
 use Rattle.row_ends.specs.Needed.{needed_fault}

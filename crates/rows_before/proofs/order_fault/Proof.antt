@@ -2,7 +2,6 @@
 use mathlib.Core.Path.{◌≡◌, sym, ◌∙◌}
 use mathlib.Core.Bool.{true}
 use native.Mathlib.Omega.{arith}
-use borrow.Author.Tests.{not-true, not-false}
 use Rattle.rows.proofs.Good.{part_good}
 use Rattle.rows_before.specs.Faults.{is_after}
 use Rattle.rows_before.proofs.Before.{not-before, single-nothing}

@@ -3,7 +3,6 @@ use mathlib.Core.Path.{◌≡◌, sym, ap, ◌∙◌}
 use mathlib.Core.Bool.{Bool, true, false}
 use Prim.Native.Nat.{ℕ}
 use borrow.Author.Rules.{rules}
-use borrow.Author.Tests.{not-true, not-false}
 use Rattle.backoff.specs.NineNumbers.{state_ok}
 use Rattle.double_array.specs.DoubleArray.{is_array, order_in, store_in}
 use Rattle.double_array.proofs.DoubleArray.{opened-head, opened-order, opened_some, opened-none}

@@ -1,7 +1,6 @@
 -- `sentence_ends::early_refusal` meets its contract. Assumes nothing.
 use mathlib.Core.Path.{sym, ap, ◌∙◌}
 use borrow.Author.Rules.{rules}
-use borrow.Author.Tests.{not-true, not-false}
 use Prim.Native.Nat.{ℕ}
 use lib.ListN.{length}
 use Rattle.sentence_ends.specs.Ends.{sheet_size}

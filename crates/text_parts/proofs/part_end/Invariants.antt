@@ -1,5 +1,5 @@
 -- `text_parts::part_end`: what stands before i has no such byte.
-use Rattle.std.proofs.Common.{◌≡◌, ◌+◌, ◌≤◌, length, drop}
+use Rattle.std.proofs.Common.{◌≡◌, ◌+◌, drop}
 use Rattle.text_parts.specs.Parts.{before}
 use Rattle.text_parts.proofs.part_end.Given as goal
 

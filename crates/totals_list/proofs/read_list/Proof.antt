@@ -2,7 +2,6 @@
 use mathlib.Core.Path.{sym, ◌∙◌}
 use Prim.Native.Nat.{◌-◌}
 use borrow.Author.Rules.{rules}
-use borrow.Author.Tests.{not-true, not-false}
 use lib.ListN.{length}
 use Rattle.totals_list.proofs.Listing.{Reading, reading-start, reading_unended, reading-last, reading_bad, reading-next, reading-end}
 use Rattle.totals_list.proofs.read_list.Statement.{statement}

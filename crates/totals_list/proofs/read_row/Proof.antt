@@ -2,7 +2,6 @@
 use Rattle.totals_text.specs.Lines.{list_row}
 use mathlib.Core.Path.{◌≡◌, refl, sym, ap, ◌∙◌}
 use borrow.Author.Rules.{rules}
-use borrow.Author.Tests.{not-true, not-false}
 use mathlib.Core.List.{List}
 use lib.IntN.{ℤ}
 use lib.Seq.{paste}
