@@ -48,7 +48,7 @@ def write(path, text, old):
 
 
 def table():
-    declared, defined, words = set(), set(), set()
+    declared, imported, words = set(), set(), set()
     for path in texts(".antt"):
         for line in read(path).split("\n"):
             line = re.sub(r"\s*--\s.*", "", line)
@@ -59,8 +59,9 @@ def table():
             if "/specs/" in path:
                 words.add(snake(m[1]))
         for m in IMPORTED.finditer(read(path)):
-            words.update(re.split(r"[\s,]+", m[1]))
-    declared -= words
+            imported.update(re.split(r"[\s,]+", m[1]))
+    words |= imported
+    declared -= imported
     words = {w for w in words if w and "-" not in w}
     found = {}
     for name in declared:

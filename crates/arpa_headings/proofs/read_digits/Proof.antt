@@ -5,7 +5,6 @@ use Prim.Native.Nat.{◌^◌, ◌≤◌}
 use native.Mathlib.Nat.{pow-le-pow_right}
 use native.Mathlib.Omega.{arith}
 use lib.ListN.{length}
-use borrow.Author.Tests.{not-true, not-false}
 use Rattle.decimal.specs.Digits.{digits_up_to}
 use Rattle.decimal.proofs.Digits.{at_most, all_digits_lem}
 use Rattle.arpa_headings.specs.declared.Count.TheVariants.{Announced}
