@@ -2,7 +2,6 @@
 use mathlib.Core.Path.{refl, sym, ◌∙◌}
 use lib.Dec.{lit≤}
 use borrow.Author.Rules.{rules}
-use borrow.Author.Tests.{not-true, not-false}
 use Rattle.arpa_sections.proofs.Stages.{first_unannounced, first-other, first-entered}
 use borrow.Author.Rules.{rules}
 use Rattle.arpa_sections.proofs.first_section.Statement.{statement}

@@ -5,23 +5,23 @@ use Rattle.arpa_reading.specs.Outcome.{read_number, row_count, read_place}
 use Rattle.grader.proofs.backoff_arpa.Statement.{statement}
 use Rattle.grader.proofs.backoff_arpa.Tie as tie
 
-read-arpa-requires : tie.Need-read-arpa-requires
+read-arpa-requires : tie.Need-read_arpa-requires
 read-arpa-requires c κs = search rules
 
-row-count-of-requires : tie.Need-row-count-of-requires
+row-count-of-requires : tie.Need-row_count_of-requires
 row-count-of-requires c κs = search rules
 
-same_length : tie.Need-same-length
+same_length : tie.Need-shape_of-table
 same_length c = search rules
 
-same-length_2 : tie.Need-same-length-2
+same-length_2 : tie.Need-shape_of-store
 same-length_2 c = search rules
 
 returns : tie.Need-returns
 returns c =
-    let left = c.before.before.before.before.read-arpa.ensures.0 in
-    let means = c.before.before.before.before.read-arpa.ensures.1 in
-    let count = c.row-count-of.ensures in (
+    let left = c.read_arpa.ensures.0 in
+    let means = c.read_arpa.ensures.1 in
+    let count = c.row_count_of.ensures in (
       record {
         count = record {
           number = count.number ∙ ap read_number left.answer-is;
@@ -34,6 +34,11 @@ returns c =
       rw (count.number, count.place, count.rows) means,
     )
 
-pub backoff-arpa-spec : {M : Type 1} → statement M
-backoff-arpa-spec =
-    tie.close (tie.spec read-arpa-requires row-count-of-requires same_length same-length_2 returns)
+pub backoff_arpa_spec : {M : Type 1} → statement M
+backoff_arpa_spec =
+    tie.close (tie.spec
+    read-arpa-requires
+    row-count-of-requires
+    same_length
+    same-length_2
+    returns)

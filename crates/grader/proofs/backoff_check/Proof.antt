@@ -6,18 +6,18 @@ use Rattle.list.proofs.Meaning.{check_means}
 use Rattle.grader.proofs.backoff_check.Statement.{statement}
 use Rattle.grader.proofs.backoff_check.Tie as tie
 
-check-list-requires : tie.Need-check-list-requires
+check-list-requires : tie.Need-check_list-requires
 check-list-requires c κs = search rules
 
-status-of-requires : tie.Need-status-of-requires
+status-of-requires : tie.Need-status_of-requires
 status-of-requires c κs = search rules
 
 returns : tie.Need-returns
 returns c =
-    let v = c.before.check-list.ensures.0 in
-    let number = c.status-of.ensures.number ∙ ap number_of v in
-    let place = c.status-of.ensures.place ∙ ap place_of v in
+    let v = c.check_list.ensures.0 in
+    let number = c.status_of.ensures.number ∙ ap number_of v in
+    let place = c.status_of.ensures.place ∙ ap place_of v in
     (record { number = number; place = place }, check_means _ _ _ number place)
 
-pub backoff-check-spec : {M : Type 1} → statement M
-backoff-check-spec = tie.close (tie.spec check-list-requires status-of-requires returns)
+pub backoff_check_spec : {M : Type 1} → statement M
+backoff_check_spec = tie.close (tie.spec check-list-requires status-of-requires returns)

@@ -9,20 +9,20 @@ use Rattle.grader.proofs.backoff_unload.Tie as tie
 unload-requires : tie.Need-unload-requires
 unload-requires c κs = search rules
 
-status-of-requires : tie.Need-status-of-requires
+status-of-requires : tie.Need-status_of-requires
 status-of-requires c κs = search rules
 
-same_length : tie.Need-same-length
+same_length : tie.Need-shape_of-table
 same_length c = search rules
 
-same-length_2 : tie.Need-same-length-2
+same-length_2 : tie.Need-shape_of-work
 same-length_2 c = search rules
 
 returns : tie.Need-returns
 returns c =
-    let e = c.before.before.before.before.unload.ensures.0 in
-    let means = c.before.before.before.before.unload.ensures.1 in
-    let status = c.status-of.ensures in (
+    let e = c.unload.ensures.0 in
+    let means = c.unload.ensures.1 in
+    let status = c.status_of.ensures in (
       record {
         status = record {
           number = status.number ∙ ap (λ (u : Unloaded). number_of u.answer) e;
@@ -34,6 +34,11 @@ returns c =
       rw (status.number, status.place) means,
     )
 
-pub backoff-unload-spec : {M : Type 1} → statement M
-backoff-unload-spec =
-    tie.close (tie.spec unload-requires status-of-requires same_length same-length_2 returns)
+pub backoff_unload_spec : {M : Type 1} → statement M
+backoff_unload_spec =
+    tie.close (tie.spec
+    unload-requires
+    status-of-requires
+    same_length
+    same-length_2
+    returns)
