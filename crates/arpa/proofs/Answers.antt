@@ -1,12 +1,15 @@
 -- Laws of the lines' end, and of what a call leaves. Assumes nothing.
 use mathlib.Core.Path.{◌≡◌, refl, sym, ap, subst, ◌∙◌}
-use mathlib.Core.Bool.{Bool}
+use mathlib.Core.Bool.{Bool, true, false}
 use mathlib.Core.List.{List, [], ◌∷◌}
 use Prim.Native.Nat.{ℕ}
 use lib.IntN.{ℤ, pos}
 use lib.ListN.{length, replicate}
-use Rattle.backoff.specs.declared.Verdict.{Verdict}
-use Rattle.backoff.specs.declared.Verdict.TheVariants.{Accepted, Refused}
+use Rattle.std.proofs.Common.{is_ok}
+use Rattle.std.specs.declared.result.Result.{Result}
+use Rattle.std.specs.declared.result.Result.TheVariants.{Ok, Err}
+use Rattle.backoff.specs.Refusal.{Verdict, Accepted, Refused, reason_number}
+use Rattle.backoff.specs.declared.Refusal.{Refusal}
 use Rattle.list.specs.Check.{verdict_for}
 use Rattle.text_parts.specs.Parts.{parts}
 use Rattle.arpa_words.specs.Words.{records_of, store_with}
@@ -16,29 +19,43 @@ use Rattle.arpa_lines.specs.Reading.{Lines, done, stopped, read_lines}
 use Rattle.arpa_reading.specs.Outcome.{ordered, refused_outcome, judged, lines_outcome}
 use Rattle.arpa_reading.specs.Held.{LinesHeld, Concluded}
 use Rattle.arpa_reading.specs.declared.Ending.{Ending}
-use Rattle.arpa_reading.specs.declared.Rows.{Rows}
-use Rattle.arpa_reading.specs.declared.Rows.TheVariants.{Read, Refused as NotRead}
+use Rattle.arpa_reading.specs.Rows.{Rows, Read, Refused as NotRead, rows_in}
 use Rattle.arpa_reading.proofs.Answers.{not-read}
 use Rattle.arpa.specs.Outcome.{read_arpa, Leaves}
 
 -- ---- the lines' end, with the length of the table at hand
-module _ (room size : ℕ) (t : List ℤ) (s : List ℕ) (e : Ending) where
-  pub lines-length : (l : Lines) → LinesHeld room size t s l e → length t ≡ room
-  lines-length (done a) h = h.1
-  lines-length (stopped number place) h = h.3
+module _ (room size : ℕ) (t : List ℤ) (s : List ℕ) where
+  pub lines-length : (e : Result Ending (Refusal ℕ)) (l : Lines) → LinesHeld room size t s l e → length t ≡ room
+  lines-length (Ok e) (done a) h = h.0
+  lines-length (Ok e) (stopped number place) h = absurd h
+  lines-length (Err r) (done a) h = absurd h
+  lines-length (Err r) (stopped number place) h = h.2
 
-  pub lines-here : (l : Lines) → LinesHeld room size t s l e → LinesHeld (length t) size t s l e
-  lines-here (done a) h = (h.0, refl, h.2, h.3)
-  lines-here (stopped number place) h = (h.0, h.1, h.2, refl, h.4)
+  pub lines-here : (e : Result Ending (Refusal ℕ)) (l : Lines) → LinesHeld room size t s l e → LinesHeld (length t) size t s l e
+  lines-here (Ok e) (done a) h = (refl, h.1, h.2)
+  lines-here (Ok e) (stopped number place) h = absurd h
+  lines-here (Err r) (done a) h = absurd h
+  lines-here (Err r) (stopped number place) h = (h.0, h.1, refl, h.3)
 
-  pub lines-store-length : (l : Lines) → LinesHeld room size t s l e → length s ≡ size
+  pub lines-store-length : (e : Result Ending (Refusal ℕ)) (l : Lines) → LinesHeld room size t s l e → length s ≡ size
   unfolding store_with
-  lines-store-length (done a) h = ap length h.2 ∙ zeroed-length size (records_of ([] ∷ a.texts))
-  lines-store-length (stopped number place) h = h.4
+  lines-store-length (Ok e) (done a) h = ap length h.1 ∙ zeroed-length size (records_of ([] ∷ a.texts))
+  lines-store-length (Ok e) (stopped number place) h = absurd h
+  lines-store-length (Err r) (done a) h = absurd h
+  lines-store-length (Err r) (stopped number place) h = h.3
 
-pub lines_sized : (m n room size : ℕ) (t : List ℤ) (s : List ℕ) (e : Ending) (pieces : List (List ℕ)) → m ≡ room → n ≡ size → LinesHeld m n t s (read_lines m n unread 1 pieces) e → LinesHeld room size t s (read_lines room size unread 1 pieces) e
+pub lines_sized : (m n room size : ℕ) (t : List ℤ) (s : List ℕ) (e : Result Ending (Refusal ℕ)) (pieces : List (List ℕ)) → m ≡ room → n ≡ size → LinesHeld m n t s (read_lines m n unread 1 pieces) e → LinesHeld room size t s (read_lines room size unread 1 pieces) e
 lines_sized m n room size t s e pieces f g h =
     subst (λ (k : ℕ). LinesHeld room k t s (read_lines room k unread 1 pieces) e) g (subst (λ (k : ℕ). LinesHeld k n t s (read_lines k n unread 1 pieces) e) f h)
+
+-- ---- the code's answer
+pub refused_is : (r : Result ℕ (Refusal ℕ)) → is_ok r ≡ false → (number : ℕ) × ((place : ℕ) × (rows_in r ≡ NotRead number place))
+refused_is (Ok rows) e = absurd cc
+refused_is (Err refusal) e = (reason_number refusal.reason, (refusal.place, refl))
+
+pub read_is : (r : Result ℕ (Refusal ℕ)) → is_ok r ≡ true → (rows : ℕ) × (rows_in r ≡ Read rows)
+read_is (Ok rows) e = (rows, refl)
+read_is (Err refusal) e = absurd cc
 
 -- ---- what a call leaves
 outcome_refused : (filling : Bool) (room size : ℕ) (l : Lines) (number place : ℕ) → (lines_outcome filling room size l).answer ≡ NotRead number place → ((lines_outcome filling room size l).table ≡ replicate room (pos 0)) × ((lines_outcome filling room size l).store ≡ replicate size 0)

@@ -1,9 +1,10 @@
 -- The reading line by line: a line that is read has its place in the form, and nothing meets it; a line that is refused is met by its number. Assumes nothing.
+use Rattle.std.specs.declared.option.Option.{Option}
+use Rattle.std.specs.declared.option.Option.TheVariants.{Some, None}
 use mathlib.Core.Path.{◌≡◌, refl, sym, ap, ◌∙◌, subst}
 use mathlib.Core.Logic.{◌⊎◌, inl, inr, ⊎_elim}
 use mathlib.Core.Bool.{Bool, true, false, cond, ◌&&◌, ◌||◌, true≢false}
 use mathlib.Core.List.{List, [], ◌∷◌, ◌++◌, map, append_assoc, append-nil, Memᴰ, cons≢nil}
-use mathlib.Core.Option.{Option, none, some}
 use Prim.Native.Nat.{ℕ, suc, ◌*◌, ◌-◌, ◌<◌, ◌≤◌}
 use native.Mathlib.Omega.{arith}
 use native.Mathlib.Numerals.{add-one}
@@ -17,8 +18,6 @@ use Rattle.backoff.specs.Words.{same_words}
 use Rattle.backoff.proofs.Words.{same_eq, same_refl}
 use Rattle.text_parts.specs.Parts.{before, parts}
 use Rattle.text_parts.proofs.Parts.{parts-some}
-use Rattle.arpa_headings.specs.declared.Count.{Count}
-use Rattle.arpa_headings.specs.declared.Count.TheVariants.{Announced, NotInForm}
 use Rattle.arpa_headings.specs.Headings.{data_line, section_line, end_line, read_count}
 use Rattle.arpa_text.specs.Lines.{Listed, read_row}
 use Rattle.arpa_words.specs.Words.{number_met, some_missing}
@@ -35,8 +34,8 @@ use Rattle.arpa.proofs.LineRows.{only_text, only_number, texts_with, no-row-more
 
 abbrev MayStand : Position → List ℕ → Type 0
 MayStand at-start line = (line ≡ []) ⊎ (line ≡ data_line)
-MayStand (in_counts cs) line = (line ≡ []) ⊎ (((c : ℕ) × (length cs < order_limit) × (read_count (suc (length cs)) line ≡ Announced c)) ⊎ ((1 ≤ length cs) × (line ≡ section_line 1)))
-MayStand (in_section cs m k) line = (line ≡ []) ⊎ (((l : Listed) × (read_row m line ≡ some l)) ⊎ (((m < length cs) × (line ≡ section_line (suc m))) ⊎ ((length cs ≤ m) × (line ≡ end_line))))
+MayStand (in_counts cs) line = (line ≡ []) ⊎ (((c : ℕ) × (length cs < order_limit) × (read_count (suc (length cs)) line ≡ Some c)) ⊎ ((1 ≤ length cs) × (line ≡ section_line 1)))
+MayStand (in_section cs m k) line = (line ≡ []) ⊎ (((l : Listed) × (read_row m line ≡ Some l)) ⊎ (((m < length cs) × (line ≡ section_line (suc m))) ⊎ ((length cs ≤ m) × (line ≡ end_line))))
 MayStand at-end line = line ≡ []
 
 may_stand : (q : Position) (line : List ℕ) (q' : Position) → Leads q line q' → MayStand q line
@@ -52,7 +51,7 @@ may_stand _ _ _ (next_heading cs m k l) = inr (inr (inl (l, refl)))
 may_stand _ _ _ (end_line_lem cs m k l) = inr (inr (inr (l, refl)))
 
 -- no line of a row is a heading, the end line or empty
-pub row-only : (m : ℕ) (line : List ℕ) (l : Listed) → read_row m line ≡ some l → NoTab line → ⊥
+pub row-only : (m : ℕ) (line : List ℕ) (l : Listed) → read_row m line ≡ Some l → NoTab line → ⊥
 row-only m line l e n = let t = row-has_tab m line l e in omega arith
 
 -- ---- a line that nothing meets
@@ -61,9 +60,9 @@ module _ (room size : ℕ) (earlier : List (List ℕ)) where
   record SectionPassed (cs : List ℕ) (m k : ℕ) (line : List ℕ) : Type 0 where
     behind : Position
     leads : Leads (in_section cs m k) line behind
-    listed : (l : Listed) → read_row m line ≡ some l → (m ≡ 1 → ⊥) → (u : List ℕ) → Memᴰ u l.texts → HasLine earlier u
-    row_fits : (l : Listed) → read_row m line ≡ some l → 8 * suc (length (row_lines earlier)) ≤ room
-    text-fits : (l : Listed) → read_row m line ≡ some l → m ≡ 1 → (u : List ℕ) → Memᴰ u l.texts → 64 * suc (number_by (row_lines (earlier ++ (line ∷ []))) u) ≤ size
+    listed : (l : Listed) → read_row m line ≡ Some l → (m ≡ 1 → ⊥) → (u : List ℕ) → Memᴰ u l.texts → HasLine earlier u
+    row_fits : (l : Listed) → read_row m line ≡ Some l → 8 * suc (length (row_lines earlier)) ≤ room
+    text-fits : (l : Listed) → read_row m line ≡ Some l → m ≡ 1 → (u : List ℕ) → Memᴰ u l.texts → 64 * suc (number_by (row_lines (earlier ++ (line ∷ []))) u) ≤ size
     heading : m < length cs → line ≡ section_line (suc m) → k ≡ get_or cs (m - 1) 0
     end : length cs ≤ m → line ≡ end_line → k ≡ get_or cs (m - 1) 0
 
@@ -114,7 +113,7 @@ position_at Ended cs k = at-end
 abbrev position_of : Reading → Position
 position_of r = position_at r.stage r.announced r.lines
 
-some_same : {l l' : Listed} → some l ≡ some l' → l ≡ l'
+some_same : {l l' : Listed} → Some l ≡ Some l' → l ≡ l'
 some_same e = cc
 
 missing_text : (f : List ℕ → ℕ) (us : List (List ℕ)) → some_missing (map f us) ≡ true → (u : List ℕ) × Memᴰ u us × (f u ≡ 0)
@@ -157,14 +156,14 @@ module _ (room size : ℕ) (ls : List (List ℕ)) (r : Reading) (h : Holds room 
   abbrev cs : List ℕ
   cs = r.announced
 
-  heading_told : (c : ℕ) (line : List ℕ) → ((n : ℕ) → length cs < order_limit → read_count (suc (length cs)) (c ∷ line) ≡ Announced n → ⊥) → Told (in_counts cs) (c ∷ line) (first_section r (c ∷ line))
+  heading_told : (c : ℕ) (line : List ℕ) → ((n : ℕ) → length cs < order_limit → read_count (suc (length cs)) (c ∷ line) ≡ Some n → ⊥) → Told (in_counts cs) (c ∷ line) (first_section r (c ∷ line))
   unfolding first_section enter
   heading_told c line uncounted =
       by_test (in_counts cs) (c ∷ line) (leb 1 (length cs) && same_words (c ∷ line) (section_line 1)) (goes (enter (Section 1) r)) (refused_by line_form)
       (λ t.
-      let some = leb-true 1 (length cs) (and_left (leb 1 (length cs)) (same_words (c ∷ line) (section_line 1)) t) in
+      let Some = leb-true 1 (length cs) (and_left (leb 1 (length cs)) (same_words (c ∷ line) (section_line 1)) t) in
       let same = and_right (leb 1 (length cs)) (same_words (c ∷ line) (section_line 1)) t in
-      let x : Leads (in_counts cs) (c ∷ line) (in_section cs 1 0) = rw (same_eq (c ∷ line) (section_line 1) same) (first_heading cs some) in
+      let x : Leads (in_counts cs) (c ∷ line) (in_section cs 1 0) = rw (same_eq (c ∷ line) (section_line 1) same) (first_heading cs Some) in
       (x, λ n m. none-meets room size ls (in_counts cs) (c ∷ line) n m (in_section cs 1 0, x), same_rows (c ∷ line) (section_no_tab 1 (c ∷ line) same) (Section 1) cs 0 tt))
       (λ t.
       not-in_form (in_counts cs) (c ∷ line)
@@ -176,12 +175,12 @@ module _ (room size : ℕ) (ls : List (List ℕ)) (r : Reading) (h : Holds room 
       y)
       (may_stand (in_counts cs) (c ∷ line) q x)))
 
-  count_told : (c : ℕ) (line : List ℕ) → length cs < order_limit → (n : Count) → read_count (suc (length cs)) (c ∷ line) ≡ n → Told (in_counts cs) (c ∷ line) (count_step r (c ∷ line) n)
+  count_told : (c : ℕ) (line : List ℕ) → length cs < order_limit → (n : Option ℕ) → read_count (suc (length cs)) (c ∷ line) ≡ n → Told (in_counts cs) (c ∷ line) (count_step r (c ∷ line) n)
   unfolding announce
-  count_told c line l (Announced n) e =
+  count_told c line l (Some n) e =
       let x = count_line cs (c ∷ line) n l e in
       (x, λ i m. none-meets room size ls (in_counts cs) (c ∷ line) i m (in_counts (cs ++ (n ∷ [])), x), same_rows (c ∷ line) (count-no_tab (suc (length cs)) (c ∷ line) n e) Counts (cs ++ (n ∷ [])) 0 tt)
-  count_told c line l NotInForm e = heading_told c line (λ n m f. let z : NotInForm ≡ Announced n = sym e ∙ f in absurd (let y : ◌≡◌ {A = ℕ} 0 1 = cc in omega arith))
+  count_told c line l None e = heading_told c line (λ n m f. let z : None ≡ Some n = sym e ∙ f in absurd (let y : ◌≡◌ {A = ℕ} 0 1 = cc in omega arith))
 
   data_told : (c : ℕ) (line : List ℕ) → Told (in_counts cs) (c ∷ line) (data_step r (c ∷ line))
   unfolding data_step
@@ -240,7 +239,7 @@ module _ (room size : ℕ) (ls : List (List ℕ)) (r : Reading) (h : Holds room 
         (λ t. end-count cs m r.lines l (eqb-false _ _ t))
 
     -- ---- a row
-    module _ (stage : r.stage ≡ Section m) (line : List ℕ) (l : Listed) (is : read_row m line ≡ some l) where
+    module _ (stage : r.stage ≡ Section m) (line : List ℕ) (l : Listed) (is : read_row m line ≡ Some l) where
       leads : Leads here line (position_at r.stage cs (suc r.lines))
       leads = rw stage (row_of_lem cs m r.lines line l is)
 
@@ -321,13 +320,13 @@ module _ (room size : ℕ) (ls : List (List ℕ)) (r : Reading) (h : Holds room 
 
     row_told : r.stage ≡ Section m → (c : ℕ) (line : List ℕ) → closes m (length cs) (c ∷ line) ≡ false → (o : Option Listed) → read_row m (c ∷ line) ≡ o → Told here (c ∷ line) (row_step room size m r o)
     unfolding row_step
-    row_told stage c line other none e =
+    row_told stage c line other None e =
         not-in_form here (c ∷ line)
         (λ q x.
         ⊎_elim (λ z. cons≢nil z)
-        (λ y. ⊎_elim (λ z. let f : none ≡ some z.0 = sym e ∙ z.1 in let w : ◌≡◌ {A = ℕ} 0 1 = cc in omega arith) (λ z. true≢false (sym (closes_shown (c ∷ line) z) ∙ other)) y)
+        (λ y. ⊎_elim (λ z. let f : None ≡ Some z.0 = sym e ∙ z.1 in let w : ◌≡◌ {A = ℕ} 0 1 = cc in omega arith) (λ z. true≢false (sym (closes_shown (c ∷ line) z) ∙ other)) y)
         (may_stand here (c ∷ line) q x))
-    row_told stage c line other (some l) e =
+    row_told stage c line other (Some l) e =
         by_test here (c ∷ line) (eqb m 1)
         (word_step room size r l (only_text l) (only_number r l))
         (longer_step room r l (map (number_met r.texts) l.texts))

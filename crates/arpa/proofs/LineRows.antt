@@ -1,10 +1,10 @@
 -- What a reading holds of the lines of rows that it has read: their rows, their texts and the numbers of these; and one line more. Assumes nothing.
+use Rattle.std.specs.declared.option.Option.TheVariants.{Some}
 use mathlib.Core.Path.{◌≡◌, refl, sym, ap, ap₂, ◌∙◌, subst}
 use mathlib.Core.Logic.{◌⊎◌, inl, inr, ⊎_elim}
 use mathlib.Core.Bool.{Bool, true, false, cond, ◌||◌}
 use mathlib.Core.List.Memᴰ
 use mathlib.Core.List.{List, [], ◌∷◌, ◌++◌, map, append-nil, Memᴰ, map-append}
-use mathlib.Core.Option.{some}
 use Prim.Native.Nat.{ℕ, zero, suc, ◌*◌, ◌-◌, ◌<◌, ◌≤◌}
 use native.Mathlib.Omega.{arith}
 use lib.Dec.{eqb, ltb, leb}
@@ -16,7 +16,6 @@ use Rattle.integer.proofs.Each.{map_equal}
 use Rattle.integer.proofs.Ranges.{and_left, and_right, lt_or_ge, equal_or_not}
 use Rattle.integer.specs.Integer.{or_else}
 use Rattle.backoff.specs.Words.{same_words}
-use Rattle.row_search.specs.declared.Found.TheVariants.{At}
 use Rattle.word_index.specs.Texts.{search_from, given_by}
 use Rattle.text_parts.specs.Parts.{before}
 use Rattle.arpa_text.specs.Lines.{Listed, read_row, is_text, are_texts}
@@ -103,7 +102,7 @@ pub number_by_lem : (lines : List (List ℕ)) (u : List ℕ) → number_by lines
 unfolding number_by number_met number_in search_from reserved_number
 number_by_lem lines u = go (same_words u unknown_text) (same_words u start_text) (same_words u end_text)
   where
-    go : (a b c : Bool) → given_by (cond a (At 1) (cond b (At 2) (cond c (At 3) (search_from u 4 (new_texts [] (word_texts lines)))))) 0 ≡ or_else (cond a 1 (cond b 2 (cond c 3 0))) (given_by (search_from u 4 (new_texts [] (word_texts lines))) 0)
+    go : (a b c : Bool) → given_by (cond a (Some 1) (cond b (Some 2) (cond c (Some 3) (search_from u 4 (new_texts [] (word_texts lines)))))) 0 ≡ or_else (cond a 1 (cond b 2 (cond c 3 0))) (given_by (search_from u 4 (new_texts [] (word_texts lines))) 0)
     go true b c = refl
     go false true c = refl
     go false false true = refl
@@ -143,7 +142,7 @@ record WordRow (size : ℕ) (r : Reading) (l : Listed) : Type 0 where
   pub in_form_lem : is_text (only_text l) ≡ true
   pub read : TextRead size r.texts (only_text l) (only_number r l) (texts_with r l)
 
-word_row_lem : (size : ℕ) (r : Reading) → TextsSound r.texts → (line : List ℕ) (l : Listed) → read_row 1 line ≡ some l → WordRow size r l
+word_row_lem : (size : ℕ) (r : Reading) → TextsSound r.texts → (line : List ℕ) (l : Listed) → read_row 1 line ≡ Some l → WordRow size r l
 word_row_lem size r sound line l is =
     let f = one-text l.texts (read-texts 1 line l is) in
     let same : only_text l ≡ f.0 = ap (λ (us : List (List ℕ)). get_or us 0 []) f.1 in
@@ -164,7 +163,7 @@ pub record Holds (room size : ℕ) (r : Reading) (lines : List (List ℕ)) : Typ
   pub records : RecordsFit size r.texts
   pub row_room : 8 * length r.rows ≤ room
   pub fresh : Fresh r.stage r.announced
-  pub said : (line : List ℕ) → Memᴰ line lines → (l : Listed) × (read_row (word_count line) line ≡ some l)
+  pub said : (line : List ℕ) → Memᴰ line lines → (l : Listed) × (read_row (word_count line) line ≡ Some l)
   pub rows : r.rows ≡ map (line_row (number_in (drop 3 r.texts))) lines
   pub news : drop 3 r.texts ≡ new_texts [] (word_texts lines)
   pub in_form_lem : (line : List ℕ) → Memᴰ line lines → (u : List ℕ) → Memᴰ u (line_texts line) → is_text u ≡ true
@@ -193,14 +192,14 @@ module _ (room size : ℕ) (r : Reading) (lines : List (List ℕ)) (h : Holds ro
   pub row_count_lem : length r.rows ≡ length lines
   row_count_lem = ap length h.rows ∙ length-map lines (line_row (number_in (drop 3 r.texts)))
 
-  module _ (line : List ℕ) (m : ℕ) (l : Listed) (is : read_row m line ≡ some l) where
+  module _ (line : List ℕ) (m : ℕ) (l : Listed) (is : read_row m line ≡ Some l) where
     in_line : (u : List ℕ) → Memᴰ u (line_texts line) → Memᴰ u l.texts
     in_line u k = subst (λ (us : List (List ℕ)). Memᴰ u us) (texts_of-row m line l is) k
 
     row-in_form : (u : List ℕ) → Memᴰ u l.texts → is_text u ≡ true
     row-in_form = texts_members m l.texts (read-texts m line l is)
 
-    said_more : (i : List ℕ) → Memᴰ i (lines ++ (line ∷ [])) → (k : Listed) × (read_row (word_count i) i ≡ some k)
+    said_more : (i : List ℕ) → Memᴰ i (lines ++ (line ∷ [])) → (k : Listed) × (read_row (word_count i) i ≡ Some k)
     said_more i n =
         ⊎_elim (h.said i) (λ d. (l, ap (λ (j : List ℕ). read_row (word_count j) j) (Memᴰ.eq_of_singleton d) ∙ row_read m line l is)) (Memᴰ.append_cases lines n)
 

@@ -1,4 +1,5 @@
 -- What every answer means, `read_means`, and of an accepted reading `reads-the-lines`. Assumes nothing.
+use Rattle.std.specs.declared.option.Option.{Option}
 use mathlib.Core.Path.{◌≡◌, refl, sym, ap, ap₂, ◌∙◌, subst}
 use mathlib.Core.Logic.{⊎_elim}
 use mathlib.Core.Bool.{Bool, true, false, ◌&&◌}
@@ -18,11 +19,10 @@ use Rattle.backoff.specs.Refusal.{number_of}
 use Rattle.backoff.specs.Words.{same_words}
 use Rattle.backoff.specs.NineNumbers.{padded}
 use Rattle.backoff.proofs.NineNumbers.{length-padded}
-use Rattle.backoff.specs.declared.Verdict.{Verdict}
-use Rattle.backoff.specs.declared.Verdict.TheVariants.{Accepted, Refused}
+use Rattle.backoff.specs.Refusal.{Verdict}
+use Rattle.backoff.specs.Refusal.{Accepted, Refused}
 use Rattle.rows.specs.Table.{rows_of, words}
 use Rattle.row_search.specs.Search.{find_in, is_at}
-use Rattle.row_search.specs.declared.Found.{Found}
 use Rattle.row_search.proofs.Search.{found-words, is-at}
 use Rattle.list.specs.Check.{reserved_listed, verdict_for}
 use Rattle.list.specs.ListModel.{model_of}
@@ -44,8 +44,7 @@ use Rattle.arpa_lines.specs.Reading.{Lines, done, stopped, read_lines}
 use Rattle.arpa_lines.proofs.JoinedRows.{Eights, row-eight, joined_length}
 use Rattle.arpa_reading.specs.Outcome.{read_number, read_place, row_count, ordered, Outcome, refused_outcome, judged, lines_outcome}
 use Rattle.arpa_reading.proofs.RowsHeld.{padded-zeros, order-length}
-use Rattle.arpa_reading.specs.declared.Rows.{Rows}
-use Rattle.arpa_reading.specs.declared.Rows.TheVariants.{Read}
+use Rattle.arpa_reading.specs.Rows.{Rows, Read}
 use Rattle.arpa.specs.Outcome.{read_arpa, Leaves}
 use Rattle.arpa.specs.Meaning.{row_lines, texts_in, line_texts, row_with, line_row, word_texts, new_texts, number_stored, EachItsOwn, ReadsTheLines, number_by, AllRead, list_of, ReadRefusedBy, bad_list, ReadMeans}
 use Rattle.arpa.proofs.RowLines.{row-same-numbers}
@@ -58,8 +57,8 @@ use Rattle.arpa.proofs.OrderedRows.{order-joined, sorted_row, one-word-row}
 searched_number : (text : List ℕ) (news : List (List ℕ)) (k : ℕ) → k < 3 → given_by (search_from text 4 news) 0 ≡ suc k → ⊥
 searched_number text news k l e =
     ⊎_elim
-    (λ w. let f : given_by (search_from text 4 news) 0 ≡ 0 = ap (λ (x : Found). given_by x 0) w.0 in omega arith)
-    (λ w. let f : given_by (search_from text 4 news) 0 ≡ 4 + w.0 = ap (λ (x : Found). given_by x 0) w.1.found in omega arith)
+    (λ w. let f : given_by (search_from text 4 news) 0 ≡ 0 = ap (λ (x : Option ℕ). given_by x 0) w.0 in omega arith)
+    (λ w. let f : given_by (search_from text 4 news) 0 ≡ 4 + w.0 = ap (λ (x : Option ℕ). given_by x 0) w.1.found in omega arith)
     (search_told text 4 news)
 
 reserved-number : (text : List ℕ) (news : List (List ℕ)) (k : ℕ) → k < 3 → number_in news text ≡ suc k → reserved_number text ≡ suc k
@@ -258,7 +257,7 @@ module _ (room size : ℕ) (r : Reading) (lines : List (List ℕ)) (held : Holds
       (λ w. absurd (w.1 k.0 k.1 k.2))
       (λ w.
       ap (λ (us : List (List ℕ)). given_by (search_from u 1 us) 0) stored-texts
-      ∙ ap (λ (x : Found). given_by x 0) (search-more u 1 (1 + w.0) r.texts (texts_from store (1 + length r.texts) (records - length r.texts)) w.1.found ∙ sym w.1.found))
+      ∙ ap (λ (x : Option ℕ). given_by x 0) (search-more u 1 (1 + w.0) r.texts (texts_from store (1 + length r.texts) (records - length r.texts)) w.1.found ∙ sym w.1.found))
       (search_told u 1 r.texts)
       ∙ known-is-number r.texts held.texts u f k
       ∙ ap (λ (ns : List (List ℕ)). number_in ns u) held.news
@@ -268,9 +267,9 @@ module _ (room size : ℕ) (r : Reading) (lines : List (List ℕ)) (held : Holds
   unfolding number_stored number_met
   stored-text u l =
       ⊎_elim
-      (λ w. absurd (let f : given_by (search_from u 1 (texts_from store 1 records)) 0 ≡ 0 = ap (λ (x : Found). given_by x 0) w.0 in omega arith))
+      (λ w. absurd (let f : given_by (search_from u 1 (texts_from store 1 records)) 0 ≡ 0 = ap (λ (x : Option ℕ). given_by x 0) w.0 in omega arith))
       (λ w.
-      let f : given_by (search_from u 1 (texts_from store 1 records)) 0 ≡ 1 + w.0 = ap (λ (x : Found). given_by x 0) w.1.found in
+      let f : given_by (search_from u 1 (texts_from store 1 records)) 0 ≡ 1 + w.0 = ap (λ (x : Option ℕ). given_by x 0) w.1.found in
       let g : given_by (search_from u 1 (texts_from store 1 records)) 0 - 1 ≡ w.0 = omega arith in
       ap (λ (j : ℕ). get_or (texts_from store 1 records) j []) g ∙ w.1.same)
       (search_told u 1 (texts_from store 1 records))
@@ -317,7 +316,7 @@ module _ (room size : ℕ) (r : Reading) (lines : List (List ℕ)) (held : Holds
       ∙ rw e
       (⊎_elim
       (λ w. absurd (w.1 i l refl))
-      (λ w. ap (λ (x : Found). given_by x 0) w.1.found ∙ ap (λ (j : ℕ). 4 + j) (sym (new-same i w.0 l w.1.inside w.1.same)))
+      (λ w. ap (λ (x : Option ℕ). given_by x 0) w.1.found ∙ ap (λ (j : ℕ). 4 + j) (sym (new-same i w.0 l w.1.inside w.1.same)))
       (search_told (get_or news i []) 4 news))
 
   -- ---- the rows by the store's numbers

@@ -1,4 +1,6 @@
 -- Laws of the numbers that texts have by the order of meeting: what one line of the one-word section changes, and what it does not. Assumes nothing.
+use Rattle.std.specs.declared.option.Option.{Option}
+use Rattle.std.specs.declared.option.Option.TheVariants.{Some, None}
 use mathlib.Core.Path.{◌≡◌, refl, sym, ap, ◌∙◌}
 use mathlib.Core.Logic.{◌⊎◌, inl, inr, ⊎_elim}
 use mathlib.Core.Bool.{Bool, true, false, cond}
@@ -13,8 +15,6 @@ use Rattle.integer.proofs.Ranges.{lt_or_ge, equal_or_not}
 use Rattle.integer.specs.Integer.{or_else}
 use Rattle.backoff.specs.Words.{same_words}
 use Rattle.backoff.proofs.Words.{same_refl}
-use Rattle.row_search.specs.declared.Found.{Found}
-use Rattle.row_search.specs.declared.Found.TheVariants.{At, Nothing}
 use Rattle.word_index.specs.Texts.{search_from, given_by}
 use Rattle.arpa_text.specs.Lines.{is_text}
 use Rattle.arpa_words.specs.Words.{reserved_number, number_met, number_given, with_text}
@@ -33,28 +33,28 @@ abbrev pub Known : List (List ℕ) → List ℕ → Type 0
 Known texts text = (j : ℕ) × (j < length texts) × (get_or texts j [] ≡ text)
 
 -- ---- a search in more texts
-pub search-more : (text : List ℕ) (k j : ℕ) (us vs : List (List ℕ)) → search_from text k us ≡ At j → search_from text k (us ++ vs) ≡ At j
+pub search-more : (text : List ℕ) (k j : ℕ) (us vs : List (List ℕ)) → search_from text k us ≡ Some j → search_from text k (us ++ vs) ≡ Some j
 unfolding search_from
 search-more text k j [] vs e = absurd (let z : ◌≡◌ {A = ℕ} 0 1 = cc in omega arith)
 search-more text k j (u ∷ us) vs e = go (same_words text u) e (λ f. search-more text (suc k) j us vs f)
   where
-    go : (t : Bool) → cond t (At k) (search_from text (suc k) us) ≡ At j → (search_from text (suc k) us ≡ At j → search_from text (suc k) (us ++ vs) ≡ At j)
-        → cond t (At k) (search_from text (suc k) (us ++ vs)) ≡ At j
+    go : (t : Bool) → cond t (Some k) (search_from text (suc k) us) ≡ Some j → (search_from text (suc k) us ≡ Some j → search_from text (suc k) (us ++ vs) ≡ Some j)
+        → cond t (Some k) (search_from text (suc k) (us ++ vs)) ≡ Some j
     go true f rest = f
     go false f rest = rest f
 
-search_snoc : (text : List ℕ) (k : ℕ) (us : List (List ℕ)) → search_from text k us ≡ Nothing → search_from text k (us ++ (text ∷ [])) ≡ At (k + length us)
+search_snoc : (text : List ℕ) (k : ℕ) (us : List (List ℕ)) → search_from text k us ≡ None → search_from text k (us ++ (text ∷ [])) ≡ Some (k + length us)
 unfolding search_from
 search_snoc text k [] e = let z : k + 0 ≡ k = omega arith in rw (same_refl text, z) refl
 search_snoc text k (u ∷ us) e = go (same_words text u) e (λ f. search_snoc text (suc k) us f)
   where
-    go : (t : Bool) → cond t (At k) (search_from text (suc k) us) ≡ Nothing → (search_from text (suc k) us ≡ Nothing → search_from text (suc k) (us ++ (text ∷ [])) ≡ At (suc k + length us))
-        → cond t (At k) (search_from text (suc k) (us ++ (text ∷ []))) ≡ At (k + suc (length us))
+    go : (t : Bool) → cond t (Some k) (search_from text (suc k) us) ≡ None → (search_from text (suc k) us ≡ None → search_from text (suc k) (us ++ (text ∷ [])) ≡ Some (suc k + length us))
+        → cond t (Some k) (search_from text (suc k) (us ++ (text ∷ []))) ≡ Some (k + suc (length us))
     go true f rest = absurd (let z : ◌≡◌ {A = ℕ} 0 1 = cc in omega arith)
     go false f rest = let z : k + suc (length us) ≡ suc k + length us = omega arith in rw z (rest f)
 
 -- a text is found from one number on where it is found from another
-found_or_not : (text : List ℕ) (i k : ℕ) (us : List (List ℕ)) → ((search_from text i us ≡ Nothing) × (search_from text k us ≡ Nothing)) ⊎ ((a b : ℕ) × (search_from text i us ≡ At (i + a)) × (search_from text k us ≡ At (k + b)))
+found_or_not : (text : List ℕ) (i k : ℕ) (us : List (List ℕ)) → ((search_from text i us ≡ None) × (search_from text k us ≡ None)) ⊎ ((a b : ℕ) × (search_from text i us ≡ Some (i + a)) × (search_from text k us ≡ Some (k + b)))
 found_or_not text i k us =
     ⊎_elim
     (λ v. ⊎_elim (λ w. inl (v.0, w.0)) (λ w. absurd (v.1 w.0 w.1.inside w.1.same)) (search_told text k us))
@@ -70,7 +70,7 @@ number-kept news more u l = go (reserved_number u) l
     go (suc r) m = refl
     go zero m =
         ⊎_elim
-        (λ w. absurd (let f : given_by (search_from u 4 news) 0 ≡ 0 = ap (λ (x : Found). given_by x 0) w.0 in omega arith))
+        (λ w. absurd (let f : given_by (search_from u 4 news) 0 ≡ 0 = ap (λ (x : Option ℕ). given_by x 0) w.0 in omega arith))
         (λ w. rw (search-more u 4 (4 + w.0) news more w.1.found, w.1.found) refl)
         (search_told u 4 news)
 
@@ -126,16 +126,16 @@ module _ (size : ℕ) (texts : List (List ℕ)) (sound : TextsSound texts) (text
   unfolding with_new number_met
   met_old news e l =
       ⊎_elim
-      (λ w. absurd (let f : given_by (search_from text 4 news) 0 ≡ 0 = ap (λ (x : Found). given_by x 0) w.1 in omega arith))
+      (λ w. absurd (let f : given_by (search_from text 4 news) 0 ≡ 0 = ap (λ (x : Option ℕ). given_by x 0) w.1 in omega arith))
       (λ w. rw (eq-eqb (reserved_number text) 0 e, w.2, ne_eqb (1 + w.0) 0 (λ z. absurd (omega arith))) refl)
       (found_or_not text 1 4 news)
 
-  absent-new : (news : List (List ℕ)) → reserved_number text ≡ 0 → search_from text 4 news ≡ Nothing → with_new news text ≡ news ++ (text ∷ [])
+  absent-new : (news : List (List ℕ)) → reserved_number text ≡ 0 → search_from text 4 news ≡ None → with_new news text ≡ news ++ (text ∷ [])
   unfolding with_new number_met
   absent-new news e f =
       ⊎_elim
       (λ w. rw (eq-eqb (reserved_number text) 0 e, w.0) refl)
-      (λ w. absurd (let g : Nothing ≡ At (4 + w.1) = sym f ∙ w.3 in let z : ◌≡◌ {A = ℕ} 0 1 = cc in omega arith))
+      (λ w. absurd (let g : None ≡ Some (4 + w.1) = sym f ∙ w.3 in let z : ◌≡◌ {A = ℕ} 0 1 = cc in omega arith))
       (found_or_not text 1 4 news)
 
   -- met again
@@ -192,9 +192,9 @@ module _ (size : ℕ) (texts : List (List ℕ)) (sound : TextsSound texts) (text
       let long = sound.long in
       let more : length (texts ++ (text ∷ [])) ≡ length texts + 1 = length-append texts (text ∷ []) in
       let news : drop 3 (texts ++ (text ∷ [])) ≡ drop 3 texts ++ (text ∷ []) = drop-append-le 3 texts (text ∷ []) long in
-      let missing : search_from text 4 (drop 3 texts) ≡ Nothing =
+      let missing : search_from text 4 (drop 3 texts) ≡ None =
       ⊎_elim (λ w. w.0)
-      (λ w. absurd (let f = met-other texts sound text in_form_lem e in let g : given_by (search_from text 4 (drop 3 texts)) 0 ≡ 4 + w.0 = ap (λ (x : Found). given_by x 0) w.1.found in omega arith))
+      (λ w. absurd (let f = met-other texts sound text in_form_lem e in let g : given_by (search_from text 4 (drop 3 texts)) 0 ≡ 4 + w.0 = ap (λ (x : Option ℕ). given_by x 0) w.1.found in omega arith))
       (search_told text 4 (drop 3 texts))
       in
       rw (with_next texts text) (record {
@@ -217,7 +217,7 @@ module _ (size : ℕ) (texts : List (List ℕ)) (sound : TextsSound texts) (text
       told : (k : ℕ) → TextRead size texts text k (with_text texts k text) → or_else (number_met texts text) (or_else (reserved_number text) (suc (length texts))) ≡ k → TextRead size texts text (number_given texts text) (with_text texts (number_given texts text) text)
       told k r e = rw (given_is texts sound text in_form_lem ∙ e) r
 
-      new : (number_met texts text ≡ 0) × (search_from text 1 texts ≡ Nothing) × Absent text texts → TextRead size texts text (number_given texts text) (with_text texts (number_given texts text) text)
+      new : (number_met texts text ≡ 0) × (search_from text 1 texts ≡ None) × Absent text texts → TextRead size texts text (number_given texts text) (with_text texts (number_given texts text) text)
       new w = by (reserved_number text) refl
         where
           by : (r : ℕ) → reserved_number text ≡ r → TextRead size texts text (number_given texts text) (with_text texts (number_given texts text) text)

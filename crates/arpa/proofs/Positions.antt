@@ -1,9 +1,10 @@
 -- Lines come to one position at most; so what refuses a text whose lines are all read are the list checks alone. Assumes nothing.
+use Rattle.std.specs.declared.option.Option.{Option}
+use Rattle.std.specs.declared.option.Option.TheVariants.{Some, None}
 use mathlib.Core.Path.{◌≡◌, refl, sym, ap, ◌∙◌, subst}
 use mathlib.Core.Logic.{◌⊎◌, inl, inr, ⊎_elim}
 use mathlib.Core.Bool.{Bool, cond}
 use mathlib.Core.List.{List, [], ◌∷◌, ◌++◌, head-eq_of_cons-eq, tail-eq_of_cons-eq}
-use mathlib.Core.Option.{some}
 use Prim.Native.Nat.{ℕ, suc, ◌<◌, ◌≤◌}
 use native.Mathlib.Omega.{arith}
 use lib.Dec.{ltb}
@@ -12,8 +13,6 @@ use borrow.Author.Tests.{lt-ltb, le-ltb}
 use Rattle.backoff.proofs.Words.{same_refl}
 use Rattle.list.specs.Meaning.{NoneMeets}
 use Rattle.text_parts.specs.Parts.{parts, before}
-use Rattle.arpa_headings.specs.declared.Count.{Count}
-use Rattle.arpa_headings.specs.declared.Count.TheVariants.{Announced, NotInForm}
 use Rattle.arpa_headings.specs.Headings.{section_line, end_line, read_count}
 use Rattle.arpa_text.specs.Lines.{Listed, read_row}
 use Rattle.arpa.specs.Meaning.{Position, at-start, in_counts, in_section, at-end, Leads, skipped, data_line_lem, count_line, first_heading, row_of_lem, next_heading, end_line_lem, LineMeets, ReadTo, no_lines, one_more, lines_in, AllRead, list_of, ReadRefusedBy, at_line, no-end_line, no-line_end, bad_list}
@@ -22,9 +21,9 @@ use Rattle.arpa.proofs.LineByLine.{row-only}
 
 -- ---- where a line leads, if anywhere
 
-abbrev after_count : List ℕ → Count → Position
-after_count cs (Announced c) = in_counts (cs ++ (c ∷ []))
-after_count cs NotInForm = in_section cs 1 0
+abbrev after_count : List ℕ → Option ℕ → Position
+after_count cs (Some c) = in_counts (cs ++ (c ∷ []))
+after_count cs None = in_section cs 1 0
 
 after : Position → List ℕ → Position
 after q [] = q
@@ -33,7 +32,7 @@ after (in_counts cs) (x ∷ line) = after_count cs (read_count (suc (length cs))
 after (in_section cs m k) (x ∷ line) = cond (ltb (before 9 (x ∷ line)) (length (x ∷ line))) (in_section cs m (suc k)) (cond (ltb m (length cs)) (in_section cs (suc m) 0) at-end)
 after at-end (x ∷ line) = at-end
 
-after-count : (cs line : List ℕ) (c : ℕ) → read_count (suc (length cs)) line ≡ Announced c → in_counts (cs ++ (c ∷ [])) ≡ after (in_counts cs) line
+after-count : (cs line : List ℕ) (c : ℕ) → read_count (suc (length cs)) line ≡ Some c → in_counts (cs ++ (c ∷ [])) ≡ after (in_counts cs) line
 unfolding after read_count parts
 after-count cs [] c e = absurd (let z : ◌≡◌ {A = ℕ} 0 1 = cc in omega arith)
 after-count cs (x ∷ line) c e = ap (after_count cs) (sym e)
@@ -42,7 +41,7 @@ after_first : (cs : List ℕ) → in_section cs 1 0 ≡ after (in_counts cs) (se
 unfolding after read_count parts
 after_first cs = refl
 
-after-row : (cs : List ℕ) (m k : ℕ) (line : List ℕ) (l : Listed) → read_row m line ≡ some l → in_section cs m (suc k) ≡ after (in_section cs m k) line
+after-row : (cs : List ℕ) (m k : ℕ) (line : List ℕ) (l : Listed) → read_row m line ≡ Some l → in_section cs m (suc k) ≡ after (in_section cs m k) line
 unfolding after
 after-row cs m k [] l e = absurd (row-only m [] l e empty-no_tab)
 after-row cs m k (x ∷ line) l e = rw (lt-ltb (before 9 (x ∷ line)) (length (x ∷ line)) (row-has_tab m (x ∷ line) l e)) refl

@@ -1,9 +1,11 @@
 -- Laws of the lines that have a tab: those of rows, and no others. Assumes nothing.
+use Rattle.std.specs.declared.option.Option.{Option}
+use Rattle.std.specs.declared.option.Option.TheVariants.{Some, None}
+use lib.IntN.{ℤ}
 use mathlib.Core.Path.{◌≡◌, refl, sym, ap, ◌∙◌}
 use mathlib.Core.Logic.{⊎_elim}
 use mathlib.Core.Bool.{Bool, true, false, cond}
 use mathlib.Core.List.{List, [], ◌∷◌, ◌++◌, map, Memᴰ}
-use mathlib.Core.Option.{Option, none, some}
 use Prim.Native.Nat.{ℕ, suc, ◌+◌, ◌<◌}
 use native.Mathlib.Omega.{arith}
 use lib.Dec.{eqb}
@@ -18,11 +20,8 @@ use Rattle.decimal.proofs.Digits.{all_digits_lem}
 use Rattle.text_parts.specs.Parts.{parts, before}
 use Rattle.text_parts.proofs.Parts.{parts-one, parts_more, before-other, lacks_or_has, digits_lack}
 use Rattle.arpa_headings.specs.Headings.{data_line, section_line, end_line, count_head, is_count_head, without_space, count_in, read_count}
-use Rattle.arpa_headings.specs.declared.Count.TheVariants.{Announced, NotInForm as NoCount}
 use Rattle.arpa_headings.proofs.Headings.{count_fields}
 use Rattle.arpa_logs.specs.Logs.{read_points}
-use Rattle.arpa_logs.specs.declared.Points.{Points}
-use Rattle.arpa_logs.specs.declared.Points.TheVariants.{Of, NotInForm}
 use Rattle.arpa_text.specs.Lines.{Listed, listed_with, listed_in, read_row, are_texts}
 use Rattle.arpa_text.proofs.Lines.{no_row}
 use Rattle.arpa_words.proofs.RowWords.{texts-count}
@@ -104,56 +103,56 @@ digits-no_tab (c ∷ text) e = go (eqb c 32) refl
         before-other 9 c text (λ n. omega arith) (digits_lack 9 text (λ d l h g. omega arith) (all_digits_lem 9 text (rw f at e)))
     go false f = digits_lack 9 (c ∷ text) (λ d l h g. omega arith) (all_digits_lem 9 (c ∷ text) (rw f at e))
 
-pub count-no_tab : (m : ℕ) (line : List ℕ) (count : ℕ) → read_count m line ≡ Announced count → NoTab line
+pub count-no_tab : (m : ℕ) (line : List ℕ) (count : ℕ) → read_count m line ≡ Some count → NoTab line
 unfolding read_count count_in
 count-no_tab m line count e = ⊎_elim one more (lacks_or_has 61 line)
   where
     one : before 61 line ≡ length line → NoTab line
-    one h = absurd (let f : NoCount ≡ Announced count = rw (parts-one 61 line h) at e in let z : ◌≡◌ {A = ℕ} 0 1 = cc in omega arith)
+    one h = absurd (let f : None ≡ Some count = rw (parts-one 61 line h) at e in let z : ◌≡◌ {A = ℕ} 0 1 = cc in omega arith)
 
     more : before 61 line < length line → NoTab line
     more h =
         let head = take (before 61 line) line in
         let rest = drop (before 61 line + 1) line in
-        let f : cond (is_count_head m head) (count_in (without_space rest)) NoCount ≡ Announced count = sym (count_fields m head rest) ∙ rw (parts_more 61 line h) at e in
+        let f : cond (is_count_head m head) (count_in (without_space rest)) None ≡ Some count = sym (count_fields m head rest) ∙ rw (parts_more 61 line h) at e in
         rw (split_before 61 line h) (both-no_tab head rest 61 (heads (is_count_head m head) refl f) (λ z. absurd (omega arith)) (counts (is_count_head m head) f))
       where
-        heads : (t : Bool) → is_count_head m (take (before 61 line) line) ≡ t → cond t (count_in (without_space (drop (before 61 line + 1) line))) NoCount ≡ Announced count → NoTab (take (before 61 line) line)
+        heads : (t : Bool) → is_count_head m (take (before 61 line) line) ≡ t → cond t (count_in (without_space (drop (before 61 line + 1) line))) None ≡ Some count → NoTab (take (before 61 line) line)
         heads true g f = head-no_tab m (take (before 61 line) line) g
         heads false g f = absurd (let z : ◌≡◌ {A = ℕ} 0 1 = cc in omega arith)
 
-        digits : (t : Bool) → digits_up_to 9 (without_space (drop (before 61 line + 1) line)) ≡ t → count_in (without_space (drop (before 61 line + 1) line)) ≡ Announced count → NoTab (drop (before 61 line + 1) line)
+        digits : (t : Bool) → digits_up_to 9 (without_space (drop (before 61 line + 1) line)) ≡ t → count_in (without_space (drop (before 61 line + 1) line)) ≡ Some count → NoTab (drop (before 61 line + 1) line)
         digits true g f = digits-no_tab (drop (before 61 line + 1) line) g
-        digits false g f = absurd (let k : NoCount ≡ Announced count = rw g at f in let z : ◌≡◌ {A = ℕ} 0 1 = cc in omega arith)
+        digits false g f = absurd (let k : None ≡ Some count = rw g at f in let z : ◌≡◌ {A = ℕ} 0 1 = cc in omega arith)
 
-        counts : (t : Bool) → cond t (count_in (without_space (drop (before 61 line + 1) line))) NoCount ≡ Announced count → NoTab (drop (before 61 line + 1) line)
+        counts : (t : Bool) → cond t (count_in (without_space (drop (before 61 line + 1) line))) None ≡ Some count → NoTab (drop (before 61 line + 1) line)
         counts true f = digits (digits_up_to 9 (without_space (drop (before 61 line + 1) line))) refl f
         counts false f = absurd (let z : ◌≡◌ {A = ℕ} 0 1 = cc in omega arith)
 
 -- ---- a line of a row
-with_words : (m : ℕ) (p : Points) (texts : List (List ℕ)) (b : Points) (l : Listed) → listed_with m p texts b ≡ some l → l.texts ≡ texts
-with_words m (Of p) texts (Of b) l e = go (are_texts m texts) e
+with_words : (m : ℕ) (p : Option ℤ) (texts : List (List ℕ)) (b : Option ℤ) (l : Listed) → listed_with m p texts b ≡ Some l → l.texts ≡ texts
+with_words m (Some p) texts (Some b) l e = go (are_texts m texts) e
   where
-    go : (t : Bool) → cond t (some (record { p = p; b = b; texts = texts })) none ≡ some l → l.texts ≡ texts
+    go : (t : Bool) → cond t (Some (record { p = p; b = b; texts = texts })) None ≡ Some l → l.texts ≡ texts
     go true e = let z : record { p = p; b = b; texts = texts } ≡ l = cc in ap (λ (x : Listed). x.texts) (sym z)
     go false e = let z : ◌≡◌ {A = ℕ} 0 1 = cc in absurd (omega arith)
-with_words m (Of p) texts NotInForm l e = let z : ◌≡◌ {A = ℕ} 0 1 = cc in absurd (omega arith)
-with_words m NotInForm texts b l e = let z : ◌≡◌ {A = ℕ} 0 1 = cc in absurd (omega arith)
+with_words m (Some p) texts None l e = let z : ◌≡◌ {A = ℕ} 0 1 = cc in absurd (omega arith)
+with_words m None texts b l e = let z : ◌≡◌ {A = ℕ} 0 1 = cc in absurd (omega arith)
 
-module _ (m : ℕ) (line : List ℕ) (l : Listed) (e : read_row m line ≡ some l) where
+module _ (m : ℕ) (line : List ℕ) (l : Listed) (e : read_row m line ≡ Some l) where
   pub row-has_tab : before 9 line < length line
   unfolding read_row
   row-has_tab =
-      ⊎_elim (λ h. absurd (let f : none ≡ some l = sym (no_row m line h) ∙ e in let z : ◌≡◌ {A = ℕ} 0 1 = cc in omega arith)) (λ h. h) (lacks_or_has 9 line)
+      ⊎_elim (λ h. absurd (let f : None ≡ Some l = sym (no_row m line h) ∙ e in let z : ◌≡◌ {A = ℕ} 0 1 = cc in omega arith)) (λ h. h) (lacks_or_has 9 line)
 
   words_are : l.texts ≡ parts 32 (get_or (parts 9 line) 1 [])
   unfolding read_row listed_in
   words_are = go (parts 9 line) e
     where
-      go : (ps : List (List ℕ)) → listed_in m ps ≡ some l → l.texts ≡ parts 32 (get_or ps 1 [])
+      go : (ps : List (List ℕ)) → listed_in m ps ≡ Some l → l.texts ≡ parts 32 (get_or ps 1 [])
       go [] f = let z : ◌≡◌ {A = ℕ} 0 1 = cc in absurd (omega arith)
       go (p ∷ []) f = let z : ◌≡◌ {A = ℕ} 0 1 = cc in absurd (omega arith)
-      go (p ∷ words ∷ []) f = with_words m (read_points p) (parts 32 words) (Of (pos 0)) l f
+      go (p ∷ words ∷ []) f = with_words m (read_points p) (parts 32 words) (Some (pos 0)) l f
       go (p ∷ words ∷ b ∷ []) f = with_words m (read_points p) (parts 32 words) (read_points b) l f
       go (p ∷ words ∷ b ∷ more ∷ rest) f = let z : ◌≡◌ {A = ℕ} 0 1 = cc in absurd (omega arith)
 
@@ -161,7 +160,7 @@ module _ (m : ℕ) (line : List ℕ) (l : Listed) (e : read_row m line ≡ some 
   unfolding word_count
   count_of-row = ap length (sym words_are) ∙ texts-count m l.texts (read-texts m line l e)
 
-  pub row_read : read_row (word_count line) line ≡ some l
+  pub row_read : read_row (word_count line) line ≡ Some l
   row_read = ap (λ (k : ℕ). read_row k line) count_of-row ∙ e
 
   pub texts_of-row : line_texts line ≡ l.texts
@@ -178,5 +177,5 @@ unfolding line_row line_texts
 row-same-numbers f g line h = go (read_row (word_count line) line) h
   where
     go : (o : Option Listed) → ((u : List ℕ) → Memᴰ u (texts_in o) → f u ≡ g u) → row_with f o ≡ row_with g o
-    go none k = refl
-    go (some l) k = ap (λ (ns : List ℕ). row_of ns l.p l.b) (map_equal f g l.texts k)
+    go None k = refl
+    go (Some l) k = ap (λ (ns : List ℕ). row_of ns l.p l.b) (map_equal f g l.texts k)

@@ -1,12 +1,13 @@
 -- What the answers of the reader mean, told without the reading's steps: what is read of a text, and what refuses it. Assumes nothing.
+use Rattle.std.specs.declared.option.Option.{Option}
+use Rattle.std.specs.declared.option.Option.TheVariants.{Some, None}
 use Rattle.std.specs.Prelude.{◌≡◌, ◌↔◌, Bool, false, cond, ◌&&◌, ℕ, suc, ◌+◌, ◌*◌, ◌-◌, ◌/◌, ◌≤◌, ◌<◌, eqb, ltb, ℤ, length, get_or, take}
 use mathlib.Core.List.{List, [], ◌∷◌, ◌++◌, map, Memᴰ}
-use Rattle.std.proofs.Math.Option.{Option, none, some}
 use Rattle.backoff.specs.Limits.{order_limit, unknown_word, start_word, end_word}
 use Rattle.backoff.specs.Refusal.{short_slice, line_form, unlisted_text, section_count}
 use Rattle.backoff.specs.Model.{AcceptedModel}
 use Rattle.backoff.specs.NineNumbers.{padded}
-use Rattle.backoff.specs.declared.Verdict.TheVariants.{Accepted}
+use Rattle.backoff.specs.Refusal.{Accepted}
 use Rattle.list.specs.Check.{verdict_for}
 use Rattle.list.specs.ListModel.{model_of}
 use Rattle.list.specs.Meaning.{VerdictMeans}
@@ -14,7 +15,6 @@ use Rattle.row_order.specs.RowOrder.{sort_by, row_before, joined}
 use Rattle.word_index.specs.Texts.{texts_from}
 use Rattle.text_parts.specs.Parts.{parts, before}
 use Rattle.arpa_headings.specs.Headings.{data_line, section_line, end_line, read_count}
-use Rattle.arpa_headings.specs.declared.Count.TheVariants.{Announced}
 use Rattle.arpa_text.specs.Lines.{Listed, read_row}
 use Rattle.arpa_words.specs.Words.{unknown_text, start_text, end_text, reserved_number, number_met, store_with}
 use Rattle.arpa_sections.specs.Sections.{row_of}
@@ -29,8 +29,8 @@ unfoldable pub word_count : List ℕ → ℕ
 word_count line = length (parts 32 (get_or (parts 9 line) 1 []))
 
 abbrev pub texts_in : Option Listed → List (List ℕ)
-texts_in none = []
-texts_in (some l) = l.texts
+texts_in None = []
+texts_in (Some l) = l.texts
 
 -- the texts of a line of so many words
 unfoldable pub line_texts : List ℕ → List (List ℕ)
@@ -38,8 +38,8 @@ line_texts line = texts_in (read_row (word_count line) line)
 
 -- a line's row, where `number` gives a text its number
 abbrev pub row_with : (List ℕ → ℕ) → Option Listed → List ℤ
-row_with number none = []
-row_with number (some l) = row_of (map number l.texts) l.p l.b
+row_with number None = []
+row_with number (Some l) = row_of (map number l.texts) l.p l.b
 
 unfoldable pub line_row : (List ℕ → ℕ) → List ℕ → List ℤ
 line_row number line = row_with number (read_row (word_count line) line)
@@ -69,7 +69,7 @@ EachItsOwn store = (u v : List ℕ) → 0 < number_stored store u → 0 < number
 -- an accepted call over a text: its row count, and the table and store that it left
 pub record ReadsTheLines (filling : Bool) (text : List ℕ) (rows : ℕ) (table : List ℤ) (store : List ℕ) : Type 0 where
   -- the rows are exactly the lines' rows, no more and no fewer, each with its words' numbers, its p and its b, in list order
-  pub in_form_lem : (line : List ℕ) → Memᴰ line (row_lines (parts 10 text)) → (l : Listed) × (read_row (word_count line) line ≡ some l)
+  pub in_form_lem : (line : List ℕ) → Memᴰ line (row_lines (parts 10 text)) → (l : Listed) × (read_row (word_count line) line ≡ Some l)
   pub count : rows ≡ length (row_lines (parts 10 text))
   pub listed : table ≡ padded (length table) (joined (sort_by row_before (map (line_row (number_stored store)) (row_lines (parts 10 text)))))
   -- the words' texts: `<unk>`, `<s>`, `</s>`, then the others as the one-word lines bring them
@@ -99,9 +99,9 @@ pub data Leads : Position → List ℕ → Position → Type 0 where
   skipped : (q : Position) → Leads q [] q
   data_line_lem : Leads at-start data_line (in_counts [])
   -- "one to five lengths are announced, from 1 upwards, and their sections follow so"
-  count_line : (counts line : List ℕ) (c : ℕ) → length counts < order_limit → read_count (suc (length counts)) line ≡ Announced c → Leads (in_counts counts) line (in_counts (counts ++ (c ∷ [])))
+  count_line : (counts line : List ℕ) (c : ℕ) → length counts < order_limit → read_count (suc (length counts)) line ≡ Some c → Leads (in_counts counts) line (in_counts (counts ++ (c ∷ [])))
   first_heading : (counts : List ℕ) → 1 ≤ length counts → Leads (in_counts counts) (section_line 1) (in_section counts 1 0)
-  row_of_lem : (counts : List ℕ) (m lines : ℕ) (line : List ℕ) (l : Listed) → read_row m line ≡ some l → Leads (in_section counts m lines) line (in_section counts m (suc lines))
+  row_of_lem : (counts : List ℕ) (m lines : ℕ) (line : List ℕ) (l : Listed) → read_row m line ≡ Some l → Leads (in_section counts m lines) line (in_section counts m (suc lines))
   next_heading : (counts : List ℕ) (m lines : ℕ) → m < length counts → Leads (in_section counts m lines) (section_line (suc m)) (in_section counts (suc m) 0)
   end_line_lem : (counts : List ℕ) (m lines : ℕ) → length counts ≤ m → Leads (in_section counts m lines) end_line at-end
 
@@ -124,16 +124,16 @@ module _ (room size : ℕ) where
     -- "17 for a line not in this form"
     not-in_form : (q : Position) (line : List ℕ) → ((q' : Position) → Leads q line q' → ⊥) → LineMeets earlier q line line_form
     -- "18 for a word without a one-word line"
-    no-word_line : (counts : List ℕ) (m lines : ℕ) (line : List ℕ) (l : Listed) → read_row m line ≡ some l → (m ≡ 1 → ⊥)
+    no-word_line : (counts : List ℕ) (m lines : ℕ) (line : List ℕ) (l : Listed) → read_row m line ≡ Some l → (m ≡ 1 → ⊥)
         → (u : List ℕ) → Memᴰ u l.texts → (HasLine earlier u → ⊥) → LineMeets earlier (in_section counts m lines) line unlisted_text
     -- "19 for a section whose line count is not the one announced, .. the next heading or the end line"
     heading_count : (counts : List ℕ) (m lines : ℕ) → m < length counts → (lines ≡ count_of counts m → ⊥) → LineMeets earlier (in_section counts m lines) (section_line (suc m)) section_count
     end-count : (counts : List ℕ) (m lines : ℕ) → length counts ≤ m → (lines ≡ count_of counts m → ⊥) → LineMeets earlier (in_section counts m lines) end_line section_count
     -- "15 with the line whose row or text no longer fits comes after that line's 17 and 18"
-    row-no-longer-fits : (counts : List ℕ) (m lines : ℕ) (line : List ℕ) (l : Listed) → read_row m line ≡ some l
+    row-no-longer-fits : (counts : List ℕ) (m lines : ℕ) (line : List ℕ) (l : Listed) → read_row m line ≡ Some l
         → ((m ≡ 1 → ⊥) → (u : List ℕ) → Memᴰ u l.texts → HasLine earlier u)
         → room < 8 * suc (length (row_lines earlier)) → LineMeets earlier (in_section counts m lines) line short_slice
-    text-no-longer-fits : (counts : List ℕ) (lines : ℕ) (line : List ℕ) (l : Listed) → read_row 1 line ≡ some l
+    text-no-longer-fits : (counts : List ℕ) (lines : ℕ) (line : List ℕ) (l : Listed) → read_row 1 line ≡ Some l
         → (u : List ℕ) → Memᴰ u l.texts
         → size < 64 * suc (number_by (row_lines (earlier ++ (line ∷ []))) u) → LineMeets earlier (in_section counts 1 lines) line short_slice
 

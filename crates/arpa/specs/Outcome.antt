@@ -4,7 +4,7 @@ use Rattle.text_parts.specs.Parts.{parts}
 use Rattle.arpa_sections.specs.Sections.{unread}
 use Rattle.arpa_lines.specs.Reading.{read_lines}
 use Rattle.arpa_reading.specs.Outcome.{Outcome, lines_outcome}
-use Rattle.arpa_reading.specs.declared.Rows.{Rows}
+use Rattle.arpa_reading.specs.Rows.{Rows}
 
 -- the whole text, a lent table of `room` numbers and a lent store of `size` bytes
 unfoldable pub read_arpa : Bool → ℕ → ℕ → List ℕ → Outcome

@@ -1,11 +1,11 @@
 -- The fixed lines of an ARPA text, and the lines of its data section, without their LF. Texts are lists of bytes: 32 is a space, 61 is `=`, 48 to 57 are
 -- the digits 0 to 9. Assumes nothing.
+use Rattle.std.specs.declared.option.Option.{Option}
+use Rattle.std.specs.declared.option.Option.TheVariants.{Some, None}
 use Rattle.std.specs.Prelude.{Bool, cond, ◌||◌, List, [], ◌∷◌, ◌++◌, ℕ, ◌+◌, eqb}
 use Rattle.backoff.specs.Words.{same_words}
 use Rattle.decimal.specs.Digits.{digits_up_to, value_from}
 use Rattle.text_parts.specs.Parts.{parts}
-use Rattle.arpa_headings.specs.declared.Count.{Count}
-use Rattle.arpa_headings.specs.declared.Count.TheVariants.{Announced, NotInForm as NoCount}
 
 -- ---- fixed lines
 
@@ -37,16 +37,16 @@ without_space [] = []
 without_space (c ∷ text) = cond (eqb c 32) text (c ∷ text)
 
 -- "counts have one to nine digits"
-unfoldable pub count_in : List ℕ → Count
-count_in text = cond (digits_up_to 9 text) (Announced (value_from 0 text)) NoCount
+unfoldable pub count_in : List ℕ → Option ℕ
+count_in text = cond (digits_up_to 9 text) (Some (value_from 0 text)) None
 
 -- what stands before and behind the one `=` of a line
-abbrev pub count_between : ℕ → List (List ℕ) → Count
-count_between m [] = NoCount
-count_between m (head ∷ []) = NoCount
-count_between m (head ∷ count ∷ []) = cond (is_count_head m head) (count_in (without_space count)) NoCount
-count_between m (head ∷ count ∷ more ∷ rest) = NoCount
+abbrev pub count_between : ℕ → List (List ℕ) → Option ℕ
+count_between m [] = None
+count_between m (head ∷ []) = None
+count_between m (head ∷ count ∷ []) = cond (is_count_head m head) (count_in (without_space count)) None
+count_between m (head ∷ count ∷ more ∷ rest) = None
 
 -- the count that a line announces for the length m
-unfoldable pub read_count : ℕ → List ℕ → Count
+unfoldable pub read_count : ℕ → List ℕ → Option ℕ
 read_count m line = count_between m (parts 61 line)

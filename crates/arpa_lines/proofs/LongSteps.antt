@@ -14,7 +14,6 @@ use borrow.Author.Tests.{eqb-false, le-leb, lt-leb}
 use Rattle.integer.proofs.Ranges.{lt_or_ge}
 use Rattle.backoff.specs.Limits.{order_limit, row_limit}
 use Rattle.backoff.specs.NineNumbers.{padded}
-use Rattle.backoff.specs.Refusal.{short_slice, unlisted_text}
 use Rattle.rows.specs.Table.{field}
 use Rattle.word_index.specs.Texts.{texts_from}
 use Rattle.word_index.specs.Index.{link_limit, Indexed}
@@ -28,7 +27,8 @@ use Rattle.arpa_sections.specs.Held.{Held, StageHeld, LaterHeld, StepHeld, RowSo
 use Rattle.arpa_sections.specs.declared.Stage.{Stage}
 use Rattle.arpa_sections.specs.declared.Stage.TheVariants.{Section}
 use Rattle.arpa_sections.specs.declared.Progress.{Progress}
-use Rattle.arpa_sections.specs.declared.Stepped.{Stepped}
+use Rattle.std.specs.declared.result.Result.TheVariants.{Ok, Err}
+use Rattle.backoff.specs.declared.Reason.TheVariants.{UnlistedText, ShortSlice}
 use Rattle.arpa_sections.proofs.Stages.{held_at}
 use Rattle.arpa_lines.specs.Reading.{add_row, row_fits, longer_step}
 use Rattle.arpa_lines.specs.Held.{word_field, long_row, added}
@@ -115,14 +115,14 @@ module _ (room size : ℕ) (t : List ℤ) (s : List ℕ) (p : Progress) (a : Rea
     pub longer-numbers : map (number_met (texts_from s 1 (p.words - 1))) us ≡ map (number_met a.texts) us
     longer-numbers = ap (λ (texts : List (List ℕ)). map (number_met texts) us) (held-texts room size t s p a h)
 
-    pub longer-unlisted : some_missing (map (number_met a.texts) us) ≡ true → (r : Stepped) → r.fault ≡ unlisted_text → StepHeld room size t s (longer_step room a l (map (number_met a.texts) us)) r
+    pub longer-unlisted : some_missing (map (number_met a.texts) us) ≡ true → StepHeld room size t s (longer_step room a l (map (number_met a.texts) us)) (Err UnlistedText)
     unfolding longer_step
-    longer-unlisted e r f = rw e (f, omega arith, h.table-long, h.store_long)
+    longer-unlisted e = rw e (refl, h.table-long, h.store_long)
 
     module _ (all : some_missing (map (number_met a.texts) us) ≡ false) where
-      pub longer-refused : room / 8 ≤ p.rows → (r : Stepped) → r.fault ≡ short_slice → StepHeld room size t s (longer_step room a l (map (number_met a.texts) us)) r
+      pub longer-refused : room / 8 ≤ p.rows → StepHeld room size t s (longer_step room a l (map (number_met a.texts) us)) (Err ShortSlice)
       unfolding longer_step row_fits
-      longer-refused q r f = let e = h.rows in rw (all, lt-leb (8 * suc (length a.rows)) room (omega arith)) (f, omega arith, h.table-long, h.store_long)
+      longer-refused q = let e = h.rows in rw (all, lt-leb (8 * suc (length a.rows)) room (omega arith)) (refl, h.table-long, h.store_long)
 
       module _ (are : are_texts m us ≡ true) (fits : p.rows < room / 8) (words : List ℕ) (is : words ≡ zeroed order_limit (map (number_met a.texts) us)) where
         abbrev numbers : List ℕ
@@ -160,7 +160,7 @@ module _ (room size : ℕ) (t : List ℤ) (s : List ℕ) (p : Progress) (a : Rea
             ∙ ap (λ (x : List ℤ). get_or x j (pos 0))
             (ap₂ (λ (k : ℕ) (x : List ℤ). pos k ∷ (x ++ (l.p ∷ l.b ∷ []))) (sym count) (ap (map word_field) is ∙ word_fields order_limit numbers (λ k d. let y = (met k d).1 in omega arith)))
 
-        later_after : LaterHeld after s (added p p.words).progress (add_row a row a.texts)
+        later_after : LaterHeld after s (added p p.words) (add_row a row a.texts)
         unfolding add_row
         later_after =
             let f = in_longer.2 in
@@ -179,7 +179,7 @@ module _ (room size : ℕ) (t : List ℤ) (s : List ℕ) (p : Progress) (a : Rea
               free = λ i x. free-kept a.rows row p.rows eights h.rows i (omega arith) (f.free i x);
             }
 
-        held_after : Held room size after s (added p p.words).progress (add_row a row a.texts)
+        held_after : Held room size after s (added p p.words) (add_row a row a.texts)
         unfolding add_row
         held_after =
             let g = h.table-long in
@@ -204,10 +204,10 @@ module _ (room size : ℕ) (t : List ℤ) (s : List ℕ) (p : Progress) (a : Rea
                   ⊎_elim (λ d. h.sound r d)
                   (λ d. subst (RowSound p.words) (sym (Memᴰ.eq_of_singleton d)) row-sound)
                   (Memᴰ.append_cases a.rows d);
-              at_stage = subst (λ (z : Stage). StageHeld z after s (added p p.words).progress (add_row a row a.texts))
+              at_stage = subst (λ (z : Stage). StageHeld z after s (added p p.words) (add_row a row a.texts))
                   (sym st ∙ h.stage) (omega arith, in_longer.1, λ z. absurd (omega arith), λ z. later_after);
             }
 
-        pub longer-added : (r : Stepped) → r ≡ added p p.words → StepHeld room size (long_row t p.rows m words l.p l.b) s (longer_step room a l (map (number_met a.texts) us)) r
+        pub longer-added : (r : Progress) → r ≡ added p p.words → StepHeld room size (long_row t p.rows m words l.p l.b) s (longer_step room a l (map (number_met a.texts) us)) (Ok r)
         unfolding longer_step row_fits
-        longer-added r f = let e = h.rows in rw (all, le-leb (8 * suc (length a.rows)) room (omega arith), f) (refl, held_after)
+        longer-added r f = let e = h.rows in rw (all, le-leb (8 * suc (length a.rows)) room (omega arith), f) held_after

@@ -13,7 +13,6 @@ use borrow.Author.Tests.{le-leb, lt-leb, lt-ltb, le-ltb}
 use Rattle.integer.proofs.Arithmetic.{and_no}
 use Rattle.integer.specs.Integer.{or_else}
 use Rattle.backoff.specs.Limits.{row_limit}
-use Rattle.backoff.specs.Refusal.{short_slice}
 use Rattle.rows.specs.Table.{field}
 use Rattle.word_index.specs.Texts.{texts_from}
 use Rattle.word_index.specs.Index.{link_limit, Indexed}
@@ -29,7 +28,8 @@ use Rattle.arpa_sections.specs.Held.{TableHeld, RowSound, Held, StageHeld, First
 use Rattle.arpa_sections.specs.declared.Stage.{Stage}
 use Rattle.arpa_sections.specs.declared.Stage.TheVariants.{Section}
 use Rattle.arpa_sections.specs.declared.Progress.{Progress}
-use Rattle.arpa_sections.specs.declared.Stepped.{Stepped}
+use Rattle.std.specs.declared.result.Result.TheVariants.{Ok, Err}
+use Rattle.backoff.specs.declared.Reason.TheVariants.{ShortSlice}
 use Rattle.arpa_lines.specs.Reading.{add_row, row_fits, record_fits, word_step}
 use Rattle.arpa_lines.specs.Held.{word_field, word_row, added}
 use Rattle.arpa_lines.proofs.HeldTexts.{held-texts, held-searchable, held-given}
@@ -76,16 +76,16 @@ module _ (room size : ℕ) (t : List ℤ) (s : List ℕ) (p : Progress) (a : Rea
 
   module _ (l : Listed) (text : List ℕ) (k : ℕ) where
     -- ---- there is no room
-    pub row-refused : room / 8 ≤ p.rows → (r : Stepped) → r.fault ≡ short_slice → StepHeld room size t s (word_step room size a l text k) r
+    pub row-refused : room / 8 ≤ p.rows → StepHeld room size t s (word_step room size a l text k) (Err ShortSlice)
     unfolding word_step row_fits
-    row-refused q r f =
+    row-refused q =
         let e = h.rows in
-        rw (lt-leb (8 * suc (length a.rows)) room (omega arith)) (f, omega arith, h.table-long, h.store_long)
+        rw (lt-leb (8 * suc (length a.rows)) room (omega arith)) (refl, h.table-long, h.store_long)
 
-    pub record_refused : size / 64 ≤ k → (r : Stepped) → r.fault ≡ short_slice → StepHeld room size t s (word_step room size a l text k) r
+    pub record_refused : size / 64 ≤ k → StepHeld room size t s (word_step room size a l text k) (Err ShortSlice)
     unfolding word_step record_fits
-    record_refused q r f =
-        rw (and_no (row_fits room a) (leb (64 * suc k) size) (lt-leb (64 * suc k) size (omega arith))) (f, omega arith, h.table-long, h.store_long)
+    record_refused q =
+        rw (and_no (row_fits room a) (leb (64 * suc k) size) (lt-leb (64 * suc k) size (omega arith))) (refl, h.table-long, h.store_long)
 
     -- ---- the row is added
     module _ (u : List ℤ) (s' : List ℕ) (next : ℕ) (x : TextHeld size p.rows p.buckets t u s' p.words next k (with_text a.texts k text))
@@ -122,7 +122,7 @@ module _ (room size : ℕ) (t : List ℤ) (s : List ℕ) (p : Progress) (a : Rea
           word-row-here u p.rows k l.p l.b (omega arith) (field_of_word k (omega arith)) (free 4 (omega arith) (omega arith)) (free 5 (omega arith) (omega arith)) j m
           (⊎_elim (λ (y : max (p.rows + 1) p.buckets ≤ p.rows). absurd (omega arith)) (λ y. y) w))
 
-      first-after : FirstHeld after s' (added p next).progress (add_row a (row_of (k ∷ []) l.p l.b) (with_text a.texts k text))
+      first-after : FirstHeld after s' (added p next) (add_row a (row_of (k ∷ []) l.p l.b) (with_text a.texts k text))
       unfolding add_row
       first-after =
           let f = in_first.1 in
@@ -146,7 +146,7 @@ module _ (room size : ℕ) (t : List ℤ) (s : List ℕ) (p : Progress) (a : Rea
                 free_more a.rows (row_of (k ∷ []) l.p l.b) p.rows (sound_eights p.words a.rows h.sound) h.rows (row-eight (k ∷ []) l.p l.b) z.0 z.1 f.free;
           }
 
-      held_after : Held room size after s' (added p next).progress (add_row a (row_of (k ∷ []) l.p l.b) (with_text a.texts k text))
+      held_after : Held room size after s' (added p next) (add_row a (row_of (k ∷ []) l.p l.b) (with_text a.texts k text))
       unfolding add_row
       held_after =
           let long = x.long in
@@ -173,15 +173,15 @@ module _ (room size : ℕ) (t : List ℤ) (s : List ℕ) (p : Progress) (a : Rea
                 ⊎_elim (λ d. more-words p.words next row x.grows (h.sound row d))
                 (λ d. subst (RowSound next) (sym (Memᴰ.eq_of_singleton d)) (word-row-sound next k l.p l.b x.some x.below))
                 (Memᴰ.append_cases a.rows m);
-            at_stage = subst (λ (z : Stage). StageHeld z after s' (added p next).progress (add_row a (row_of (k ∷ []) l.p l.b) (with_text a.texts k text)))
+            at_stage = subst (λ (z : Stage). StageHeld z after s' (added p next) (add_row a (row_of (k ∷ []) l.p l.b) (with_text a.texts k text)))
                 (sym st ∙ h.stage) (omega arith, in_first.0, λ z. first-after, λ z. absurd (omega arith));
           }
 
-      row-added-held : k < size / 64 → (r : Stepped) → r ≡ added p next → StepHeld room size after s' (word_step room size a l text k) r
+      row-added-held : k < size / 64 → (r : Progress) → r ≡ added p next → StepHeld room size after s' (word_step room size a l text k) (Ok r)
       unfolding word_step row_fits record_fits
       row-added-held q r f =
           let e = h.rows in
-          rw (le-leb (8 * suc (length a.rows)) room (omega arith), le-leb (64 * suc k) size (omega arith), f) (refl, held_after)
+          rw (le-leb (8 * suc (length a.rows)) room (omega arith), le-leb (64 * suc k) size (omega arith), f) held_after
 
   -- ---- the text of the line, by the number that it has and the one that it gets
   module _ (text : List ℕ) (in_form_lem : is_text text ≡ true) (met word : ℕ) (e : met ≡ number_met (texts_from s 1 (p.words - 1)) text)
@@ -262,7 +262,7 @@ module _ (room size : ℕ) (t : List ℤ) (s : List ℕ) (p : Progress) (a : Rea
           (x.long, ap length x.store ∙ zeroed-length size (records_of ([] ∷ with_text a.texts word text)) ∙ sym h.store_long)
 
       pub word-step-held : Written → p.rows < room / 8 → (l : Listed) (t' : List ℤ) → t' ≡ word_row u p.rows word l.p l.b
-          → (next : ℕ) → next ≡ next_word → (r : Stepped) → r ≡ added p next
-          → StepHeld room size t' s' (word_step room size a l text (number_given a.texts text)) r
+          → (next : ℕ) → next ≡ next_word → (r : Progress) → r ≡ added p next
+          → StepHeld room size t' s' (word_step room size a l text (number_given a.texts text)) (Ok r)
       word-step-held w q l t' x next y r z =
           rw (x, ← first-given) (row-added-held l text word u s' next_word (text_comes w) q fits r (z ∙ ap (added p) y))

@@ -3,7 +3,6 @@ use Rattle.std.specs.Prelude.{cond, List, [], ◌∷◌, ◌++◌, map, ℕ, ◌
 use Rattle.std.proofs.lemmas.List.Edits.{sets}
 use Rattle.word_index.specs.Index.{link_limit}
 use Rattle.arpa_sections.specs.declared.Progress.{Progress}
-use Rattle.arpa_sections.specs.declared.Stepped.{Stepped}
 
 unfoldable pub word_field : ℕ → ℤ
 word_field k = cond (leb k link_limit) (pos k) (pos 0)
@@ -14,5 +13,5 @@ word_row t i word p b = set (set (set (set t (8 * i) (pos 1)) (8 * i + 1) (word_
 unfoldable pub long_row : List ℤ → ℕ → ℕ → List ℕ → ℤ → ℤ → List ℤ
 long_row t i m words p b = sets t (8 * i) (pos m ∷ (map word_field words ++ (p ∷ b ∷ [])))
 
-abbrev pub added : Progress → ℕ → Stepped
-added p words = record { fault = 0; progress = record { stage = p.stage; counts = p.counts; order = p.order; lines = p.lines + 1; rows = p.rows + 1; words = words; buckets = p.buckets } }
+abbrev pub added : Progress → ℕ → Progress
+added p words = record { stage = p.stage; counts = p.counts; order = p.order; lines = p.lines + 1; rows = p.rows + 1; words = words; buckets = p.buckets }

@@ -1,7 +1,8 @@
 -- The reading of an ARPA text, line by line, as T-02 of document 02 has it. `room` and `size` are the lengths of the lent table and of the lent store.
 -- Assumes nothing.
+use Rattle.std.specs.declared.option.Option.{Option}
+use Rattle.std.specs.declared.option.Option.TheVariants.{Some, None}
 use Rattle.std.specs.Prelude.{Bool, cond, ◌&&◌, List, [], ◌∷◌, ◌++◌, map, ℕ, suc, ◌*◌, eqb, leb, ℤ, length, get_or}
-use Rattle.std.proofs.Math.Option.{Option, none, some}
 use Rattle.backoff.specs.Refusal.{short_slice, line_form, unlisted_text}
 use Rattle.backoff.specs.Words.{same_words}
 use Rattle.arpa_headings.specs.Headings.{data_line}
@@ -39,8 +40,8 @@ longer_step room r l words =
 
 -- "17 for a line not in this form"
 unfoldable pub row_step : ℕ → ℕ → ℕ → Reading → Option Listed → Step
-row_step room size m r none = refused_by line_form
-row_step room size m r (some l) =
+row_step room size m r None = refused_by line_form
+row_step room size m r (Some l) =
     cond (eqb m 1)
     (word_step room size r l (get_or l.texts 0 []) (number_given r.texts (get_or l.texts 0 [])))
     (longer_step room r l (map (number_met r.texts) l.texts))

@@ -1,3 +1,2 @@
--- What must be believed of a log in an ARPA text. Held is cited by contracts of inner functions alone.
+-- What must be believed of a log in an ARPA text.
 pub mod Logs
-pub mod Held

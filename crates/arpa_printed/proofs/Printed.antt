@@ -1,9 +1,9 @@
 -- An ARPA text printed from an accepted list reads back as that list and its words' texts. Assumes nothing.
+use Rattle.std.specs.declared.option.Option.TheVariants.{Some}
 use mathlib.Core.Path.{◌≡◌, refl, sym, ap, ap₂, subst, ◌∙◌}
 use mathlib.Core.Logic.{⊎_elim}
 use mathlib.Core.Bool.{Bool, true, false, cond}
 use mathlib.Core.List.{List, [], ◌∷◌, ◌++◌, map, append-nil, append_assoc, map-append}
-use mathlib.Core.Option.{some}
 use Prim.Native.Nat.{ℕ, zero, suc, ◌+◌, ◌*◌, ◌-◌, ◌<◌, ◌≤◌}
 use native.Mathlib.Omega.{arith}
 use lib.Dec.{ltb, eqb}
@@ -39,7 +39,7 @@ use Rattle.arpa_sections.specs.declared.Stage.TheVariants.{Counts, Section, Ende
 use Rattle.arpa_lines.specs.Reading.{add_row, row_fits, record_fits, word_step, longer_step, row_step, section_step, stage_step, line_step, done, onward, last_piece, read_lines}
 use Rattle.arpa_reading.specs.Outcome.{ordered, lines_outcome, judged}
 use Rattle.arpa_reading.proofs.RowsHeld.{rows-count}
-use Rattle.arpa_reading.specs.declared.Rows.TheVariants.{Read}
+use Rattle.arpa_reading.specs.Rows.{Read}
 use Rattle.arpa.specs.Outcome.{read_arpa}
 use Rattle.arpa.proofs.Meaning.{first_three}
 use Rattle.arpa_printed.specs.Printed.{print_count, rows_with, word_text, row_line, count_lines, section_lines, printed, Printable, ReadsBack}
@@ -186,17 +186,17 @@ module _ (texts : List (List ℕ)) (t : List ℤ) (room size : ℕ) (is : Printa
   texts-length : (i : ℕ) → i < rows_of t → length (map (word_text texts) (words t i)) ≡ length_of t i
   texts-length i l = length-map (words t i) (word_text texts) ∙ words-length t i (row_in t i l)
 
-  listed-read : (i : ℕ) → i < rows_of t → read_row (length_of t i) (row_line texts t i) ≡ some (listed i)
+  listed-read : (i : ℕ) → i < rows_of t → read_row (length_of t i) (row_line texts t i) ≡ Some (listed i)
   listed-read i l =
       let row = (accepted-row t is.accepted i l).fields in
       let e = texts-length i l in
       let some_word = row.good.some in
       let b = backoff-size (backoff_at t i) (backoff_in t (order_of t) i row.backoff) in
-      subst (λ (m : ℕ). read_row m (row_line texts t i) ≡ some (listed i)) e
+      subst (λ (m : ℕ). read_row m (row_line texts t i) ≡ Some (listed i)) e
       (row_read (probability_at t i) (backoff_at t i) (map (word_text texts) (words t i)) (row-texts i l) (probability-size (probability_at t i) row.probability) (omega (arith, abs (backoff_at t i))) (omega arith))
 
   -- a row's line is read as a row
-  row_line_lem : (m : ℕ) (r : Reading) (i : ℕ) → r.stage ≡ Section m → i < rows_of t → length_of t i ≡ m → line_step room size r (row_line texts t i) ≡ row_step room size m r (some (listed i))
+  row_line_lem : (m : ℕ) (r : Reading) (i : ℕ) → r.stage ≡ Section m → i < rows_of t → length_of t i ≡ m → line_step room size r (row_line texts t i) ≡ row_step room size m r (Some (listed i))
   unfolding section_step
   row_line_lem m r i st l e =
       let d = row_lead (probability_at t i) (backoff_at t i) (map (word_text texts) (words t i)) in

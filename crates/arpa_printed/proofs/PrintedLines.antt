@@ -1,8 +1,8 @@
 -- A printed line reads back: its log, its count, its row; and the parts of a printed text are its lines. Assumes nothing.
+use Rattle.std.specs.declared.option.Option.TheVariants.{Some}
 use mathlib.Core.Path.{◌≡◌, refl, sym, ap, ◌∙◌}
 use mathlib.Core.Bool.{Bool, true, false, cond, ◌&&◌}
 use mathlib.Core.List.{List, [], ◌∷◌, ◌++◌}
-use mathlib.Core.Option.{some}
 use Prim.Native.Nat.{ℕ, zero, suc, ◌+◌, ◌*◌, ◌-◌, ◌/◌, ◌%◌, ◌^◌, ◌<◌, ◌≤◌}
 use native.Mathlib.Omega.{arith}
 use lib.Dec.{eqb, leb, ltb}
@@ -19,10 +19,8 @@ use Rattle.decimal.proofs.Digits.{digits_lead, digits_le, digits-all, value_appe
 use Rattle.text_parts.specs.Parts.{parts, before}
 use Rattle.text_parts.proofs.Parts.{parts-one, before-other, digits_lack}
 use Rattle.arpa_headings.specs.Headings.{count_head, is_count_head, count_in, read_count}
-use Rattle.arpa_headings.specs.declared.Count.TheVariants.{Announced}
 use Rattle.arpa_headings.proofs.Headings.{count_fields, space_absent}
 use Rattle.arpa_logs.specs.Logs.{decimals, fraction, unsigned, read_log, point_decimals, units_of_point, nearest, round_log, read_points}
-use Rattle.arpa_logs.specs.declared.Points.TheVariants.{Of}
 use Rattle.arpa_logs.proofs.Logs.{unsigned_point, round_negative}
 use Rattle.arpa_text.specs.Lines.{all_above, is_text, are_texts, listed_in, read_row}
 use Rattle.arpa_sections.specs.Sections.{closes}
@@ -133,7 +131,7 @@ last-length (suc k) n = length-append (last_digits k (n / 10)) ((48 + n % 10) �
 
 -- ---- a log
 
-size-read : (n : ℕ) → n ≤ largest_backoff → unsigned (parts 46 (print_size n)) ≡ some (n * units_of_point)
+size-read : (n : ℕ) → n ≤ largest_backoff → unsigned (parts 46 (print_size n)) ≡ Some (n * units_of_point)
 unfolding print_size fraction
 size-read n h =
     let whole = n / 10 ^ point_decimals in
@@ -144,7 +142,7 @@ size-read n h =
     let v = last_value point_decimals n in
     let d = value_digits whole in
     let e : whole * 10 ^ decimals + n % 10 ^ point_decimals * 10 ^ (decimals - point_decimals) ≡ n * units_of_point = omega arith in
-    rw (parts_append 46 (digits whole) rest (digits_lack 46 (digits whole) (λ c a b z. omega arith) (digits-all whole)), unsigned_point, w, f, l, v, d) (ap some e)
+    rw (parts_append 46 (digits whole) rest (digits_lack 46 (digits whole) (λ c a b z. omega arith) (digits-all whole)), unsigned_point, w, f, l, v, d) (ap Some e)
 
 nearest-whole : (n : ℕ) → nearest (n * units_of_point) ≡ n
 unfolding nearest
@@ -163,13 +161,13 @@ unfolding print_log
 log_lead (pos n) = let d = size_lead n in (d.0, d.1, d.2, d.4)
 log_lead (negsuc n) = (45, print_size (suc n), refl, omega arith)
 
-unsigned_log : (text : List ℕ) (c : ℕ) (rest : List ℕ) (n : ℕ) → text ≡ c ∷ rest → (c ≡ 45 → ⊥) → unsigned (parts 46 text) ≡ some n → read_points text ≡ Of (round_log (pos n))
+unsigned_log : (text : List ℕ) (c : ℕ) (rest : List ℕ) (n : ℕ) → text ≡ c ∷ rest → (c ≡ 45 → ⊥) → unsigned (parts 46 text) ≡ Some n → read_points text ≡ Some (round_log (pos n))
 unfolding read_points read_log
 unsigned_log text c rest n e f g =
-    let h : unsigned (parts 46 (c ∷ rest)) ≡ some n = rw e at g in
+    let h : unsigned (parts 46 (c ∷ rest)) ≡ Some n = rw e at g in
     rw (e, ne_eqb c 45 f, h) refl
 
-minus_log : (text : List ℕ) (n : ℕ) → unsigned (parts 46 text) ≡ some n → read_points (45 ∷ text) ≡ Of (round_log (neg_ℤ (pos n)))
+minus_log : (text : List ℕ) (n : ℕ) → unsigned (parts 46 text) ≡ Some n → read_points (45 ∷ text) ≡ Some (round_log (neg_ℤ (pos n)))
 unfolding read_points read_log
 minus_log text n e = rw e refl
 
@@ -177,13 +175,13 @@ round_positive : (n : ℕ) → round_log (pos (n * units_of_point)) ≡ pos n
 unfolding round_log
 round_positive n = ap pos (nearest-whole n)
 
-log_read : (z : ℤ) → nat_abs z ≤ largest_backoff → read_points (print_log z) ≡ Of z
+log_read : (z : ℤ) → nat_abs z ≤ largest_backoff → read_points (print_log z) ≡ Some z
 unfolding print_log
 log_read (pos n) h =
     let d = size_lead n in
     let l = d.3 in
-    unsigned_log (print_size n) d.0 d.1 (n * units_of_point) d.2 (λ e. omega arith) (size-read n h) ∙ ap Of (round_positive n)
-log_read (negsuc n) h = minus_log (print_size (suc n)) (suc n * units_of_point) (size-read (suc n) h) ∙ ap Of (round_negative (suc n * units_of_point) ∙ ap (λ (k : ℕ). neg_ℤ (pos k)) (nearest-whole (suc n)))
+    unsigned_log (print_size n) d.0 d.1 (n * units_of_point) d.2 (λ e. omega arith) (size-read n h) ∙ ap Some (round_positive n)
+log_read (negsuc n) h = minus_log (print_size (suc n)) (suc n * units_of_point) (size-read (suc n) h) ∙ ap Some (round_negative (suc n * units_of_point) ∙ ap (λ (k : ℕ). neg_ℤ (pos k)) (nearest-whole (suc n)))
 
 log_lacks : (c : ℕ) (z : ℤ) → c < 45 → Lacks c (print_log z)
 unfolding print_log print_size
@@ -209,7 +207,7 @@ module _ (m count : ℕ) (l : m ≤ 5) where
   unfolding before
   head_lacks_end = rw (ne_eqb (48 + m) 10 (λ e. omega arith)) refl
 
-  pub count-read : count < 1000000000 → read_count m (print_count m count) ≡ Announced count
+  pub count-read : count < 1000000000 → read_count m (print_count m count) ≡ Some count
   unfolding read_count print_count is_count_head count_in
   count-read h =
       let d = digits_lead count in
@@ -244,7 +242,7 @@ module _ (p b : ℤ) (texts : List (List ℕ)) where
         (lacks_append 10 (spaced texts) (9 ∷ print_log b) (lacks_spaced 10 texts (λ z. omega arith) (texts_lack 10 texts (omega arith) e))
         (before-other 10 9 (print_log b) (λ z. omega arith) (log_lacks 10 b (omega arith)))))
 
-    pub row_read : nat_abs p ≤ largest_backoff → nat_abs b ≤ largest_backoff → 1 ≤ length texts → read_row (length texts) (print_row p texts b) ≡ some (record { p = p; b = b; texts = texts })
+    pub row_read : nat_abs p ≤ largest_backoff → nat_abs b ≤ largest_backoff → 1 ≤ length texts → read_row (length texts) (print_row p texts b) ≡ Some (record { p = p; b = b; texts = texts })
     unfolding read_row print_row listed_in
     row_read small-p small_b some-text =
         rw (

@@ -16,7 +16,7 @@ use Rattle.integer.proofs.Arithmetic.{zarith, abs}
 use Rattle.integer.proofs.Ranges.{lt_or_ge, between-low, up_to_in, up_to_out}
 use Rattle.backoff.specs.Limits.{order_limit, word_limit}
 use Rattle.backoff.specs.NineNumbers.{padded}
-use Rattle.backoff.specs.declared.Verdict.TheVariants.{Accepted}
+use Rattle.backoff.specs.Refusal.{Accepted}
 use Rattle.backoff.proofs.NineNumbers.{length-padded}
 use Rattle.rows.specs.Table.{rows_of, field, length_of, word_of, words_of, words, without_first, without_last}
 use Rattle.rows.specs.Good.{GoodRow}

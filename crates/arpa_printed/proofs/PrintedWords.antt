@@ -1,4 +1,5 @@
 -- Distinct texts that stand for the words from 1 on are found again, and a text that is not among those met becomes the next word. Assumes nothing.
+use Rattle.std.specs.declared.option.Option.TheVariants.{Some, None}
 use mathlib.Core.Path.{◌≡◌, refl, sym, ap, ap₂, ◌∙◌}
 use mathlib.Core.Bool.{true, false}
 use mathlib.Core.List.{List, [], ◌∷◌, map}
@@ -9,7 +10,6 @@ use lib.Seq.{length-take-le, get_or-take, take-suc}
 use borrow.Author.Tests.{ne_eqb, lt-leb}
 use Rattle.integer.proofs.Ranges.{and_both}
 use Rattle.backoff.proofs.Words.{same_refl, same_ne}
-use Rattle.row_search.specs.declared.Found.TheVariants.{At, Nothing}
 use Rattle.word_index.specs.Texts.{search_from, given_by}
 use Rattle.arpa_text.specs.Lines.{is_text, are_texts}
 use Rattle.arpa_words.specs.Words.{unknown_text, start_text, end_text, reserved_number, number_met, number_given, with_text, some_missing}
@@ -17,15 +17,15 @@ use Rattle.arpa_printed.specs.Printed.{word_text}
 use Rattle.arpa_printed.proofs.PrintedRows.{AllKnown}
 
 search-place : (texts : List (List ℕ)) (k j : ℕ) → j < length texts → ((i : ℕ) → i < j → get_or texts j [] ≡ get_or texts i [] → ⊥)
-    → search_from (get_or texts j []) k texts ≡ At (k + j)
+    → search_from (get_or texts j []) k texts ≡ Some (k + j)
 unfolding search_from
 search-place [] k j l d = absurd (omega arith)
-search-place (x ∷ texts) k zero l d = rw (same_refl x) (ap At (omega arith))
+search-place (x ∷ texts) k zero l d = rw (same_refl x) (ap Some (omega arith))
 search-place (x ∷ texts) k (suc j) l d =
     rw (same_ne (get_or texts j []) x (λ e. d 0 (omega arith) e))
-    (search-place texts (suc k) j (omega arith) (λ i h e. d (suc i) (omega arith) e) ∙ ap At (omega arith))
+    (search-place texts (suc k) j (omega arith) (λ i h e. d (suc i) (omega arith) e) ∙ ap Some (omega arith))
 
-search-absent : (text : List ℕ) (texts : List (List ℕ)) (k : ℕ) → ((i : ℕ) → i < length texts → text ≡ get_or texts i [] → ⊥) → search_from text k texts ≡ Nothing
+search-absent : (text : List ℕ) (texts : List (List ℕ)) (k : ℕ) → ((i : ℕ) → i < length texts → text ≡ get_or texts i [] → ⊥) → search_from text k texts ≡ None
 unfolding search_from
 search-absent text [] k d = refl
 search-absent text (x ∷ texts) k d =

@@ -1,7 +1,7 @@
 -- An ARPA text printed from an accepted list and its words' texts, as `printed-reads-back` reads it again. Assumes nothing.
 use Rattle.std.specs.Prelude.{◌≡◌, true, cond, false, List, [], ◌∷◌, ◌++◌, map, ℕ, zero, suc, ◌+◌, ◌*◌, ◌-◌, ◌/◌, ◌%◌, ◌^◌, ◌<◌, ◌≤◌, eqb, ℤ, pos, negsuc, length, get_or}
 use Rattle.backoff.specs.NineNumbers.{padded}
-use Rattle.backoff.specs.declared.Verdict.TheVariants.{Accepted}
+use Rattle.backoff.specs.Refusal.{Accepted}
 use Rattle.rows.specs.Table.{rows_of, length_of, order_of, words, probability_at, backoff_at}
 use Rattle.list.specs.Check.{verdict}
 use Rattle.decimal.specs.Digits.{digits}
@@ -9,7 +9,7 @@ use Rattle.arpa_headings.specs.Headings.{data_line, section_line, end_line, coun
 use Rattle.arpa_logs.specs.Logs.{point_decimals}
 use Rattle.arpa_text.specs.Lines.{is_text}
 use Rattle.arpa_words.specs.Words.{unknown_text, start_text, end_text, store_with}
-use Rattle.arpa_reading.specs.declared.Rows.TheVariants.{Read}
+use Rattle.arpa_reading.specs.Rows.{Read}
 use Rattle.arpa.specs.Outcome.{read_arpa}
 
 -- the lines one after the other, each with its LF

@@ -5,7 +5,7 @@ use Rattle.backoff.specs.Refusal.{short_slice, line_form, unlisted_text, section
 use Rattle.list.specs.Sample.{sample}
 use Rattle.arpa_words.specs.Words.{unknown_text, start_text, end_text, store_with}
 use Rattle.arpa_reading.specs.Outcome.{Outcome, refused_outcome}
-use Rattle.arpa_reading.specs.declared.Rows.TheVariants.{Read}
+use Rattle.arpa_reading.specs.Rows.{Read}
 use Rattle.arpa.specs.Outcome.{read_arpa}
 use Rattle.arpa_printed.specs.Printed.{with_ends}
 

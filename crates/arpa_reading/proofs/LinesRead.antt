@@ -1,29 +1,30 @@
 -- Laws of the lines one by one: what is reached, and what a line and the last piece come to. Assumes nothing.
 use mathlib.Core.Path.{◌≡◌, refl, sym, ap, subst, ◌∙◌}
-use mathlib.Core.Bool.{Bool, true, false, false≢true}
+use mathlib.Core.Bool.{Bool}
 use mathlib.Core.List.Memᴰ
 use mathlib.Core.List.{List, [], ◌∷◌}
 use Prim.Native.Nat.{ℕ, zero, suc, ◌+◌, ◌-◌, ◌≤◌}
 use native.Mathlib.Omega.{arith}
 use lib.Dec.{eqb}
 use lib.IntN.{ℤ, pos}
-use lib.ListN.{length, get_or, take, drop, replicate, length-drop}
+use lib.ListN.{length, take, drop, replicate, length-drop}
 use lib.Seq.{drop-drop}
-use borrow.Author.Tests.{eqb-true, eq-eqb, ne_eqb}
-use Rattle.backoff.specs.Refusal.{line_form}
+use borrow.Author.Tests.{eq-eqb, ne_eqb}
+use Rattle.backoff.specs.Refusal.{reason_number}
 use Rattle.text_parts.specs.Parts.{parts, before}
 use Rattle.text_parts.proofs.Parts.{parts-one, parts-front, parts-some}
 use Rattle.arpa_words.specs.Words.{no_texts, zeroed, record_of, records_of, store_with}
 use Rattle.arpa_words.proofs.Words.{none-met, no-texts-sound}
 use Rattle.arpa_sections.specs.Sections.{Reading, unread, Step, goes, refused_by}
-use Rattle.arpa_sections.specs.Held.{TableHeld, ones_of, Held, StepHeld}
-use Rattle.arpa_sections.specs.declared.Stage.{Stage}
-use Rattle.arpa_sections.specs.declared.Stage.TheVariants.{Start, Counts, Section, Ended}
+use Rattle.arpa_sections.specs.Held.{Held, StepHeld}
+use Rattle.arpa_sections.specs.declared.Stage.TheVariants.{Start}
 use Rattle.arpa_sections.specs.declared.Progress.{Progress}
-use Rattle.arpa_sections.specs.declared.Stepped.{Stepped}
-use Rattle.arpa_sections.proofs.Stages.{announced-at, held_at}
-use Rattle.arpa_lines.specs.Reading.{line_step, done, stopped, onward, last_piece, read_lines}
-use Rattle.arpa_reading.specs.Held.{EndHeld, LinesHeld}
+use Rattle.std.specs.declared.result.Result.{Result}
+use Rattle.std.specs.declared.result.Result.TheVariants.{Ok, Err}
+use Rattle.backoff.specs.declared.Reason.{Reason}
+use Rattle.backoff.specs.declared.Refusal.{Refusal}
+use Rattle.arpa_lines.specs.Reading.{line_step, onward, last_piece, read_lines}
+use Rattle.arpa_reading.specs.Held.{LinesHeld}
 use Rattle.arpa_reading.specs.declared.Ending.{Ending}
 
 -- ---- before the first line
@@ -61,41 +62,6 @@ held-begun t s z y = record {
   at_stage = record { rows = refl; texts = refl; table = z };
 }
 
--- ---- the end of the text
-pub not-ended : (st : Stage) (a : Reading) (k : ℕ) (piece : List ℕ) → (st ≡ Ended → ⊥) → last_piece st a k piece ≡ stopped line_form k
-not-ended Start a k piece n = refl
-not-ended Counts a k piece n = refl
-not-ended (Section m) a k piece n = refl
-not-ended Ended a k piece n = absurd (n refl)
-
-pub piece-left : (st : Stage) (a : Reading) (k : ℕ) (piece : List ℕ) → st ≡ Ended → eqb (length piece) 0 ≡ false → last_piece st a k piece ≡ stopped line_form k
-piece-left st a k [] e f = absurd (false≢true (sym f))
-piece-left st a k (c ∷ piece) e f = ap (λ (x : Stage). last_piece x a k (c ∷ piece)) e
-
-pub no-piece-left : (st : Stage) (a : Reading) (k : ℕ) (piece : List ℕ) → st ≡ Ended → eqb (length piece) 0 ≡ true → last_piece st a k piece ≡ done a
-no-piece-left st a k [] e f = ap (λ (x : Stage). last_piece x a k []) e
-no-piece-left st a k (c ∷ piece) e f = absurd (omega (arith, eqb-true (suc (length piece)) 0 f))
-
-pub end-held : (room size : ℕ) (t : List ℤ) (s : List ℕ) (p : Progress) (a : Reading) (h : Held room size t s p a) → p.stage ≡ Ended → EndHeld t p.rows (get_or p.counts 0 0) p.words a
-end-held room size t s p a h st =
-    let i = held_at room size t s p a h Ended st in
-    let l = i.1 in
-    let f : ones_of a ≡ get_or p.counts 0 0 = announced-at room size t s p a h 0 i.0 in
-    let ones = l.ones in
-    let words = l.words in
-    let r = h.row_room in
-    let e = h.table-long in
-    record {
-      count = h.rows;
-      row_room = omega arith;
-      fewer = omega arith;
-      next = h.words;
-      sound = h.sound;
-      word_count = omega arith;
-      table = λ x. subst (λ (n : ℕ). TableHeld t a.rows n) f (l.table x);
-      free = λ i x. l.free i (omega arith);
-    }
-
 -- ---- line by line
 module _ (room size : ℕ) where
   lines_next : (a : Reading) (k : ℕ) (line : List ℕ) (pieces : List (List ℕ)) → (pieces ≡ [] → ⊥) → read_lines room size a k (line ∷ pieces) ≡ onward (λ (b : Reading). read_lines room size b (suc k) pieces) k (line_step room size a line)
@@ -103,23 +69,25 @@ module _ (room size : ℕ) where
   lines_next a k line [] n = absurd (n refl)
   lines_next a k line (next ∷ pieces) n = refl
 
-  step-goes : (t : List ℤ) (s : List ℕ) (st : Step) (r : Stepped) → StepHeld room size t s st r → r.fault ≡ 0 → (a : Reading) × (st ≡ goes a) × Held room size t s r.progress a
-  step-goes t s (goes a) r h z = (a, refl, h.1)
-  step-goes t s (refused_by n) r h z = let e = h.0 in let l = h.1 in absurd (omega arith)
+  step-goes : (t : List ℤ) (s : List ℕ) (st : Step) (p : Progress) → StepHeld room size t s st (Ok p) → (a : Reading) × (st ≡ goes a) × Held room size t s p a
+  step-goes t s (goes a) p h = (a, refl, h)
+  step-goes t s (refused_by n) p h = absurd h
 
-  step_stops : (t : List ℤ) (s : List ℕ) (st : Step) (r : Stepped) → StepHeld room size t s st r → (r.fault ≡ 0 → ⊥) → (st ≡ refused_by r.fault) × (1 ≤ r.fault) × (length t ≡ room) × (length s ≡ size)
-  step_stops t s (goes a) r h n = absurd (n h.0)
-  step_stops t s (refused_by k) r h n = let e = h.0 in let l = h.1 in (ap refused_by (sym e), omega arith, h.2, h.3)
+  step_stops : (t : List ℤ) (s : List ℕ) (st : Step) (r : Reason) → StepHeld room size t s st (Err r) → (st ≡ refused_by (reason_number r)) × (length t ≡ room) × (length s ≡ size)
+  step_stops t s (goes a) r h = absurd h
+  step_stops t s (refused_by k) r h = (ap refused_by (sym h.0), h.1, h.2)
 
-  pub step-long : (t : List ℤ) (s : List ℕ) (st : Step) (r : Stepped) → StepHeld room size t s st r → (length t ≡ room) × (length s ≡ size)
-  step-long t s (goes a) r h = (h.1.table-long, h.1.store_long)
-  step-long t s (refused_by k) r h = (h.2, h.3)
+  pub step-long : (t : List ℤ) (s : List ℕ) (st : Step) (r : Result Progress Reason) → StepHeld room size t s st r → (length t ≡ room) × (length s ≡ size)
+  step-long t s (goes a) (Ok p) h = (h.table-long, h.store_long)
+  step-long t s (goes a) (Err r) h = absurd h
+  step-long t s (refused_by k) (Ok p) h = absurd h
+  step-long t s (refused_by k) (Err r) h = (h.1, h.2)
 
   -- with the lengths of the table and the store at hand
   pub held-here : (t : List ℤ) (s : List ℕ) (p : Progress) (a : Reading) → Held room size t s p a → Held (length t) (length s) t s p a
   held-here t s p a h = subst (λ (n : ℕ). Held (length t) n t s p a) (sym h.store_long) (subst (λ (n : ℕ). Held n size t s p a) (sym h.table-long) h)
 
-  pub step-here : (m n : ℕ) (t : List ℤ) (s : List ℕ) (a : Reading) (line : List ℕ) (r : Stepped) → m ≡ room → n ≡ size → StepHeld m n t s (line_step m n a line) r → StepHeld room size t s (line_step room size a line) r
+  pub step-here : (m n : ℕ) (t : List ℤ) (s : List ℕ) (a : Reading) (line : List ℕ) (r : Result Progress Reason) → m ≡ room → n ≡ size → StepHeld m n t s (line_step m n a line) r → StepHeld room size t s (line_step room size a line) r
   step-here m n t s a line r e f h = subst (λ (k : ℕ). StepHeld room k t s (line_step room k a line) r) f (subst (λ (k : ℕ). StepHeld k n t s (line_step k n a line) r) e h)
 
   -- the lines that begin before place `at` are read
@@ -134,7 +102,7 @@ module _ (room size : ℕ) where
     size_is : end - at ≡ before 10 (drop at text)
     size_is = omega arith
 
-    pub last_line : end ≡ length text → (empty : Bool) → empty ≡ eqb at end → (r : Ending) → ((a : Reading) (room size : ℕ) (t : List ℤ) (s : List ℕ) (piece : List ℕ) → Held room size t s p a → empty ≡ eqb (length piece) 0 → LinesHeld room size t s (last_piece a.stage a place piece) r) → LinesHeld room size t s (read_lines room size unread 1 (parts 10 text)) r
+    pub last_line : end ≡ length text → (empty : Bool) → empty ≡ eqb at end → (r : Result Ending (Refusal ℕ)) → ((a : Reading) (room size : ℕ) (t : List ℤ) (s : List ℕ) (piece : List ℕ) → Held room size t s p a → empty ≡ eqb (length piece) 0 → LinesHeld room size t s (last_piece a.stage a place piece) r) → LinesHeld room size t s (read_lines room size unread 1 (parts 10 text)) r
     unfolding read_lines
     last_line e empty f r h =
         let l = length-drop at text in
@@ -155,17 +123,18 @@ module _ (room size : ℕ) where
           (parts-front 10 (drop at text) (end - at) size_is (omega arith) ∙ ap (λ (l : List ℕ). take (end - at) (drop at text) ∷ parts 10 l) (drop-drop (end - at + 1) at text ∙ ap (λ (n : ℕ). drop n text) e))
           ∙ lines_next x.reading place (take (end - at) (drop at text)) (parts 10 (drop (end + 1) text)) (parts-some 10 (drop (end + 1) text))
 
-      module _ (t' : List ℤ) (s' : List ℕ) (r : Stepped) (h : StepHeld room size t' s' (line_step room size x.reading (take (end - at) (drop at text))) r) where
-        pub line_stops : (r.fault ≡ 0 → ⊥) → (e : Ending) → (e.fault ≡ r.fault) × (e.place ≡ place) → LinesHeld room size t' s' (read_lines room size unread 1 (parts 10 text)) e
-        line_stops n e f =
+      module _ (t' : List ℤ) (s' : List ℕ) where
+        pub line_stops : (r : Reason) → StepHeld room size t' s' (line_step room size x.reading (take (end - at) (drop at text))) (Err r)
+            → LinesHeld room size t' s' (read_lines room size unread 1 (parts 10 text)) (Err (record { reason = r; place = place }))
+        line_stops r h =
             let st = line_step room size x.reading (take (end - at) (drop at text)) in
-            let d = step_stops t' s' st r h n in
-            rw (lines_on, d.0) (f.0, d.1, f.1, d.2, d.3)
+            let d = step_stops t' s' st r h in
+            rw (lines_on, d.0) (refl, refl, d.1, d.2)
 
-        pub line_goes : r.fault ≡ 0 → Reached text t' s' r.progress (place + 1) (end + 1)
-        line_goes z =
+        pub line_goes : (p' : Progress) → StepHeld room size t' s' (line_step room size x.reading (take (end - at) (drop at text))) (Ok p') → Reached text t' s' p' (place + 1) (end + 1)
+        line_goes p' h =
             let st = line_step room size x.reading (take (end - at) (drop at text)) in
-            let d = step-goes t' s' st r h z in
+            let d = step-goes t' s' st p' h in
             let e : suc place ≡ place + 1 = omega arith in
             let l = x.lines in
             record {

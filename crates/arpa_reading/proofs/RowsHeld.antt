@@ -17,7 +17,7 @@ use Rattle.backoff.specs.Limits.{order_limit, row_limit, word_limit}
 use Rattle.backoff.specs.NineNumbers.{padded}
 use Rattle.backoff.proofs.NineNumbers.{length-padded}
 use Rattle.backoff.specs.Refusal.{table_length}
-use Rattle.backoff.specs.declared.Verdict.TheVariants.{Refused}
+use Rattle.backoff.specs.Refusal.{Refused}
 use Rattle.rows.specs.Table.{rows_of, field, length_of, place_fits, places_fit}
 use Rattle.rows.specs.Good.{GoodRow}
 use Rattle.rows.proofs.Table.{field_stored, field-kept}

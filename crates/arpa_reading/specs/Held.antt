@@ -1,10 +1,13 @@
 -- What the lent table and store hold once the lines are read. Only contracts of inner functions cite what is here. Assumes nothing.
+use Rattle.std.specs.declared.result.Result.{Result}
+use Rattle.std.specs.declared.result.Result.TheVariants.{Ok, Err}
 use Rattle.std.specs.Prelude.{◌≡◌, Bool, ℕ, suc, ◌+◌, ◌*◌, ◌<◌, ◌≤◌, ℤ, length}
 use mathlib.Core.List.{List, Memᴰ}
 use Rattle.backoff.specs.Limits.{row_limit}
 use Rattle.backoff.specs.NineNumbers.{padded}
-use Rattle.backoff.specs.declared.Verdict.{Verdict}
-use Rattle.backoff.specs.declared.Verdict.TheVariants.{Accepted}
+use Rattle.backoff.specs.Refusal.{Verdict}
+use Rattle.backoff.specs.Refusal.{Accepted, reason_number}
+use Rattle.backoff.specs.declared.Refusal.{Refusal}
 use Rattle.list.specs.Check.{verdict_for}
 use Rattle.row_order.specs.RowOrder.{SortableFront}
 use Rattle.row_order.specs.Sorting.{AllNumbered}
@@ -14,8 +17,7 @@ use Rattle.arpa_sections.specs.Held.{TableHeld, FreeRow, RowSound}
 use Rattle.arpa_lines.specs.Reading.{Lines, done, stopped}
 use Rattle.arpa_reading.specs.Outcome.{ordered, lines_outcome}
 use Rattle.arpa_reading.specs.declared.Ending.{Ending}
-use Rattle.arpa_reading.specs.declared.Rows.{Rows}
-use Rattle.arpa_reading.specs.declared.Rows.TheVariants.{Read}
+use Rattle.arpa_reading.specs.Rows.{Rows, Read}
 
 -- the rows of the table once all lines are read
 pub record EndHeld (t : List ℤ) (rows ones words : ℕ) (a : Reading) : Type 0 where
@@ -28,9 +30,11 @@ pub record EndHeld (t : List ℤ) (rows ones words : ℕ) (a : Reading) : Type 0
   pub table : rows ≤ row_limit → TableHeld t a.rows ones
   pub free : (i : ℕ) → i < ones → FreeRow a.rows i
 
-abbrev pub LinesHeld : ℕ → ℕ → List ℤ → List ℕ → Lines → Ending → Type 0
-LinesHeld room size t s (done a) e = (e.fault ≡ 0) × (length t ≡ room) × (s ≡ store_with size a.texts) × EndHeld t e.rows e.ones e.words a
-LinesHeld room size t s (stopped number place) e = (e.fault ≡ number) × (1 ≤ number) × (e.place ≡ place) × (length t ≡ room) × (length s ≡ size)
+abbrev pub LinesHeld : ℕ → ℕ → List ℤ → List ℕ → Lines → Result Ending (Refusal ℕ) → Type 0
+LinesHeld room size t s (done a) (Ok e) = (length t ≡ room) × (s ≡ store_with size a.texts) × EndHeld t e.rows e.ones e.words a
+LinesHeld room size t s (done a) (Err r) = ⊥
+LinesHeld room size t s (stopped number place) (Ok e) = ⊥
+LinesHeld room size t s (stopped number place) (Err r) = (reason_number r.reason ≡ number) × (r.place ≡ place) × (length t ≡ room) × (length s ≡ size)
 
 -- the first rows can be sorted: by their keys, or where a number is too large for a word by insertion
 pub record Ordering (t : List ℤ) (rows words : ℕ) : Type 0 where

@@ -1,15 +1,14 @@
 -- What the lines of an ARPA text come to: the answer, and the lent table and store. Assumes nothing.
 use Rattle.std.specs.Prelude.{Bool, List, ℕ, ℤ, pos, length, replicate}
 use Rattle.backoff.specs.NineNumbers.{padded}
-use Rattle.backoff.specs.declared.Verdict.{Verdict}
-use Rattle.backoff.specs.declared.Verdict.TheVariants.{Accepted, Refused}
+use Rattle.backoff.specs.Refusal.{Verdict}
+use Rattle.backoff.specs.Refusal.{Accepted, Refused}
 use Rattle.list.specs.Check.{verdict_for}
 use Rattle.row_order.specs.RowOrder.{joined, list_order}
 use Rattle.arpa_words.specs.Words.{store_with}
 use Rattle.arpa_sections.specs.Sections.{Reading}
 use Rattle.arpa_lines.specs.Reading.{Lines, done, stopped}
-use Rattle.arpa_reading.specs.declared.Rows.{Rows}
-use Rattle.arpa_reading.specs.declared.Rows.TheVariants.{Read, Refused as NotRead}
+use Rattle.arpa_reading.specs.Rows.{Rows, Read, Refused as NotRead}
 
 -- an answer's number, place and row count: 0 and 0 where nothing is refused, 0 rows where something is
 abbrev pub read_number : Rows → ℕ

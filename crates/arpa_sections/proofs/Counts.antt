@@ -1,4 +1,6 @@
 -- Laws of the data section: a line announces a count, or it is the heading of the one-word section. Assumes nothing.
+use Rattle.std.specs.declared.option.Option.TheVariants.{Some, None}
+use Rattle.std.specs.declared.result.Result.TheVariants.{Ok}
 use mathlib.Core.Path.{◌≡◌, refl, sym, ap, subst, ◌∙◌}
 use mathlib.Core.List.{List, [], ◌∷◌, ◌++◌}
 use Prim.Native.Nat.{ℕ, ◌+◌, ◌<◌, ◌≤◌}
@@ -9,13 +11,11 @@ use lib.ListN.{length, take, set, length-set}
 use lib.Seq.{take-suc-set}
 use borrow.Author.Tests.{lt-ltb, le-ltb}
 use Rattle.backoff.specs.Limits.{order_limit}
-use Rattle.arpa_headings.specs.declared.Count.TheVariants.{Announced, NotInForm}
 use Rattle.arpa_headings.specs.Headings.{read_count}
-use Rattle.arpa_sections.specs.Sections.{Reading, Step, goes, announce, first_section, count_step, data_step}
+use Rattle.arpa_sections.specs.Sections.{Reading, Step, announce, first_section, count_step, data_step}
 use Rattle.arpa_sections.specs.Held.{Held, StepHeld, announcing}
 use Rattle.arpa_sections.specs.declared.Stage.TheVariants.{Counts}
 use Rattle.arpa_sections.specs.declared.Progress.{Progress}
-use Rattle.arpa_sections.specs.declared.Stepped.{Stepped}
 use Rattle.arpa_sections.proofs.Stages.{announced-length, held_at, held_resumes}
 
 module _ (room size : ℕ) (t : List ℤ) (s : List ℕ) (p : Progress) (a : Reading) (h : Held room size t s p a) where
@@ -26,7 +26,7 @@ module _ (room size : ℕ) (t : List ℤ) (s : List ℕ) (p : Progress) (a : Rea
       let e = announced-length room size t s p a h in
       rw (lt-ltb (length a.announced) order_limit (omega arith), e, add-one p.order) refl
 
-  pub data_not_count : (line : List ℕ) → p.order < order_limit → read_count (p.order + 1) line ≡ NotInForm → data_step a line ≡ first_section a line
+  pub data_not_count : (line : List ℕ) → p.order < order_limit → read_count (p.order + 1) line ≡ None → data_step a line ≡ first_section a line
   data_not_count line l e = data_count line l ∙ ap (count_step a line) e
 
   pub data_all_announced : (line : List ℕ) → order_limit ≤ p.order → data_step a line ≡ first_section a line
@@ -36,7 +36,7 @@ module _ (room size : ℕ) (t : List ℤ) (s : List ℕ) (p : Progress) (a : Rea
       rw (le-ltb (length a.announced) order_limit (omega arith)) refl
 
   -- a count more is held
-  announced-held : (count : ℕ) → p.stage ≡ Counts → p.order < order_limit → Held room size t s (announcing p count).progress (announce a count)
+  announced-held : (count : ℕ) → p.stage ≡ Counts → p.order < order_limit → Held room size t s (announcing p count) (announce a count)
   unfolding announce
   announced-held count e l =
       let n = held_at room size t s p a h Counts e in
@@ -50,8 +50,8 @@ module _ (room size : ℕ) (t : List ℤ) (s : List ℕ) (p : Progress) (a : Rea
       ∙ ap (λ (l : List ℕ). l ++ (count ∷ [])) h.announced)
       (record { rows = n.rows; texts = n.texts; table = n.table })
 
-  pub data_announced : (line : List ℕ) (count : ℕ) → p.stage ≡ Counts → p.order < order_limit → read_count (p.order + 1) line ≡ Announced count
-      → (r : Stepped) → r ≡ announcing p count → StepHeld room size t s (data_step a line) r
+  pub data_announced : (line : List ℕ) (count : ℕ) → p.stage ≡ Counts → p.order < order_limit → read_count (p.order + 1) line ≡ Some count
+      → (r : Progress) → r ≡ announcing p count → StepHeld room size t s (data_step a line) (Ok r)
   data_announced line count e l f r g =
-      subst (λ (x : Step). StepHeld room size t s x r) (sym (data_count line l ∙ ap (count_step a line) f))
-      (subst (λ (y : Stepped). StepHeld room size t s (goes (announce a count)) y) (sym g) (refl, announced-held count e l))
+      subst (λ (x : Step). StepHeld room size t s x (Ok r)) (sym (data_count line l ∙ ap (count_step a line) f))
+      (subst (λ (y : Progress). Held room size t s y (announce a count)) (sym g) (announced-held count e l))

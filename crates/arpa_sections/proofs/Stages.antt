@@ -1,4 +1,5 @@
 -- Laws of the progress that holds a reading: from stage to stage. Assumes nothing.
+use Rattle.std.specs.declared.result.Result.TheVariants.{Ok}
 use mathlib.Core.Path.{◌≡◌, refl, sym, ap, subst, ◌∙◌}
 use mathlib.Core.Logic.{⊎_elim}
 use mathlib.Core.Bool.{true, false, cond}
@@ -26,7 +27,6 @@ use Rattle.arpa_sections.specs.Held.{Held, StageHeld, NoneHeld, FirstHeld, Later
 use Rattle.arpa_sections.specs.declared.Stage.{Stage}
 use Rattle.arpa_sections.specs.declared.Stage.TheVariants.{Start, Counts, Section, Ended}
 use Rattle.arpa_sections.specs.declared.Progress.{Progress}
-use Rattle.arpa_sections.specs.declared.Stepped.{Stepped}
 
 -- ---- a table of zeros
 get_or-zeros : (n i : ℕ) → get_or (replicate n (pos 0)) i (pos 0) ≡ pos 0
@@ -139,12 +139,12 @@ module _ (room size : ℕ) (t : List ℤ) (s : List ℕ) (p : Progress) (a : Rea
         free = λ i. no-row-free a.rows i n.rows;
       }
 
-  pub first-entered : (line : List ℕ) → p.stage ≡ Counts → (p.order ≡ 0 → ⊥) → same_words line (section_line 1) ≡ true → (r : Stepped) → r ≡ record { fault = 0; progress = begins (Section 1) (buckets_for (get_or p.counts 0 0) (room / 8)) } → StepHeld room size t s (first_section a line) r
+  pub first-entered : (line : List ℕ) → p.stage ≡ Counts → (p.order ≡ 0 → ⊥) → same_words line (section_line 1) ≡ true → (r : Progress) → r ≡ begins (Section 1) (buckets_for (get_or p.counts 0 0) (room / 8)) → StepHeld room size t s (first_section a line) (Ok r)
   unfolding first_section
   first-entered line st some e r f =
       let l = announced-length in
       let m : 1 ≤ p.order = omega arith in
-      rw (le-leb 1 (length a.announced) (omega arith), e, f) (refl, held_begins (Section 1) (buckets_for (get_or p.counts 0 0) (room / 8)) (lit≤ tt, m, λ z. first-held (held_at Counts st) m, λ z. absurd (omega arith)))
+      rw (le-leb 1 (length a.announced) (omega arith), e, f) (held_begins (Section 1) (buckets_for (get_or p.counts 0 0) (room / 8)) (lit≤ tt, m, λ z. first-held (held_at Counts st) m, λ z. absurd (omega arith)))
 
   -- ---- the end of a section
   module _ (m : ℕ) (low : 1 ≤ m) (st : p.stage ≡ Section m) where
@@ -195,19 +195,19 @@ module _ (room size : ℕ) (t : List ℤ) (s : List ℕ) (p : Progress) (a : Rea
       unfolding enter
       later_begins stage = let l = later in record { ones = l.ones; words = l.words; index = l.index; buckets = l.buckets; table = l.table; free = l.free }
 
-      pub close_next : m < p.order → (r : Stepped) → r ≡ entered p (Section (m + 1)) → StepHeld room size t s (close_section m a) r
+      pub close_next : m < p.order → (r : Progress) → r ≡ entered p (Section (m + 1)) → StepHeld room size t s (close_section m a) (Ok r)
       close_next l r f =
           let e : suc m ≡ m + 1 = omega arith in
-          rw (close_step, lt-ltb m p.order l, f, e) (refl, held_begins (Section (m + 1)) p.buckets (omega arith, omega arith, λ z. absurd (omega arith), λ z. later_begins (Section (m + 1))))
+          rw (close_step, lt-ltb m p.order l, f, e) (held_begins (Section (m + 1)) p.buckets (omega arith, omega arith, λ z. absurd (omega arith), λ z. later_begins (Section (m + 1))))
 
-      pub close_last : p.order ≤ m → (r : Stepped) → r ≡ entered p Ended → StepHeld room size t s (close_section m a) r
+      pub close_last : p.order ≤ m → (r : Progress) → r ≡ entered p Ended → StepHeld room size t s (close_section m a) (Ok r)
       close_last l r f =
           let i = in_section.1 in
-          rw (close_step, le-ltb m p.order l, f) (refl, held_begins Ended p.buckets (omega arith, later_begins Ended))
+          rw (close_step, le-ltb m p.order l, f) (held_begins Ended p.buckets (omega arith, later_begins Ended))
 
 -- ---- the line that begins the data section
-pub data_entered : (room size : ℕ) (t : List ℤ) (s : List ℕ) (p : Progress) (a : Reading) (h : Held room size t s p a) → p.stage ≡ Start → (r : Stepped) → r ≡ entered p Counts → StepHeld room size t s (goes (enter Counts a)) r
+pub data_entered : (room size : ℕ) (t : List ℤ) (s : List ℕ) (p : Progress) (a : Reading) (h : Held room size t s p a) → p.stage ≡ Start → (r : Progress) → r ≡ entered p Counts → StepHeld room size t s (goes (enter Counts a)) (Ok r)
 unfolding enter
 data_entered room size t s p a h st r f =
     let n : NoneHeld t a = held_at room size t s p a h Start st in
-    rw f (refl, held_begins room size t s p a h Counts p.buckets (record { rows = n.rows; texts = n.texts; table = n.table }))
+    rw f (held_begins room size t s p a h Counts p.buckets (record { rows = n.rows; texts = n.texts; table = n.table }))

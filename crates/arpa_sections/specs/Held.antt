@@ -1,7 +1,11 @@
 -- How the code holds a reading in the lent table and store. Only contracts of inner functions cite what is here. Assumes nothing.
+use Rattle.std.specs.declared.result.Result.{Result}
+use Rattle.std.specs.declared.result.Result.TheVariants.{Ok, Err}
 use Rattle.std.specs.Prelude.{◌≡◌, ◌⊎◌, ℕ, suc, ◌+◌, ◌*◌, ◌<◌, ◌≤◌, min, max, ℤ, pos, length, get_or, take, set, replicate}
 use mathlib.Core.List.{List, [], Memᴰ}
 use Rattle.backoff.specs.Limits.{order_limit, row_limit}
+use Rattle.backoff.specs.Refusal.{reason_number}
+use Rattle.backoff.specs.declared.Reason.{Reason}
 use Rattle.rows.specs.Table.{field}
 use Rattle.row_order.specs.RowOrder.{joined}
 use Rattle.word_index.specs.Index.{link_limit, Indexed}
@@ -11,7 +15,6 @@ use Rattle.arpa_sections.specs.Sections.{Reading, Step, goes, refused_by, row_of
 use Rattle.arpa_sections.specs.declared.Stage.{Stage}
 use Rattle.arpa_sections.specs.declared.Stage.TheVariants.{Start, Counts, Section, Ended}
 use Rattle.arpa_sections.specs.declared.Progress.{Progress}
-use Rattle.arpa_sections.specs.declared.Stepped.{Stepped}
 
 -- one chain for each one-word line that is announced, as far as the table has rows, and one at least
 unfoldable pub buckets_for : ℕ → ℕ → ℕ
@@ -97,13 +100,15 @@ pub record Held (room size : ℕ) (t : List ℤ) (s : List ℕ) (p : Progress) (
   pub at_stage : StageHeld a.stage t s p a
 
 -- what a line came to
-abbrev pub StepHeld : ℕ → ℕ → List ℤ → List ℕ → Step → Stepped → Type 0
-StepHeld room size t s (goes a) r = (r.fault ≡ 0) × Held room size t s r.progress a
-StepHeld room size t s (refused_by number) r = (r.fault ≡ number) × (1 ≤ number) × (length t ≡ room) × (length s ≡ size)
+abbrev pub StepHeld : ℕ → ℕ → List ℤ → List ℕ → Step → Result Progress Reason → Type 0
+StepHeld room size t s (goes a) (Ok p) = Held room size t s p a
+StepHeld room size t s (goes a) (Err reason) = ⊥
+StepHeld room size t s (refused_by number) (Ok p) = ⊥
+StepHeld room size t s (refused_by number) (Err reason) = (reason_number reason ≡ number) × (length t ≡ room) × (length s ≡ size)
 
 -- the code's own steps
-abbrev pub entered : Progress → Stage → Stepped
-entered p stage = record { fault = 0; progress = record { stage = stage; counts = p.counts; order = p.order; lines = 0; rows = p.rows; words = p.words; buckets = p.buckets } }
+abbrev pub entered : Progress → Stage → Progress
+entered p stage = record { stage = stage; counts = p.counts; order = p.order; lines = 0; rows = p.rows; words = p.words; buckets = p.buckets }
 
-abbrev pub announcing : Progress → ℕ → Stepped
-announcing p count = record { fault = 0; progress = record { stage = p.stage; counts = set p.counts p.order count; order = p.order + 1; lines = 0; rows = p.rows; words = p.words; buckets = p.buckets } }
+abbrev pub announcing : Progress → ℕ → Progress
+announcing p count = record { stage = p.stage; counts = set p.counts p.order count; order = p.order + 1; lines = 0; rows = p.rows; words = p.words; buckets = p.buckets }

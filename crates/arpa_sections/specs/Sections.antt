@@ -1,13 +1,13 @@
 -- The sections of an ARPA text, as T-02 of document 02 has them: "a data section with counts, one section a length, an end line". What was read so far,
 -- and the lines that announce, begin and end them. Assumes nothing.
+use Rattle.std.specs.declared.option.Option.{Option}
+use Rattle.std.specs.declared.option.Option.TheVariants.{Some, None}
 use Rattle.std.specs.Prelude.{Bool, cond, ◌&&◌, List, [], ◌∷◌, ◌++◌, map, ℕ, suc, ◌-◌, eqb, ltb, leb, ℤ, pos, length, get_or}
 use Rattle.backoff.specs.Limits.{order_limit}
 use Rattle.backoff.specs.Refusal.{line_form, section_count}
 use Rattle.backoff.specs.Words.{same_words}
 use Rattle.backoff.specs.NineNumbers.{padded}
 use Rattle.arpa_headings.specs.Headings.{section_line, end_line, read_count}
-use Rattle.arpa_headings.specs.declared.Count.{Count}
-use Rattle.arpa_headings.specs.declared.Count.TheVariants.{Announced, NotInForm}
 use Rattle.arpa_words.specs.Words.{no_texts}
 use Rattle.arpa_sections.specs.declared.Stage.{Stage}
 use Rattle.arpa_sections.specs.declared.Stage.TheVariants.{Start, Counts, Section, Ended}
@@ -45,9 +45,9 @@ enter stage r = record { stage = stage; announced = r.announced; lines = 0; rows
 unfoldable pub first_section : Reading → List ℕ → Step
 first_section r line = cond (leb 1 (length r.announced) && same_words line (section_line 1)) (goes (enter (Section 1) r)) (refused_by line_form)
 
-abbrev pub count_step : Reading → List ℕ → Count → Step
-count_step r line (Announced count) = goes (announce r count)
-count_step r line NotInForm = first_section r line
+abbrev pub count_step : Reading → List ℕ → Option ℕ → Step
+count_step r line (Some count) = goes (announce r count)
+count_step r line None = first_section r line
 
 -- "one to five lengths are announced, from 1 upwards"
 unfoldable pub data_step : Reading → List ℕ → Step

@@ -1,11 +1,10 @@
 -- The form of a line of a section, without its LF. Texts are lists of bytes: 9 is a tab, 32 a space. Assumes nothing.
+use Rattle.std.specs.declared.option.Option.{Option}
+use Rattle.std.specs.declared.option.Option.TheVariants.{Some, None}
 use Rattle.std.specs.Prelude.{Bool, true, false, cond, ◌&&◌, List, [], ◌∷◌, ℕ, zero, suc, leb, ℤ, pos, length}
-use Rattle.std.proofs.Math.Option.{Option, none, some}
 use Rattle.backoff.specs.Limits.{text_limit}
 use Rattle.text_parts.specs.Parts.{parts}
 use Rattle.arpa_logs.specs.Logs.{read_points}
-use Rattle.arpa_logs.specs.declared.Points.{Points}
-use Rattle.arpa_logs.specs.declared.Points.TheVariants.{Of, NotInForm}
 
 -- every byte is above the space
 unfoldable pub all_above : List ℕ → Bool
@@ -30,18 +29,18 @@ pub record Listed : Type 0 where
   pub texts : List (List ℕ)
 
 -- two logs and the texts between them, where all are in form
-abbrev pub listed_with : ℕ → Points → List (List ℕ) → Points → Option Listed
-listed_with m (Of p) texts (Of b) = cond (are_texts m texts) (some (record { p = p; b = b; texts = texts })) none
-listed_with m (Of p) texts NotInForm = none
-listed_with m NotInForm texts b = none
+abbrev pub listed_with : ℕ → Option ℤ → List (List ℕ) → Option ℤ → Option Listed
+listed_with m (Some p) texts (Some b) = cond (are_texts m texts) (Some (record { p = p; b = b; texts = texts })) None
+listed_with m (Some p) texts None = None
+listed_with m None texts b = None
 
 -- a log, the words, and perhaps a second log. "A missing back-off is 0."
 unfoldable pub listed_in : ℕ → List (List ℕ) → Option Listed
-listed_in m [] = none
-listed_in m (p ∷ []) = none
-listed_in m (p ∷ words ∷ []) = listed_with m (read_points p) (parts 32 words) (Of (pos 0))
+listed_in m [] = None
+listed_in m (p ∷ []) = None
+listed_in m (p ∷ words ∷ []) = listed_with m (read_points p) (parts 32 words) (Some (pos 0))
 listed_in m (p ∷ words ∷ b ∷ []) = listed_with m (read_points p) (parts 32 words) (read_points b)
-listed_in m (p ∷ words ∷ b ∷ more ∷ rest) = none
+listed_in m (p ∷ words ∷ b ∷ more ∷ rest) = None
 
 -- "A tab parts the fields, one space the words": a line of the section of length m
 unfoldable pub read_row : ℕ → List ℕ → Option Listed

@@ -1,4 +1,5 @@
 -- Laws of the search for a text in a list of texts, and of the same without an index. Assumes nothing.
+use Rattle.std.specs.declared.option.Option.TheVariants.{Some, None}
 use mathlib.Core.Path.{◌≡◌, refl, sym, ap, ◌∙◌}
 use mathlib.Core.Logic.{◌⊎◌, inl, inr}
 use mathlib.Core.Bool.{Bool, true, false, cond, true≢false}
@@ -9,7 +10,6 @@ use native.Mathlib.Numerals.{add-one}
 use lib.ListN.{length, get_or}
 use Rattle.backoff.specs.Words.{same_words}
 use Rattle.backoff.proofs.Words.{same_eq, same_refl}
-use Rattle.row_search.specs.declared.Found.TheVariants.{At, Nothing}
 use Rattle.word_index.specs.Texts.{text_of, texts_from, texts_of, search_from, record_with}
 
 abbrev pub Absent : List ℕ → List (List ℕ) → Type 0
@@ -17,17 +17,17 @@ Absent text us = (j : ℕ) → j < length us → get_or us j [] ≡ text → ⊥
 
 -- the text is found at place j of the texts, which are counted from k
 pub record Placed (text : List ℕ) (k : ℕ) (us : List (List ℕ)) (j : ℕ) : Type 0 where
-  pub found : search_from text k us ≡ At (k + j)
+  pub found : search_from text k us ≡ Some (k + j)
   pub inside : j < length us
   pub same : get_or us j [] ≡ text
 
-pub search_told : (text : List ℕ) (k : ℕ) (us : List (List ℕ)) → ((search_from text k us ≡ Nothing) × Absent text us) ⊎ ((j : ℕ) × Placed text k us j)
+pub search_told : (text : List ℕ) (k : ℕ) (us : List (List ℕ)) → ((search_from text k us ≡ None) × Absent text us) ⊎ ((j : ℕ) × Placed text k us j)
 unfolding search_from
 search_told text k [] = inl (refl, λ j l e. absurd (omega arith))
 search_told text k (u ∷ us) = go (same_words text u) refl (search_told text (suc k) us)
   where
-    go : (t : Bool) → same_words text u ≡ t → ((search_from text (suc k) us ≡ Nothing) × Absent text us) ⊎ ((j : ℕ) × Placed text (suc k) us j)
-        → ((cond t (At k) (search_from text (suc k) us) ≡ Nothing) × Absent text (u ∷ us)) ⊎ ((j : ℕ) × Placed text k (u ∷ us) j)
+    go : (t : Bool) → same_words text u ≡ t → ((search_from text (suc k) us ≡ None) × Absent text us) ⊎ ((j : ℕ) × Placed text (suc k) us j)
+        → ((cond t (Some k) (search_from text (suc k) us) ≡ None) × Absent text (u ∷ us)) ⊎ ((j : ℕ) × Placed text k (u ∷ us) j)
     go true e i = inr (0, record { found = let z : k + 0 ≡ k = omega arith in rw (e, z) refl; inside = omega arith; same = sym (same_eq text u e) })
     go false e (inl (n, a)) = inl (n, λ j l f. absent j l f)
       where
@@ -41,13 +41,13 @@ search_told text k (u ∷ us) = go (same_words text u) refl (search_told text (s
 
 -- ---- the words from k on are left to search
 module _ (s text : List ℕ) (words k : ℕ) (l : k < words) where
-  scan-here : search_from text k (texts_from s k (words - k)) ≡ cond (same_words text (text_of s k)) (At k) (search_from text (k + 1) (texts_from s (k + 1) (words - (k + 1))))
+  scan-here : search_from text k (texts_from s k (words - k)) ≡ cond (same_words text (text_of s k)) (Some k) (search_from text (k + 1) (texts_from s (k + 1) (words - (k + 1))))
   unfolding search_from texts_from
   scan-here =
       let e : words - k ≡ suc (words - (k + 1)) = omega arith in
       rw (e, add-one k) refl
 
-  pub scan-found : same_words text (text_of s k) ≡ true → search_from text k (texts_from s k (words - k)) ≡ At k
+  pub scan-found : same_words text (text_of s k) ≡ true → search_from text k (texts_from s k (words - k)) ≡ Some k
   scan-found e = scan-here ∙ rw e refl
 
   pub scan-next : same_words text (text_of s k) ≡ false → search_from text k (texts_from s k (words - k)) ≡ search_from text (k + 1) (texts_from s (k + 1) (words - (k + 1)))
@@ -57,7 +57,7 @@ pub scan-start : (s text : List ℕ) (words : ℕ) → record_with s words text 
 unfolding record_with texts_of
 scan-start s text words = refl
 
-pub scan-end : (s text : List ℕ) (words k : ℕ) → words ≤ k → search_from text k (texts_from s k (words - k)) ≡ Nothing
+pub scan-end : (s text : List ℕ) (words k : ℕ) → words ≤ k → search_from text k (texts_from s k (words - k)) ≡ None
 unfolding search_from texts_from
 scan-end s text words k l = let e : words - k ≡ 0 = omega arith in rw e refl
 

@@ -1,4 +1,6 @@
 -- Laws of words and their numbers: reserved texts, and the number of a text that is met. Assumes nothing.
+use Rattle.std.specs.declared.option.Option.{Option}
+use Rattle.std.specs.declared.option.Option.TheVariants.{None}
 use mathlib.Core.Path.{◌≡◌, refl, sym, ap, ◌∙◌}
 use mathlib.Core.Logic.{◌⊎◌, inl, inr, ⊎_elim}
 use mathlib.Core.Bool.{Bool, true, false, cond, ◌&&◌}
@@ -13,8 +15,6 @@ use Rattle.integer.specs.Integer.{or_else}
 use Rattle.backoff.specs.Limits.{text_limit}
 use Rattle.backoff.specs.Words.{same_words}
 use Rattle.backoff.proofs.Words.{same_eq, same_ne}
-use Rattle.row_search.specs.declared.Found.{Found}
-use Rattle.row_search.specs.declared.Found.TheVariants.{Nothing}
 use Rattle.word_index.specs.Texts.{search_from, given_by}
 use Rattle.arpa_text.specs.Lines.{is_text, all_above}
 use Rattle.arpa_words.specs.Words.{unknown_text, start_text, end_text, no_texts, reserved_number, number_met, number_given}
@@ -128,15 +128,15 @@ module _ (texts : List (List ℕ)) (sound : TextsSound texts) (text : List ℕ) 
       rw (p.found, q, f, ne_eqb (length text) 0 (λ y. absurd (omega arith))) (omega arith))
       (search_told text 1 texts)
 
-  pub met_or_not : ((number_met texts text ≡ 0) × (search_from text 1 texts ≡ Nothing) × Absent text texts)
+  pub met_or_not : ((number_met texts text ≡ 0) × (search_from text 1 texts ≡ None) × Absent text texts)
       ⊎ ((j : ℕ) × (number_met texts text ≡ suc j) × Placed text 1 texts j)
   unfolding number_met
   met_or_not =
       ⊎_elim
-      (λ w. inl (ap (λ (f : Found). given_by f 0) w.0, w.0, w.1))
+      (λ w. inl (ap (λ (f : Option ℕ). given_by f 0) w.0, w.0, w.1))
       (λ w.
       let e : 1 + w.0 ≡ suc w.0 = omega arith in
-      inr (w.0, ap (λ (f : Found). given_by f 0) w.1.found ∙ e, w.1))
+      inr (w.0, ap (λ (f : Option ℕ). given_by f 0) w.1.found ∙ e, w.1))
       (search_told text 1 texts)
 
 -- another text stands behind the first three, if at all

@@ -1,4 +1,6 @@
 -- Laws of the words as the store and the index hold them: their search, and one more text. Assumes nothing.
+use Rattle.std.specs.declared.option.Option.{Option}
+use Rattle.std.specs.declared.option.Option.TheVariants.{None}
 use mathlib.Core.Path.{◌≡◌, refl, sym, ap, ap₂, ◌∙◌}
 use mathlib.Core.Logic.{⊎_elim}
 use mathlib.Core.Bool.{Bool, true, cond}
@@ -12,8 +14,6 @@ use lib.Seq.{length-take-le, get_or-drop, drop-drop, drop-append-add}
 use borrow.Author.Tests.{ne_eqb, le-leb, lt-leb}
 use Rattle.integer.specs.Integer.{or_else}
 use Rattle.backoff.specs.Limits.{text_limit}
-use Rattle.row_search.specs.declared.Found.{Found}
-use Rattle.row_search.specs.declared.Found.TheVariants.{Nothing}
 use Rattle.word_index.specs.Texts.{text_of, texts_from, texts_of, search_from, record_with, given_by, recorded}
 use Rattle.word_index.specs.Index.{link_limit, bucket_of, latest, Indexed, Room, linked}
 use Rattle.word_index.proofs.Records.{record_length}
@@ -65,12 +65,12 @@ module _ (t : List ℤ) (s : List ℕ) (b words : ℕ) (x : Searchable t s b wor
       met-other (texts_from s 1 (words - 1)) x.texts text in_form_lem e
       ∙ ap (λ (us : List (List ℕ)). given_by (search_from text 4 us) 0) (texts-behind s (words - 1) (omega arith) ∙ ap (texts_from s 4) f)
 
-  none_by_search : reserved_number text ≡ 0 → number_met (texts_from s 1 (words - 1)) text ≡ 0 → record_with s words text ≡ Nothing
+  none_by_search : reserved_number text ≡ 0 → number_met (texts_from s 1 (words - 1)) text ≡ 0 → record_with s words text ≡ None
   unfolding record_with
   none_by_search e z =
       ⊎_elim (λ w. w.0)
       (λ w.
-      let f : 4 + w.0 ≡ 0 = ap (λ (r : Found). given_by r 0) (sym w.1.found) ∙ sym (met_by_search e) ∙ z in
+      let f : 4 + w.0 ≡ 0 = ap (λ (r : Option ℕ). given_by r 0) (sym w.1.found) ∙ sym (met_by_search e) ∙ z in
       absurd (omega arith))
       (search_told text 4 (texts_of s words))
 
@@ -158,7 +158,7 @@ module _ (t : List ℤ) (s : List ℕ) (b words k : ℕ) (text : List ℕ) (x : 
     adding_next : k ≡ words
     adding_next = x.number ∙ ap (λ (r : ℕ). or_else r words) not-reserved
 
-    pub adding_indexed : words ≤ link_limit → Indexed t s b words × Room t s words × (length text ≤ text_limit) × (record_with s words text ≡ Nothing)
+    pub adding_indexed : words ≤ link_limit → Indexed t s b words × Room t s words × (length text ≤ text_limit) × (record_with s words text ≡ None)
     adding_indexed m =
         let e = adding_next in
         let r = x.record_room in (

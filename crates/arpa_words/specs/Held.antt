@@ -1,11 +1,22 @@
 -- How the code holds the words of a text in the lent store and in the index of the lent table. Only contracts of inner functions cite what is here. Assumes nothing.
-use Rattle.std.specs.Prelude.{◌≡◌, ◌⊎◌, true, cond, List, [], ℕ, suc, ◌+◌, ◌*◌, ◌-◌, ◌<◌, ◌≤◌, leb, ℤ, length, get_or}
+use Rattle.std.specs.declared.option.Option.{Option}
+use Rattle.std.specs.declared.option.Option.TheVariants.{Some, None}
+use Rattle.std.specs.Prelude.{◌≡◌, ◌⊎◌, true, cond, List, [], ℕ, zero, suc, ◌+◌, ◌*◌, ◌-◌, ◌<◌, ◌≤◌, leb, ℤ, length, get_or}
 use Rattle.integer.specs.Integer.{or_else}
 use Rattle.backoff.specs.Limits.{text_limit}
 use Rattle.word_index.specs.Texts.{texts_from, recorded}
 use Rattle.word_index.specs.Index.{link_limit, Indexed, bucket_of, linked}
 use Rattle.arpa_text.specs.Lines.{is_text}
-use Rattle.arpa_words.specs.Words.{reserved_number, number_met}
+use Rattle.arpa_words.specs.Words.{reserved_number, number_met, some_missing, zeroed}
+
+-- how the code holds a number that is 0 where there is none
+abbrev pub unless_zero : ℕ → Option ℕ
+unless_zero zero = None
+unless_zero (suc k) = Some (suc k)
+
+-- the five numbers of a row's words, where none of them is 0
+unfoldable pub all_numbers : List ℕ → Option (List ℕ)
+all_numbers ks = cond (some_missing ks) None (Some (zeroed 5 ks))
 
 -- the texts that a reading can have met: the first three are `<unk>`, `<s>`, `</s>` or not met, the others are distinct and none of these
 pub record TextsSound (texts : List (List ℕ)) : Type 0 where

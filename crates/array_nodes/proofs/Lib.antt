@@ -2,3 +2,4 @@
 pub mod Reached
 pub mod Climb
 pub mod Gathering
+pub mod FoundAbove

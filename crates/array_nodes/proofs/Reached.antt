@@ -1,5 +1,7 @@
 -- Laws of the nodes reached: they are the nodes to which words lead, each once, in the order of the list; no two lie in one slot, so that there are
 -- fewer than slots. Assumes nothing.
+use Rattle.std.specs.declared.option.Option.{Option}
+use Rattle.std.specs.declared.option.Option.TheVariants.{Some, None}
 use mathlib.Core.Path.{◌≡◌, refl, sym, ap, ap₂, ◌∙◌}
 use mathlib.Core.Logic.{⊎_elim, ◌≢◌}
 use mathlib.Core.Bool.{true, ◌&&◌}
@@ -20,8 +22,6 @@ use Rattle.backoff.proofs.Words.{same_refl}
 use Rattle.rows.specs.Order.{last_less, precedes}
 use Rattle.rows.proofs.Keys.{precedes-key}
 use Rattle.child_slots.specs.Children.{child_at}
-use Rattle.child_slots.specs.declared.Child.{Child}
-use Rattle.child_slots.specs.declared.Child.TheVariants.{At, Nothing}
 use Rattle.child_slots.proofs.Children.{child_told, child_unique}
 use Rattle.slot_numbers.specs.Numbers.{EachTwo, none, more}
 use Rattle.slot_numbers.proofs.EachTwo.{first_of-two, rest_of_two, each_append, each_weaken, each_same, apart_below}
@@ -65,20 +65,20 @@ record ChildOf (base check : List ℤ) (r : Reached) (low high : ℕ) (c : Reach
   from : low ≤ word
   below : word < high
   words : c.words ≡ word ∷ r.words
-  slot : child_at base check r.slot word ≡ At c.slot
+  slot : child_at base check r.slot word ≡ Some c.slot
 
 module _ (base check : List ℤ) where
   module _ (r : Reached) where
-    behind : (w : ℕ) (c : Child) {x : Reached} {rest : List Reached} → Memᴰ x rest → Memᴰ x (child_first r.words w c rest)
-    behind w (At t) m = Memᴰ.tail m
-    behind w Nothing m = m
+    behind : (w : ℕ) (c : Option ℕ) {x : Reached} {rest : List Reached} → Memᴰ x rest → Memᴰ x (child_first r.words w c rest)
+    behind w (Some t) m = Memᴰ.tail m
+    behind w None m = m
 
-    child-from : (w k v t : ℕ) → w ≤ v → v < w + k → child_at base check r.slot v ≡ At t → Memᴰ (record { slot = t; words = v ∷ r.words }) (children_from base check r w k)
+    child-from : (w k v t : ℕ) → w ≤ v → v < w + k → child_at base check r.slot v ≡ Some t → Memᴰ (record { slot = t; words = v ∷ r.words }) (children_from base check r w k)
     unfolding children_from
     child-from w zero v t l h e = absurd (omega arith)
     child-from w (suc k) v t l h e = go (ℕ_discrete w v) (child-from (suc w) k v t)
       where
-        go : Dec (w ≡ v) → (suc w ≤ v → v < suc w + k → child_at base check r.slot v ≡ At t → Memᴰ (record { slot = t; words = v ∷ r.words }) (children_from base check r (suc w) k))
+        go : Dec (w ≡ v) → (suc w ≤ v → v < suc w + k → child_at base check r.slot v ≡ Some t → Memᴰ (record { slot = t; words = v ∷ r.words }) (children_from base check r (suc w) k))
             → Memᴰ (record { slot = t; words = v ∷ r.words }) (child_first r.words w (child_at base check r.slot w) (children_from base check r (suc w) k))
         go (yes q) ih = rw (q, e) (Memᴰ.head refl)
         go (no q) ih = behind w (child_at base check r.slot w) (ih (omega arith) (omega arith) e)
@@ -91,13 +91,13 @@ module _ (base check : List ℤ) where
         later : ChildOf base check r (suc w) (suc w + k) c → ChildOf base check r w (w + suc k) c
         later d = record { word = d.word; from = omega arith; below = omega arith; words = d.words; slot = d.slot }
 
-        go : (x : Child) → child_at base check r.slot w ≡ x → Memᴰ c (child_first r.words w x (children_from base check r (suc w) k))
+        go : (x : Option ℕ) → child_at base check r.slot w ≡ x → Memᴰ c (child_first r.words w x (children_from base check r (suc w) k))
             → (Memᴰ c (children_from base check r (suc w) k) → ChildOf base check r (suc w) (suc w + k) c) → ChildOf base check r w (w + suc k) c
-        go Nothing e m ih = later (ih m)
-        go (At t) e m ih =
+        go None e m ih = later (ih m)
+        go (Some t) e m ih =
             ⊎_elim
             (λ (q : c ≡ record { slot = t; words = w ∷ r.words }).
-            record { word = w; from = omega arith; below = omega arith; words = ap (λ (x : Reached). x.words) q; slot = e ∙ ap (λ (x : Reached). At x.slot) (sym q) })
+            record { word = w; from = omega arith; below = omega arith; words = ap (λ (x : Reached). x.words) q; slot = e ∙ ap (λ (x : Reached). Some x.slot) (sym q) })
             (λ n. later (ih n))
             (Memᴰ.cases_cons m)
 
@@ -106,14 +106,14 @@ module _ (base check : List ℤ) where
     children-from-ascend w zero = none
     children-from-ascend w (suc k) = go (child_at base check r.slot w) (children-from-ascend (suc w) k)
       where
-        go : (x : Child) → EachTwo Before (children_from base check r (suc w) k) → EachTwo Before (child_first r.words w x (children_from base check r (suc w) k))
-        go Nothing ih = ih
-        go (At t) ih = more first ih
+        go : (x : Option ℕ) → EachTwo Before (children_from base check r (suc w) k) → EachTwo Before (child_first r.words w x (children_from base check r (suc w) k))
+        go None ih = ih
+        go (Some t) ih = more first ih
           where
             first : (c : Reached) → Memᴰ c (children_from base check r (suc w) k) → precedes (w ∷ r.words) c.words ≡ true
             first c m = let d = from-child (suc w) k c m in rw d.words (front_decides r.words w d.word d.from)
 
-    child-reached : (v t : ℕ) → child_at base check r.slot v ≡ At t → Memᴰ (record { slot = t; words = v ∷ r.words }) (children_of base check r)
+    child-reached : (v t : ℕ) → child_at base check r.slot v ≡ Some t → Memᴰ (record { slot = t; words = v ∷ r.words }) (children_of base check r)
     unfolding children_of is_word
     child-reached v t e =
         let w = (child_told base check r.slot v t e).word in
@@ -159,30 +159,30 @@ module _ (base check : List ℤ) where
 
   -- ---- the levels
 
-  pub walk-child : (us : List ℕ) (w s : ℕ) → walk_to base check us ≡ At s → walk_to base check (w ∷ us) ≡ child_at base check s w
+  pub walk-child : (us : List ℕ) (w s : ℕ) → walk_to base check us ≡ Some s → walk_to base check (w ∷ us) ≡ child_at base check s w
   unfolding walk_to
   walk-child us w s e = rw e
 
-  level-walk : (m : ℕ) (c : Reached) → Memᴰ c (level base check m) → (length c.words ≡ m) × (walk_to base check c.words ≡ At c.slot)
+  level-walk : (m : ℕ) (c : Reached) → Memᴰ c (level base check m) → (length c.words ≡ m) × (walk_to base check c.words ≡ Some c.slot)
   unfolding level walk_to
   level-walk zero c h =
       let e : c ≡ root = Memᴰ.eq_of_singleton h in
-      (ap (λ (x : Reached). length x.words) e, ap (λ (x : Reached). walk_to base check x.words) e ∙ ap (λ (x : Reached). At x.slot) (sym e))
+      (ap (λ (x : Reached). length x.words) e, ap (λ (x : Reached). walk_to base check x.words) e ∙ ap (λ (x : Reached). Some x.slot) (sym e))
   level-walk (suc m) c h =
       let d = all_of_child (level base check m) c h in
       let k = d.2 in
       let w = level-walk m d.0 d.1 in
       (ap length k.words ∙ ap suc w.0, ap (walk_to base check) k.words ∙ walk-child d.0.words k.word d.0.slot w.1 ∙ k.slot)
 
-  walk-level : (us : List ℕ) (s : ℕ) → walk_to base check us ≡ At s → Memᴰ (record { slot = s; words = us }) (level base check (length us))
+  walk-level : (us : List ℕ) (s : ℕ) → walk_to base check us ≡ Some s → Memᴰ (record { slot = s; words = us }) (level base check (length us))
   unfolding level walk_to
   walk-level [] s e = let z : 0 ≡ s = cc in rw z (Memᴰ.head refl)
   walk-level (w ∷ us) s e = go (walk_to base check us) refl (walk-level us)
     where
-      go : (x : Child) → walk_to base check us ≡ x → ((t : ℕ) → walk_to base check us ≡ At t → Memᴰ (record { slot = t; words = us }) (level base check (length us)))
+      go : (x : Option ℕ) → walk_to base check us ≡ x → ((t : ℕ) → walk_to base check us ≡ Some t → Memᴰ (record { slot = t; words = us }) (level base check (length us)))
           → Memᴰ (record { slot = s; words = w ∷ us }) (children_of_all base check (level base check (length us)))
-      go Nothing q ih = absurd (let z : ◌≡◌ {A = ℕ} 0 1 = cc in omega arith)
-      go (At t) q ih =
+      go None q ih = absurd (let z : ◌≡◌ {A = ℕ} 0 1 = cc in omega arith)
+      go (Some t) q ih =
           child_of-all (level base check (length us)) (record { slot = t; words = us }) (record { slot = s; words = w ∷ us }) (ih t q)
           (child-reached (record { slot = t; words = us }) w s (sym (walk-child us w t q) ∙ e))
 
@@ -223,25 +223,25 @@ module _ (base check : List ℤ) where
 
   -- ---- words that lead to a slot
 
-  pub walk-words : (us : List ℕ) (s : ℕ) → walk_to base check us ≡ At s → are_words us ≡ true
+  pub walk-words : (us : List ℕ) (s : ℕ) → walk_to base check us ≡ Some s → are_words us ≡ true
   unfolding walk_to are_words
   walk-words [] s e = refl
   walk-words (w ∷ us) s e = go (walk_to base check us) refl (walk-words us)
     where
-      go : (x : Child) → walk_to base check us ≡ x → ((t : ℕ) → walk_to base check us ≡ At t → are_words us ≡ true) → (is_word w && are_words us) ≡ true
-      go Nothing q ih = absurd (let z : ◌≡◌ {A = ℕ} 0 1 = cc in omega arith)
-      go (At t) q ih = and_both (is_word w) (are_words us) (child_told base check t w s (sym (walk-child us w t q) ∙ e)).word (ih t q)
+      go : (x : Option ℕ) → walk_to base check us ≡ x → ((t : ℕ) → walk_to base check us ≡ Some t → are_words us ≡ true) → (is_word w && are_words us) ≡ true
+      go None q ih = absurd (let z : ◌≡◌ {A = ℕ} 0 1 = cc in omega arith)
+      go (Some t) q ih = and_both (is_word w) (are_words us) (child_told base check t w s (sym (walk-child us w t q) ∙ e)).word (ih t q)
 
-  pub walk-slot : (w : ℕ) (us : List ℕ) (s : ℕ) → walk_to base check (w ∷ us) ≡ At s → (t : ℕ) × (walk_to base check us ≡ At t) × (child_at base check t w ≡ At s)
+  pub walk-slot : (w : ℕ) (us : List ℕ) (s : ℕ) → walk_to base check (w ∷ us) ≡ Some s → (t : ℕ) × (walk_to base check us ≡ Some t) × (child_at base check t w ≡ Some s)
   unfolding walk_to
   walk-slot w us s e = go (walk_to base check us) refl
     where
-      go : (x : Child) → walk_to base check us ≡ x → (t : ℕ) × (walk_to base check us ≡ At t) × (child_at base check t w ≡ At s)
-      go Nothing q = absurd (let z : ◌≡◌ {A = ℕ} 0 1 = cc in omega arith)
-      go (At t) q = (t, q, sym (walk-child us w t q) ∙ e)
+      go : (x : Option ℕ) → walk_to base check us ≡ x → (t : ℕ) × (walk_to base check us ≡ Some t) × (child_at base check t w ≡ Some s)
+      go None q = absurd (let z : ◌≡◌ {A = ℕ} 0 1 = cc in omega arith)
+      go (Some t) q = (t, q, sym (walk-child us w t q) ∙ e)
 
   -- the slot is not the root's
-  pub walk_inside : (us : List ℕ) (s : ℕ) → 1 ≤ length us → walk_to base check us ≡ At s → (1 ≤ s) × (s < length check)
+  pub walk_inside : (us : List ℕ) (s : ℕ) → 1 ≤ length us → walk_to base check us ≡ Some s → (1 ≤ s) × (s < length check)
   walk_inside [] s l e = absurd (omega arith)
   walk_inside (u ∷ us) s l e =
       let d = walk-slot u us s e in
@@ -249,7 +249,7 @@ module _ (base check : List ℤ) where
       (c.positive, c.inside)
 
   -- each slot is reached by the words of one node
-  walk_unique : (us vs : List ℕ) (s : ℕ) → walk_to base check us ≡ At s → walk_to base check vs ≡ At s → us ≡ vs
+  walk_unique : (us vs : List ℕ) (s : ℕ) → walk_to base check us ≡ Some s → walk_to base check vs ≡ Some s → us ≡ vs
   unfolding walk_to
   walk_unique [] [] s e f = refl
   walk_unique [] (v ∷ vs) s e f = let z : 0 ≡ s = cc in absurd (omega (arith, walk_inside (v ∷ vs) s (omega arith) f))
@@ -258,7 +258,7 @@ module _ (base check : List ℤ) where
       let a = walk-slot u us s e in
       let b = walk-slot v vs s f in
       let c = child_unique base check a.0 u b.0 v s a.2 b.2 in
-      ap₂ ◌∷◌ c.1 (walk_unique us vs a.0 a.1 (b.1 ∙ ap At (sym c.0)))
+      ap₂ ◌∷◌ c.1 (walk_unique us vs a.0 a.1 (b.1 ∙ ap Some (sym c.0)))
 
 -- ---- the order is strict, so that nodes are distinct
 
@@ -290,7 +290,7 @@ module _ (base check : List ℤ) (n : ℕ) where
       (λ r c h k b e.
       let v = (reached_told base check n r h).leads in
       let w = (reached_told base check n c k).leads in
-      absurd (omega (arith, ap key (walk_unique base check r.words c.words c.slot (v ∙ ap At e) w))))
+      absurd (omega (arith, ap key (walk_unique base check r.words c.words c.slot (v ∙ ap Some e) w))))
       reached_by_key
 
   -- there are fewer than slots, as one is the root's
@@ -302,7 +302,7 @@ module _ (base check : List ℤ) (n : ℕ) where
       not_root : (c : Reached) → Memᴰ c (reached base check n) → 0 ≢ c.slot
       not_root c m e =
           let r = reached_told base check n c m in
-          absurd (omega (arith, r.some, ap length (walk_unique base check [] c.words c.slot (unfold walk_to in ap At e) r.leads)))
+          absurd (omega (arith, r.some, ap length (walk_unique base check [] c.words c.slot (unfold walk_to in ap Some e) r.leads)))
 
       inside : (c : Reached) → Memᴰ c (reached base check n) → c.slot < length check
       inside c m = let r = reached_told base check n c m in (walk_inside base check c.words c.slot r.some r.leads).1

@@ -1,9 +1,9 @@
 -- The nodes that walking from the root of any double array reaches. Words are oldest first, as in the list: the parent of `w ∷ us` is `us`. Assumes nothing.
+use Rattle.std.specs.declared.option.Option.{Option}
+use Rattle.std.specs.declared.option.Option.TheVariants.{Some, None}
 use Rattle.std.specs.Prelude.{List, [], ◌∷◌, ◌++◌, map, ℕ, zero, suc, ℤ}
 use Rattle.backoff.specs.Limits.{word_limit}
 use Rattle.child_slots.specs.Children.{child_at}
-use Rattle.child_slots.specs.declared.Child.{Child}
-use Rattle.child_slots.specs.declared.Child.TheVariants.{At, Nothing}
 
 -- ---- the nodes
 
@@ -16,18 +16,18 @@ abbrev pub root : Reached
 root = record { slot = 0; words = [] }
 
 -- the child for word w of the node `us`, where there is one, in front of others
-abbrev pub child_first : List ℕ → ℕ → Child → List Reached → List Reached
-child_first us w (At t) rest = record { slot = t; words = w ∷ us } ∷ rest
-child_first us w Nothing rest = rest
+abbrev pub child_first : List ℕ → ℕ → Option ℕ → List Reached → List Reached
+child_first us w (Some t) rest = record { slot = t; words = w ∷ us } ∷ rest
+child_first us w None rest = rest
 
-abbrev pub child_in : Child → (ℕ → Child) → Child
-child_in (At s) child = child s
-child_in Nothing child = Nothing
+abbrev pub child_in : Option ℕ → (ℕ → Option ℕ) → Option ℕ
+child_in (Some s) child = child s
+child_in None child = None
 
 module _ (base check : List ℤ) where
   -- where words lead from the root, the newest first: from each node to its child for the next word
-  unfoldable pub walk_to : List ℕ → Child
-  walk_to [] = At 0
+  unfoldable pub walk_to : List ℕ → Option ℕ
+  walk_to [] = Some 0
   walk_to (w ∷ us) = child_in (walk_to us) (λ (s : ℕ). child_at base check s w)
 
   -- the children of a node for the k words from w on

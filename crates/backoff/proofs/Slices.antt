@@ -1,9 +1,10 @@
 -- A run leaves its slices as long as they were, over any arrays and from any state, refused or not. Assumes nothing.
+use Rattle.std.specs.declared.option.Option.{Option}
+use Rattle.std.specs.declared.option.Option.TheVariants.{Some, None}
 use mathlib.Core.Path.{◌≡◌, refl}
 use mathlib.Core.Logic.{◌⊎◌, inl, inr}
 use mathlib.Core.Bool.{Bool, true, false, cond}
 use mathlib.Core.List.{List}
-use mathlib.Core.Option.{Option, none, some}
 use Prim.Native.Nat.{ℕ, ◌≤◌}
 use native.Mathlib.Omega.{arith}
 use lib.ListN.{length, drop, replicate, length-append, length-drop, length-replicate}
@@ -47,10 +48,10 @@ module _ (l : List ℤ) (r : Run) where
     }
 
   run_in_keeps : (o : Option Store) → Keeps r (run_in o l r)
-  run_in_keeps none = refused_keeps _
-  run_in_keeps (some S) = go (state_ok S.order l) refl (accepted r) refl (run_over_cases S r.words (state_in l) 1)
+  run_in_keeps None = refused_keeps _
+  run_in_keeps (Some S) = go (state_ok S.order l) refl (accepted r) refl (run_over_cases S r.words (state_in l) 1)
     where
-      go : (b : Bool) → state_ok S.order l ≡ b → (c : Bool) → accepted r ≡ c → ((j : ℕ) × (run_over S r.words (state_in l) 1 ≡ refused_at j)) ⊎ (run_over S r.words (state_in l) 1 ≡ model_ran (model_in S) (state_in l) r.words) → Keeps r (run_in (some S) l r)
+      go : (b : Bool) → state_ok S.order l ≡ b → (c : Bool) → accepted r ≡ c → ((j : ℕ) × (run_over S r.words (state_in l) 1 ≡ refused_at j)) ⊎ (run_over S r.words (state_in l) 1 ≡ model_ran (model_in S) (state_in l) r.words) → Keeps r (run_in (Some S) l r)
       go false e c f o = rw e (refused_keeps _)
       go true e false f o = rw (e, f) (refused_keeps _)
       go true e true f (inl (j, o)) = rw (e, f, o) (broken_keeps (fits r (eqb-true _ _ (unfold accepted in f))) j)

@@ -1,8 +1,12 @@
 -- The sheet's outcome from what the code finds: refused early, some sentence refused, or all scored and counted. Assumes nothing.
+use Rattle.std.specs.declared.option.Option.{Option}
+use Rattle.std.specs.declared.result.Result.{Result}
+use Rattle.std.specs.declared.result.Result.TheVariants.{Ok, Err}
+use Rattle.std.specs.Result.{IsErrAnd}
+use Rattle.backoff.specs.declared.Refusal.{Refusal as CallRefusal}
 use mathlib.Core.Path.{◌≡◌, refl, sym, ap, ◌∙◌}
 use mathlib.Core.Bool.{Bool, true, false}
 use mathlib.Core.List.{List}
-use mathlib.Core.Option.{Option}
 use Prim.Native.Nat.{ℕ, ◌+◌, ◌≤◌}
 use native.Mathlib.Omega.{arith}
 use lib.ListN.{length, take, drop, replicate, length-replicate, length-append}
@@ -10,19 +14,19 @@ use lib.Seq.{take_at}
 use lib.IntN.{ℤ, pos}
 use lib.Dec.{eqb}
 use borrow.Author.Tests.{eq-eqb, ne_eqb, eqb-true}
-use Rattle.backoff.specs.Refusal.{array_head, sentence_end}
+use Rattle.backoff.specs.Refusal.{reason_number, array_head, sentence_end}
 use Rattle.backoff.specs.Run.{Run, written}
 use Rattle.backoff.specs.Store.{Store}
 use Rattle.double_array.specs.DoubleArray.{is_array, opened}
 use Rattle.double_array.proofs.DoubleArray.{opened_some, opened-none}
-use Rattle.sentence_ends.specs.declared.Refusal.{Refusal}
-use Rattle.sentence_ends.specs.Ends.{last_end, bad_end, early_refusal}
+use Rattle.sentence_ends.specs.Ends.{Refusal, last_end, bad_end, early_refusal}
 use Rattle.sentence_ends.proofs.Ends.{good-within, Fits, fits}
+use Rattle.stretches.specs.declared.Scored.{Scored}
 use Rattle.stretches.specs.Stretches.{sentences, word_bytes, closing_bytes, first_refused}
 use Rattle.stretches.specs.Inner.{AllScored, OneRefused}
 use Rattle.batch.specs.declared.Sheet.{Sheet}
 use Rattle.batch.specs.Sheet.{met, Outcome, unknown_of, matched_of, refused_sheet, broken_sheet, accepted_sheet, scored_sheet, sheet_outcome}
-use Rattle.batch.specs.Inner.{bytes_sheet}
+use Rattle.batch.specs.Inner.{sheet_of, bytes_sheet}
 
 -- ---- nothing comes early, or something does
 
@@ -77,7 +81,7 @@ module _ (o : Option Store) (ends : List ℕ) (r : Run) where
 
   -- ---- all sentences
 
-  module _ (total : ℤ) (points : List ℤ) (lengths counts : List ℕ) (u : AllScored o ends r total points lengths counts) (long : length (word_bytes o rs) ≡ last_end 0 ends) where
+  module _ (scored : Scored) (points : List ℤ) (lengths : List ℕ) (u : AllScored o ends r scored points lengths) (long : length (word_bytes o rs) ≡ last_end 0 ends) where
     pub lengths-reach : last_end 0 ends ≤ length lengths
     lengths-reach = rw u.lengths_are (omega (arith, length-append (word_bytes o rs) (drop (last_end 0 ends) r.lengths), long))
 
@@ -85,6 +89,19 @@ module _ (o : Option Store) (ends : List ℕ) (r : Run) where
     counted-bytes : take (last_end 0 ends) lengths ≡ word_bytes o rs
     counted-bytes = ap (take (last_end 0 ends)) u.lengths_are ∙ take_at (word_bytes o rs) _ (last_end 0 ends) long
 
-    pub all_outcome : (x : ℤ) → x ≡ total → (s : Sheet) → s ≡ bytes_sheet (length ends) (last_end 0 ends) x (closing_bytes o rs) (take (last_end 0 ends) lengths) → record { sheet = s; points = points; lengths = lengths } ≡ scored_sheet o ends r
+    pub all_outcome : (x : ℤ) → x ≡ scored.total → (s : Sheet) → s ≡ bytes_sheet (length ends) (last_end 0 ends) x (closing_bytes o rs) (take (last_end 0 ends) lengths) → record { sheet = s; points = points; lengths = lengths } ≡ scored_sheet o ends r
     unfolding scored_sheet accepted_sheet unknown_of matched_of
     all_outcome x y s q = rw (u.none-refused, q, counted-bytes, y, u.total-is, u.points_are, u.lengths_are)
+
+-- ---- the steps of the code
+
+pub pass-of : (base check : List ℤ) (ends : List ℕ) (r : Run) → record { number = 0; place = 0 } ≡ early_refusal (opened base check) (length r.words) ends (length r.points) (length r.lengths) → Passed base check ends r
+pass-of base check ends r e = passed base check ends r (none-met (opened base check) ends r (record { number = 0; place = 0 }) e refl)
+
+pub sheet-refused : (x : Result Sheet (CallRefusal ℕ)) (e : CallRefusal ℕ) → IsErrAnd x (λ w. w ≡ e) → sheet_of x ≡ refused_sheet (reason_number e.reason) e.place
+sheet-refused (Ok s) e h = absurd h
+sheet-refused (Err w) e h = rw h
+
+-- 11
+pub array-refused : (base check : List ℤ) (ends : List ℕ) (r : Run) → is_array base check ≡ false → (s : Sheet) → s ≡ refused_sheet array_head 0 → record { sheet = s; points = r.points; lengths = r.lengths } ≡ sheet_outcome (opened base check) ends r
+array-refused base check ends r e = early_outcome (opened base check) ends r (record { number = array_head; place = 0 }) (rw (opened-none base check e)) (λ z. omega arith)

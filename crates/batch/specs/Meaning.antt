@@ -1,6 +1,6 @@
 -- What a sheet means, over any lent arrays, and when each number is returned. The sentences quoted are document 02's, of T-04. Assumes nothing.
+use Rattle.std.specs.declared.option.Option.{Option}
 use Rattle.std.specs.Prelude.{◌≡◌, ◌⊎◌, true, false, List, [], ◌∷◌, map, ℕ, ◌+◌, ◌<◌, length, take, drop, get_or, ℤ}
-use Rattle.std.proofs.Math.Option.{Option}
 use Rattle.integer.specs.Integer.{sum}
 use Rattle.backoff.specs.Limits.{run_limit}
 use Rattle.backoff.specs.Refusal.{array_head, broken_node, word_count, short_slice, sentence_end}

@@ -1,12 +1,11 @@
 -- The batch sheet of document 02, T-04, over any store, as start and run are lent one. The sentences quoted are that request's. Assumes nothing.
+use Rattle.std.specs.declared.option.Option.{Option}
 use Rattle.std.specs.Prelude.{cond, List, [], ◌∷◌, ◌++◌, ℕ, ◌+◌, length, drop, replicate, ℤ, pos, eqb}
-use Rattle.std.proofs.Math.Option.{Option}
 use Rattle.backoff.specs.Refusal.{broken_node}
 use Rattle.backoff.specs.Counts.{has_matched, says_unknown, count}
 use Rattle.backoff.specs.Run.{Run, written}
 use Rattle.backoff.specs.Store.{Store}
-use Rattle.sentence_ends.specs.declared.Refusal.{Refusal}
-use Rattle.sentence_ends.specs.Ends.{last_end, early_refusal}
+use Rattle.sentence_ends.specs.Ends.{Refusal, last_end, early_refusal}
 use Rattle.stretches.specs.Stretches.{sentences, word_points, word_bytes, closing_bytes, total_of, first_refused}
 use Rattle.batch.specs.declared.Sheet.{Sheet}
 

@@ -1,10 +1,11 @@
 -- The array that the placing rule fixes for an accepted list, cut to enough slots: 11 lets it pass, and as a model it is the list. And what an accepted
 -- outcome of build says. Assumes nothing.
+use Rattle.std.specs.declared.option.Option.{Option}
+use Rattle.std.specs.declared.option.Option.TheVariants.{Some, None}
 use mathlib.Core.Path.{◌≡◌, refl, sym, ap, ◌∙◌}
 use mathlib.Core.Logic.{◌≢◌}
 use mathlib.Core.Bool.{Bool, true, false, cond, ◌&&◌, true≢false, false≢true}
 use mathlib.Core.List.{List, [], ◌∷◌, reverse}
-use mathlib.Core.Option.{Option, none, some}
 use Prim.Native.Nat.{ℕ, ◌≤◌, ◌<◌}
 use native.Mathlib.Omega.{arith}
 use borrow.Author.Tests.{leb-true}
@@ -18,14 +19,12 @@ use Rattle.backoff.specs.Refusal.{number_of, table_length, array_length, no_room
 use Rattle.backoff.specs.Model.{Entry, is_some, listed}
 use Rattle.backoff.specs.Run.{written}
 use Rattle.backoff.specs.Store.{entry_of, is_broken, look_entry, store_of, model_in}
-use Rattle.backoff.specs.declared.Verdict.{Verdict}
-use Rattle.backoff.specs.declared.Verdict.TheVariants.{Accepted, Refused}
+use Rattle.backoff.specs.Refusal.{Verdict}
+use Rattle.backoff.specs.Refusal.{Accepted, Refused}
 use Rattle.backoff.proofs.Model.{model_ext}
 use Rattle.backoff.proofs.Store.{entry_of-look_entry, look_entry-sound, Whole}
 use Rattle.rows.specs.Table.{rows_of, order_of, words}
 use Rattle.row_search.specs.Search.{find_in}
-use Rattle.row_search.specs.declared.Found.{Found}
-use Rattle.row_search.specs.declared.Found.TheVariants.{At, Nothing}
 use Rattle.row_search.proofs.Search.{found-words}
 use Rattle.list.specs.Check.{table_fits, verdict}
 use Rattle.list.specs.ListModel.{entry_at, model_of}
@@ -59,9 +58,9 @@ module _ (t : List ℤ) (a : verdict t ≡ Accepted) where
   unfolding listed model_of
   word_row_lem w e = go (find_in t (w ∷ [])) refl e
     where
-      go : (f : Found) → find_in t (w ∷ []) ≡ f → is_some (entry_at t (w ∷ []) f) ≡ true → (j : ℕ) × (j < rows_of t) × (words t j ≡ w ∷ [])
-      go (At j) q h = let r = found-words t (w ∷ []) j q in (j, r.0, r.1)
-      go Nothing q h = absurd (false≢true h)
+      go : (f : Option ℕ) → find_in t (w ∷ []) ≡ f → is_some (entry_at t (w ∷ []) f) ≡ true → (j : ℕ) × (j < rows_of t) × (words t j ≡ w ∷ [])
+      go (Some j) q h = let r = found-words t (w ∷ []) j q in (j, r.0, r.1)
+      go None q h = absurd (false≢true h)
 
   -- words 1, 2 and 3 have rows of their own
   three_rows : 3 ≤ rows_of t
@@ -76,20 +75,20 @@ module _ (t : List ℤ) (a : verdict t ≡ Accepted) where
       apart i j p q n e = n (let f : words t i ≡ words t j = ap (words t) e in cc)
 
   -- no words are no row
-  empty-unlisted : (model_of t).find [] ≡ none
+  empty-unlisted : (model_of t).find [] ≡ None
   unfolding listed
   empty-unlisted = go ((model_of t).find []) (accepted-model t a).nonempty
     where
-      go : (o : Option Entry) → is_some o ≡ false → o ≡ none
-      go none e = refl
-      go (some x) e = absurd (true≢false e)
+      go : (o : Option Entry) → is_some o ≡ false → o ≡ None
+      go None e = refl
+      go (Some x) e = absurd (true≢false e)
 
   -- a row's node says what its row has
-  found-look : (ws : List ℕ) (f : Found) → find_in t ws ≡ f → look_node (node_if t f) ≡ look_entry (entry_at t ws f)
-  found-look ws (At j) e =
+  found-look : (ws : List ℕ) (f : Option ℕ) → find_in t ws ≡ f → look_node (node_if t f) ≡ look_entry (entry_at t ws f)
+  found-look ws (Some j) e =
       let w = found-words t ws j e in
       rw (row_marker t a j w.0, w.1)
-  found-look ws Nothing e = refl
+  found-look ws None e = refl
 
   -- ---- the first N slots
 
@@ -218,15 +217,15 @@ module _ (table base check : List ℤ) (work : List ℕ) where
       rw (k.base-slots, k.check-slots) (built-holds table k.accepted (length base) k.sizes.low k.sizes.high k.room)
 
 -- and they open to the list's own store, however many slots there are
-held-opened : {t base check : List ℤ} → HoldsList t base check → opened base check ≡ some (store_of (model_of t))
+held-opened : {t base check : List ℤ} → HoldsList t base check → opened base check ≡ Some (store_of (model_of t))
 unfolding store_in store_of model_of
-held-opened {t} {base} {check} h = opened_some base check h.array ∙ ap some store
+held-opened {t} {base} {check} h = opened_some base check h.array ∙ ap Some store
   where
     store : store_in base check ≡ store_of (model_of t)
     store = λ i. record { order = h.order i; look = λ l. h.look l i }
 
 pub build_opened : (table base check : List ℤ) (work : List ℕ) → (build_outcome table base check work).answer ≡ Accepted
-    → opened (build_outcome table base check work).base (build_outcome table base check work).check ≡ some (store_of (model_of table))
+    → opened (build_outcome table base check work).base (build_outcome table base check work).check ≡ Some (store_of (model_of table))
 build_opened table base check work e = held-opened (build_holds table base check work e)
 
 -- a refusal's number is never 0, so that the number alone tells an accepted build

@@ -13,8 +13,8 @@ use lib.Seq.{take_at}
 use Rattle.integer.proofs.Ranges.{and_both}
 use Rattle.backoff.specs.Refusal.{no_room}
 use Rattle.backoff.specs.Run.{written}
-use Rattle.backoff.specs.declared.Verdict.{Verdict}
-use Rattle.backoff.specs.declared.Verdict.TheVariants.{Accepted, Refused}
+use Rattle.backoff.specs.Refusal.{Verdict}
+use Rattle.backoff.specs.Refusal.{Accepted, Refused}
 use Rattle.rows.specs.Table.{rows_of, order_of}
 use Rattle.list.specs.Check.{table_fits, verdict}
 use Rattle.list.proofs.Check.{accepted-size, table_passes}

@@ -1,4 +1,6 @@
 -- Over the array that an accepted build leaves, a lookup finds exactly the rows of the list, each with its own p and b, and with left exactly where some row puts a further word in front. Assumes nothing.
+use Rattle.std.specs.declared.option.Option.{Option}
+use Rattle.std.specs.declared.option.Option.TheVariants.{Some, None}
 use mathlib.Core.Path.{◌≡◌, refl, sym, ap, ◌∙◌}
 use mathlib.Core.Bool.{Bool, true, false, cond, ◌&&◌}
 use mathlib.Core.List.{List, reverse, reverse-reverse}
@@ -12,34 +14,32 @@ use Rattle.backoff.specs.Limits.{order_limit}
 use Rattle.backoff.specs.Refusal.{word_count}
 use Rattle.backoff.specs.Model.{listed}
 use Rattle.backoff.specs.Store.{look_entry}
-use Rattle.backoff.specs.declared.Verdict.TheVariants.{Accepted}
+use Rattle.backoff.specs.Refusal.{Accepted}
 use Rattle.rows.specs.Table.{order_of}
 use Rattle.row_search.specs.Search.{find_in}
-use Rattle.row_search.specs.declared.Found.{Found as Row}
-use Rattle.row_search.specs.declared.Found.TheVariants.{At, Nothing}
 use Rattle.list.specs.Check.{verdict}
 use Rattle.list.specs.ListModel.{entry_at, model_of}
 use Rattle.list.proofs.ListModel.{accepted-model}
 use Rattle.double_array.specs.DoubleArray.{look_row, order_in, store_in}
 use Rattle.double_array.proofs.DoubleArray.{opened_some}
 use Rattle.lookup.specs.Lookup.{lookup_of, lookup_outcome}
-use Rattle.lookup.specs.declared.Lookup.TheVariants.{NotFound, Refused}
+use Rattle.lookup.specs.Lookup.{NotFound, Refused}
 use Rattle.build.specs.Build.{build_outcome}
 use Rattle.build.specs.Listed.{answer_at, listed_answer}
 use Rattle.build.proofs.Built.{HoldsList, build_accepted, build_holds}
 
 module _ (t : List ℤ) (a : verdict t ≡ Accepted) (ws : List ℕ) where
   -- more words than the order are not listed
-  pub above-order : order_of t < length ws → (f : Row) → find_in t ws ≡ f → f ≡ Nothing
+  pub above-order : order_of t < length ws → (f : Option ℕ) → find_in t ws ≡ f → f ≡ None
   unfolding listed model_of
-  above-order h Nothing e = refl
-  above-order h (At j) e =
+  above-order h None e = refl
+  above-order h (Some j) e =
       let l : listed (model_of t) (reverse ws) ≡ true = rw (reverse-reverse ws, e) in
       absurd (omega (arith, (accepted-model t a).short (reverse ws) l, length-reverse ws))
 
-  pub looked-up : (f : Row) → lookup_of (look_entry (entry_at t ws f)) ≡ answer_at t ws f
-  looked-up (At j) = refl
-  looked-up Nothing = refl
+  pub looked-up : (f : Option ℕ) → lookup_of (look_entry (entry_at t ws f)) ≡ answer_at t ws f
+  looked-up (Some j) = refl
+  looked-up None = refl
 
   module _ {base check : List ℤ} (h : HoldsList t base check) where
     walked : lookup_of (look_row base check (reverse ws)) ≡ answer_at t ws (find_in t ws)

@@ -11,8 +11,8 @@ use borrow.Author.Tests.{eqb-false, leb-true, leb-false}
 use Rattle.integer.proofs.Ranges.{and_left, and_right}
 use Rattle.backoff.specs.Limits.{slot_limit}
 use Rattle.backoff.specs.Refusal.{number_of, place_of, table_length, array_length}
-use Rattle.backoff.specs.declared.Verdict.{Verdict}
-use Rattle.backoff.specs.declared.Verdict.TheVariants.{Accepted, Refused}
+use Rattle.backoff.specs.Refusal.{Verdict}
+use Rattle.backoff.specs.Refusal.{Accepted, Refused}
 use Rattle.rows.specs.Table.{rows_of}
 use Rattle.list.specs.Check.{verdict, table_fits}
 use Rattle.list.proofs.Check.{verdict-refused}

@@ -9,8 +9,8 @@ use lib.IntN.{ℤ}
 use lib.ListN.{length, take, drop, replicate, length-replicate, drop_of_length-le, length-take, take-append-drop}
 use Rattle.backoff.specs.Refusal.{table_length, array_length}
 use Rattle.backoff.specs.Run.{written}
-use Rattle.backoff.specs.declared.Verdict.{Verdict}
-use Rattle.backoff.specs.declared.Verdict.TheVariants.{Accepted, Refused}
+use Rattle.backoff.specs.Refusal.{Verdict}
+use Rattle.backoff.specs.Refusal.{Accepted, Refused}
 use Rattle.rows.specs.Table.{rows_of}
 use Rattle.list.specs.Check.{verdict, table_fits}
 use Rattle.double_array.specs.DoubleArray.{sizes_ok}

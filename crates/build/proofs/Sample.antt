@@ -9,7 +9,7 @@ use Rattle.backoff.specs.Words.{same_words}
 use Rattle.backoff.specs.Model.{in_probability, in_backoff}
 use Rattle.backoff.specs.Refusal.{no_room}
 use Rattle.backoff.specs.Run.{written}
-use Rattle.backoff.specs.declared.Verdict.TheVariants.{Accepted, Refused}
+use Rattle.backoff.specs.Refusal.{Accepted, Refused}
 use Rattle.rows.specs.Table.{rows_of, field, length_of, order_of, words_of, words, without_first, without_last, place_fits, places_fit}
 use Rattle.rows.specs.Order.{last_less, precedes}
 use Rattle.row_search.specs.Search.{find_below, find_in}

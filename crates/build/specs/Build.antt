@@ -1,7 +1,7 @@
 -- The outcome of build, for every table and all lent slices: 1, 2, then row by row 3 to 8, then 9, 10. Assumes nothing.
 use Rattle.std.specs.Prelude.{cond, ◌&&◌, List, ℕ, leb, length, ℤ}
 use Rattle.backoff.specs.Refusal.{table_length, array_length}
-use Rattle.backoff.specs.declared.Verdict.TheVariants.{Refused}
+use Rattle.backoff.specs.Refusal.{Refused}
 use Rattle.rows.specs.Table.{rows_of}
 use Rattle.list.specs.Check.{table_fits, verdict}
 use Rattle.double_array.specs.DoubleArray.{sizes_ok}

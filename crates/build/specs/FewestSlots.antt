@@ -2,7 +2,7 @@
 use Rattle.std.specs.Prelude.{◌≡◌, true, List, ◌++◌, ℕ, ◌-◌, ◌≤◌, ◌<◌, length, take, replicate, ℤ, pos}
 use Rattle.backoff.specs.Refusal.{no_room}
 use Rattle.backoff.specs.Run.{written}
-use Rattle.backoff.specs.declared.Verdict.TheVariants.{Accepted, Refused}
+use Rattle.backoff.specs.Refusal.{Accepted, Refused}
 use Rattle.rows.specs.Table.{rows_of}
 use Rattle.child_slots.specs.Children.{free_check}
 use Rattle.double_array.specs.DoubleArray.{sizes_ok}

@@ -1,6 +1,6 @@
 -- What the answers of build mean, for every table and all lent slices. Assumes nothing.
+use Rattle.std.specs.declared.option.Option.TheVariants.{Some}
 use Rattle.std.specs.Prelude.{◌≡◌, false, List, ℕ, ◌≤◌, ◌<◌, length, ℤ}
-use Rattle.std.proofs.Math.Option.{some}
 use Rattle.backoff.specs.Limits.{slot_limit}
 use Rattle.backoff.specs.Refusal.{table_length, array_length, no_room}
 use Rattle.backoff.specs.Model.{AcceptedModel}
@@ -32,7 +32,7 @@ module _ (table base check : List ℤ) (work : List ℕ) where
 pub record HoldsModel (table : List ℤ) (N : ℕ) (base check : List ℤ) : Type 0 where
   pub accepted : AcceptedModel (model_of table)
   pub room : (placed_list table).top ≤ N
-  pub opens : opened base check ≡ some (store_in base check)
+  pub opens : opened base check ≡ Some (store_in base check)
   pub model : model_in (store_in base check) ≡ model_of table
 
 -- The number and the place that were returned, and the array as it is left.

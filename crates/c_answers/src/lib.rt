@@ -1,11 +1,13 @@
 // Answers as they cross to C, where all are numbers. The definitions that the contracts cite are in specs/.
 #![tactic(auto)]
 
-ghost use Rattle.c_answers.specs.Answers.{StatusIs, FoundIs, RowCountIs};
+ghost use Rattle.backoff.specs.Refusal.{verdict_of};
+ghost use Rattle.lookup.specs.Lookup.{lookup_answer};
+ghost use Rattle.arpa_reading.specs.Rows.{rows_in};
+ghost use Rattle.c_answers.specs.Answers.{StatusIs, FoundIs, TotalOf, RowCountIs};
 
-use arpa_reading::Rows;
-use backoff::Verdict;
-use lookup::Lookup;
+use backoff::Refusal;
+use lookup::Listed;
 
 // The refusal's number and place, 0 and 0 where nothing is refused.
 #[repr(C)]
@@ -36,7 +38,7 @@ pub struct Total {
     pub total: i64,
 }
 
-// The answer of a reading: the row count, or the refusal's number with its line or row.
+// The answer of a reading or a filling: the row count, or the refusal's number with its line or row.
 #[repr(C)]
 #[derive(Drop)]
 pub struct RowCount {
@@ -45,65 +47,86 @@ pub struct RowCount {
     pub place: u64,
 }
 
-// A verdict's number and place.
-pub fn status_of(v: Verdict) -> Status
-    ensures { StatusIs v result }
-{
-    match v {
-        Verdict::Accepted => Status {
-            number: 0,
-            place: 0,
-        },
-        Verdict::Refused { number, place } => Status { number, place },
+impl From<Result<(), Refusal>> for Status {
+    ghost from_gives = { λ answer status. StatusIs (verdict_of answer) status };
+
+    fn from(answer: Result<(), Refusal>) -> Status {
+        match answer {
+            Ok(()) => Status {
+                number: 0,
+                place: 0,
+            },
+            Err(Refusal { reason, place }) => Status {
+                number: u32::from(reason),
+                place,
+            },
+        }
     }
 }
 
-// A lookup's answer in numbers.
-pub fn found_of(l: Lookup) -> Found
-    ensures { FoundIs l result }
-{
-    match l {
-        Lookup::Found { p, b, left } => Found {
-            number: 0,
-            place: 0,
-            found: 1,
-            p,
-            b,
-            left: left as u32,
-        },
-        Lookup::NotFound => Found {
+impl From<Result<Option<Listed>, Refusal>> for Found {
+    ghost from_gives = { λ answer found. FoundIs (lookup_answer answer) found };
+
+    fn from(answer: Result<Option<Listed>, Refusal>) -> Found {
+        let mut found = Found {
             number: 0,
             place: 0,
             found: 0,
             p: 0,
             b: 0,
             left: 0,
-        },
-        Lookup::Refused { number, place } => Found {
-            number,
-            place,
-            found: 0,
-            p: 0,
-            b: 0,
-            left: 0,
-        },
+        };
+        match answer {
+            Ok(Some(listed)) => {
+                found.found = 1;
+                found.p = listed.p;
+                found.b = listed.b;
+                found.left = u32::from(listed.left);
+            }
+            Ok(None) => {}
+            Err(refusal) => {
+                found.number = u32::from(refusal.reason);
+                found.place = refusal.place;
+            }
+        }
+        found
     }
 }
 
-// A reading's answer in numbers.
-pub fn row_count_of(a: Rows) -> RowCount
-    ensures { RowCountIs a result }
-{
-    match a {
-        Rows::Read { rows } => RowCount {
-            number: 0,
-            rows,
-            place: 0,
-        },
-        Rows::Refused { number, place } => RowCount {
-            number,
-            rows: 0,
-            place,
-        },
+impl From<Result<i64, Refusal>> for Total {
+    ghost from_gives = { λ answer total. TotalOf answer total };
+
+    fn from(answer: Result<i64, Refusal>) -> Total {
+        match answer {
+            Ok(total) => Total {
+                number: 0,
+                place: 0,
+                total,
+            },
+            Err(refusal) => Total {
+                number: u32::from(refusal.reason),
+                place: refusal.place,
+                total: 0,
+            },
+        }
+    }
+}
+
+impl From<Result<u32, Refusal<u64>>> for RowCount {
+    ghost from_gives = { λ answer count. RowCountIs (rows_in answer) count };
+
+    fn from(answer: Result<u32, Refusal<u64>>) -> RowCount {
+        match answer {
+            Ok(rows) => RowCount {
+                number: 0,
+                rows,
+                place: 0,
+            },
+            Err(refusal) => RowCount {
+                number: u32::from(refusal.reason),
+                rows: 0,
+                place: refusal.place,
+            },
+        }
     }
 }

@@ -1,11 +1,15 @@
 -- How start and run cross: a slice of another length than nine, and answers whose state is nine numbers. Assumes nothing.
+use Rattle.std.specs.declared.option.Option.{Option}
 use mathlib.Core.Path.{◌≡◌, refl, ap, ◌∙◌}
 use mathlib.Core.List.{List}
-use mathlib.Core.Option.{Option}
 use Prim.Native.Nat.{ℕ}
 use lib.ListN.{length}
-use lib.IntN.{ℤ, pos}
+use lib.IntN.{ℤ}
 use borrow.Author.Tests.{eq-eqb, ne_eqb}
+use Rattle.std.specs.declared.result.Result.TheVariants.{Err}
+use Rattle.backoff.specs.declared.Reason.TheVariants.{BadState}
+use Rattle.backoff.specs.declared.Refusal.{Refusal}
+use Rattle.backoff.specs.Refusal.{reason_number, verdict_of}
 use Rattle.backoff.specs.Run.{Run, Answer, refused_run}
 use Rattle.backoff.specs.NineNumbers.{nine_zeros}
 use Rattle.backoff.specs.Store.{Store, Started, run_outcome, start_outcome}
@@ -14,37 +18,32 @@ use Rattle.score.specs.Meaning.{StartMeans, RunMeans}
 use Rattle.score.proofs.Outcomes.{start_means as started-means, run_means as ran-means}
 use Rattle.c_answers.specs.declared.Status.{Status}
 use Rattle.c_answers.specs.declared.Total.{Total}
+use Rattle.c_answers.specs.Answers.{StatusIs, TotalOf}
 use Rattle.c_scoring.specs.Crossing.{StartedIs, RanIs}
 
-module _ (o : Option Store) (l : List ℤ) (n : length l ≡ 9 → ⊥) where
-  pub start_wrong_length : StartedIs (start_outcome o l) (record { number = 16; place = 0 }) l
+module _ (o : Option Store) (l : List ℤ) (n : length l ≡ 9 → ⊥) {refusal : Refusal ℕ} (is : refusal ≡ (record { reason = BadState; place = 0 })) where
+  pub start_wrong_length : {answer : Status} → StatusIs (verdict_of (Err refusal)) answer → StartedIs (start_outcome o l) answer l
   unfolding start_outcome
-  start_wrong_length = rw (ne_eqb (length l) 9 n) (record { number = refl; place = refl; state-is = refl })
+  start_wrong_length status = rw (ne_eqb (length l) 9 n) (record { number = status.number ∙ ap (λ (r : Refusal ℕ). reason_number r.reason) is; place = status.place ∙ ap (λ (r : Refusal ℕ). r.place) is; state-is = refl })
 
-  pub run_wrong_length : (r : Run) → RanIs (run_outcome o l r) (record { number = 16; place = 0; total = pos 0 }) l r.points r.lengths
+  pub run_wrong_length : (r : Run) {answer : Total} → TotalOf (Err refusal) answer → RanIs (run_outcome o l r) answer l r.points r.lengths
   unfolding run_outcome refused_run
-  run_wrong_length r = rw (ne_eqb (length l) 9 n) (record { total = record { number = refl; place = refl; total = refl; points_are = refl; lengths_are = refl }; end_is = refl })
+  run_wrong_length r total = rw (ne_eqb (length l) 9 n) (record { total = record { number = total.number ∙ ap (λ (r : Refusal ℕ). reason_number r.reason) is; place = total.place ∙ ap (λ (r : Refusal ℕ). r.place) is; total = total.total; points_are = refl; lengths_are = refl }; end_is = refl })
 
 -- start does not read the slice that it is lent
 pub start_any : (o : Option Store) (l : List ℤ) → length l ≡ 9 → start_outcome o nine_zeros ≡ start_outcome o l
 unfolding start_outcome
 start_any o l e = rw (eq-eqb (length l) 9 e)
 
-module _ {number place : ℕ} where
-  pub start_crosses : {a : Started} {state end : List ℤ} → ◌≡◌ {A = Started} (record { number = number; place = place; state = state }) a → end ≡ state → StartedIs a (record { number = number; place = place }) end
-  start_crosses e f = record { number = ap (λ (x : Started). x.number) e; place = ap (λ (x : Started). x.place) e; state-is = f ∙ ap (λ (x : Started). x.state) e }
-
-  pub run_crosses : {a : Answer (List ℤ)} {total bits : ℤ} {state end points : List ℤ} {lengths : List ℕ} → ◌≡◌ {A = Answer (List ℤ)} (record { number = number; place = place; total = total; end = state; points = points; lengths = lengths }) a → bits ≡ total → end ≡ state → RanIs a (record { number = number; place = place; total = bits }) end points lengths
-  run_crosses e f g = record {
-    total = record {
-      number = ap (λ (x : Answer (List ℤ)). x.number) e;
-      place = ap (λ (x : Answer (List ℤ)). x.place) e;
-      total = f ∙ ap (λ (x : Answer (List ℤ)). x.total) e;
-      points_are = ap (λ (x : Answer (List ℤ)). x.points) e;
-      lengths_are = ap (λ (x : Answer (List ℤ)). x.lengths) e;
-    };
-    end_is = g ∙ ap (λ (x : Answer (List ℤ)). x.end) e;
-  }
+pub start_crosses : (o : Option Store) (l : List ℤ) → length l ≡ 9 → {number place : ℕ} {state end : List ℤ} {answer : Status} → ◌≡◌ {A = Started} (record { number = number; place = place; state = state }) (start_outcome o nine_zeros) → answer.number ≡ number → answer.place ≡ place → end ≡ state → StartedIs (start_outcome o l) answer end
+start_crosses o l nine-long {number} {place} {state} {end} {answer} is n p e = record {
+  number = n ∙ ap (λ (x : Started). x.number) same;
+  place = p ∙ ap (λ (x : Started). x.place) same;
+  state-is = e ∙ ap (λ (x : Started). x.state) same;
+}
+  where
+    same : ◌≡◌ {A = Started} (record { number = number; place = place; state = state }) (start_outcome o l)
+    same = is ∙ start_any o l nine-long
 
 -- ---- what crossed means what the outcome means
 

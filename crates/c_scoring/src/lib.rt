@@ -6,7 +6,9 @@ ghost use Rattle.double_array.specs.DoubleArray.{opened};
 ghost use Rattle.score.specs.Meaning.{StartMeans, RunMeans};
 ghost use Rattle.c_scoring.specs.Crossing.{StartedIs, RanIs};
 
+use backoff::{Reason, Refusal};
 use c_answers::{Status, Total};
+use carried_state::State;
 
 // A state crosses as nine numbers.
 const STATE_LENGTH: usize = 9;
@@ -17,17 +19,17 @@ pub fn start_into(base: &[i32], check: &[i32], state: &mut [i32]) -> Status
     ensures meaning { StartMeans base.now check.now state.old result.number result.place state.new }
 {
     if state.len() != STATE_LENGTH {
-        return Status {
-            number: backoff::BAD_STATE,
-            place: 0,
-        };
+        return Status::from(Err(Refusal::from(Reason::BadState)));
     }
-    let started = score::start(base, check);
-    let begun = started.state;
-    c_states::store(begun, state);
-    Status {
-        number: started.number,
-        place: started.place,
+    match score::start(base, check) {
+        Ok(started) => {
+            c_states::store(started, state);
+            Status::from(Ok(()))
+        }
+        Err(refusal) => {
+            c_states::store(State::default(), state);
+            Status::from(Err(refusal))
+        }
     }
 }
 
@@ -44,25 +46,11 @@ pub fn run_from(
     ensures meaning { RunMeans base.now check.now state.old (record { words = words.entry.now; points = points.old; lengths = lengths.old }) (record { number = result.number; place = result.place; total = result.total; end = state.new; points = points.new; lengths = lengths.new }) }
 {
     if state.len() != STATE_LENGTH {
-        return Total {
-            number: backoff::BAD_STATE,
-            place: 0,
-            total: 0,
-        };
+        return Total::from(Err(Refusal::from(Reason::BadState)));
     }
     let ran = score::run(base, check, c_states::load(state), words, points, lengths);
-    if ran.number != 0 {
-        return Total {
-            number: ran.number,
-            place: ran.place,
-            total: ran.total,
-        };
+    if let Ok(ran) = ran {
+        c_states::store(ran.end, state);
     }
-    let end = ran.end;
-    c_states::store(end, state);
-    Total {
-        number: ran.number,
-        place: ran.place,
-        total: ran.total,
-    }
+    Total::from(ran.map(|ran| ran.total))
 }

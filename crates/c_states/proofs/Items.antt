@@ -1,16 +1,12 @@
--- A list of a known length is the list of its items; nine items that are equal one by one; and a number read back. Assumes nothing.
-use mathlib.Core.Path.{◌≡◌, refl, sym, ap, ap₂, subst, ◌∙◌}
-use mathlib.Core.List.{List, [], ◌∷◌}
-use Prim.Native.Nat.{ℕ, zero, suc, ◌+◌, ◌<◌, ◌^◌}
+-- Nine numbers as a state has them, read from a list and written to one. Assumes nothing.
+use mathlib.Core.Path.{◌≡◌, refl, sym, ap, ap₂, ◌∙◌}
+use mathlib.Core.List.{List, [], ◌∷◌, ◌++◌, append-nil}
+use Prim.Native.Nat.{ℕ, zero, suc, ◌+◌, ◌-◌}
 use native.Mathlib.Omega.{arith}
-use lib.ListN.{length, get_or, drop, drop_of_length-le}
-use lib.Seq.{drop-cons, sets, lt-length-sets}
+use lib.ListN.{length, get_or, drop, set, length-drop, drop_of_length-le}
+use lib.Seq.{drop-cons}
 use lib.IntN.{ℤ, pos}
-use lib.Signed.{mag}
-use mir.Syntax.{w32}
-use mir.Val.{to_z, of_z}
-use mir.Facts.{to_z-of_z}
-use borrow.Author.Rules.{sfits_of}
+use borrow.Rule.Slice.PartMut.{put_mid}
 
 -- k items from place i on
 abbrev pub items : ℕ → ℕ → List ℤ → List ℤ
@@ -28,10 +24,15 @@ pub equal_nine : {a b c d e f g h i a' b' c' d' e' f' g' h' i' : ℤ} → a ≡ 
     → a ∷ b ∷ c ∷ d ∷ e ∷ f ∷ g ∷ h ∷ i ∷ [] ≡ a' ∷ b' ∷ c' ∷ d' ∷ e' ∷ f' ∷ g' ∷ h' ∷ i' ∷ []
 equal_nine p q r s t u v w x = equal_item p (equal_item q (equal_item r (equal_item s (equal_item t (equal_item u (equal_item v (equal_item w (equal_item x refl))))))))
 
--- a number of 32 bits is what it is read back as
-pub read_back : {z : ℤ} → mag z < 2 ^ 31 → to_z w32 (of_z w32 z) ≡ z
-read_back {z} f = to_z-of_z {w = w32} {z = z} (sfits_of f)
-
--- a place of nine is one after a run of stores too
-pub in_nine : {i : ℕ} (l : List ℤ) → length l ≡ 9 → (vs : List ℤ) → i < 9 → i < length (sets l 0 vs)
-in_nine {i} l e vs h = lt-length-sets l 0 vs (subst (λ (n : ℕ). i < n) (sym e) h)
+-- a count at the front of nine, four words behind it, and then the rest
+pub stored : (l words backoffs : List ℤ) (count : ℤ) → length l ≡ 9 → length words ≡ 4 → put_mid 5 (length (put_mid 1 4 (set l 0 count) words) - 5) (put_mid 1 4 (set l 0 count) words) backoffs ≡ count ∷ (words ++ backoffs)
+stored [] words backoffs count e f = absurd (omega arith)
+stored (x ∷ t) (a ∷ b ∷ c ∷ d ∷ []) backoffs count e f =
+    let n = length (count ∷ a ∷ b ∷ c ∷ d ∷ drop 4 t) - 5 in
+    let nothing : drop n (drop 4 t) ≡ [] = drop_of_length-le (drop 4 t) {i = n} (omega (arith, length-drop 4 t)) in
+    ap (λ (r : List ℤ). count ∷ a ∷ b ∷ c ∷ d ∷ (backoffs ++ r)) nothing ∙ ap (λ (r : List ℤ). count ∷ a ∷ b ∷ c ∷ d ∷ r) (append-nil backoffs)
+stored (x ∷ t) [] backoffs count e f = absurd (omega arith)
+stored (x ∷ t) (a ∷ []) backoffs count e f = absurd (omega arith)
+stored (x ∷ t) (a ∷ b ∷ []) backoffs count e f = absurd (omega arith)
+stored (x ∷ t) (a ∷ b ∷ c ∷ []) backoffs count e f = absurd (omega arith)
+stored (x ∷ t) (a ∷ b ∷ c ∷ d ∷ y ∷ s) backoffs count e f = absurd (omega arith)

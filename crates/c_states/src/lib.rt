@@ -23,16 +23,7 @@ pub fn store(state: State, numbers: &mut [i32])
     requires { length numbers.old ≡ 9 }
     ensures { numbers.new ≡ numbers_of state }
 {
-    let count = state.count;
-    let words = state.words;
-    let backoffs = state.backoffs;
-    numbers[0] = count;
-    numbers[1] = words[0];
-    numbers[2] = words[1];
-    numbers[3] = words[2];
-    numbers[4] = words[3];
-    numbers[5] = backoffs[0];
-    numbers[6] = backoffs[1];
-    numbers[7] = backoffs[2];
-    numbers[8] = backoffs[3];
+    numbers[0] = state.count;
+    numbers[1..5].copy_from_slice(&state.words);
+    numbers[5..].copy_from_slice(&state.backoffs);
 }

@@ -1,4 +1,5 @@
 -- The laws of the carried state.
+pub mod Contained
 pub mod Parts
 pub mod Digits
 pub mod Carried

@@ -92,3 +92,18 @@ first-four (a ∷ []) h = absurd (omega arith)
 first-four (a ∷ b ∷ []) h = absurd (omega arith)
 first-four (a ∷ b ∷ c ∷ []) h = absurd (omega arith)
 first-four (a ∷ b ∷ c ∷ d ∷ xs) h = refl
+
+-- as many items as are kept are cut by nothing
+pub cut-none : (i k : ℕ) (xs : List ℤ) → i ≤ k → cut_to i k xs ≡ xs
+cut-none zero k xs h = refl
+cut-none (suc i) k [] h = refl
+cut-none (suc i) zero (x ∷ xs) h = absurd (omega arith)
+cut-none (suc i) (suc k) (x ∷ xs) h = ap (λ (l : List ℤ). x ∷ l) (cut-none i k xs (omega arith))
+
+-- no item is left to be cut
+pub cut-all : (i k : ℕ) (xs : List ℤ) → length xs ≤ i → cut_to i k xs ≡ cut_to (length xs) k xs
+cut-all zero k [] h = refl
+cut-all (suc i) k [] h = refl
+cut-all zero k (x ∷ xs) h = absurd (omega arith)
+cut-all (suc i) zero (x ∷ xs) h = ap (λ (l : List ℤ). pos 0 ∷ l) (cut-all i zero xs (omega arith))
+cut-all (suc i) (suc k) (x ∷ xs) h = ap (λ (l : List ℤ). x ∷ l) (cut-all i k xs (omega arith))

@@ -1,6 +1,6 @@
 -- One sentence over any store, as start and run are lent one. The sentences quoted are document 02's, of T-04. Assumes nothing.
+use Rattle.std.specs.declared.option.Option.{Option}
 use Rattle.std.specs.Prelude.{Bool, ◌&&◌, List, [], ◌∷◌, ℤ, pos, ◌+ℤ◌, eqb}
-use Rattle.std.proofs.Math.Option.{Option}
 use Rattle.backoff.specs.Limits.{end_word}
 use Rattle.backoff.specs.Run.{Run, Answer}
 use Rattle.backoff.specs.Store.{Store, run_outcome}

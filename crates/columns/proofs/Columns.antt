@@ -1,4 +1,5 @@
 -- Laws of specs/Columns.antt: reading a column and printing a number are inverse. Assumes nothing.
+use Rattle.std.specs.declared.option.Option.TheVariants.{Some, None}
 use mathlib.Core.Path.{◌≡◌, refl, sym, ap, subst, ◌∙◌}
 use mathlib.Core.Bool.{Bool, true, false, not, cond, ◌&&◌}
 use mathlib.Core.List.{List, [], ◌∷◌, ◌++◌}
@@ -17,7 +18,6 @@ use Rattle.integer.proofs.Ranges.{and_left, and_right, between-low, between-high
 use Rattle.integer.proofs.Stores.{sets_append}
 use Rattle.decimal.specs.Digits.{digits, is_natural, value_from}
 use Rattle.decimal.proofs.Digits.{digits_lead, digits-natural, value_digits, natural-digits, digits_le, digits_bound}
-use Rattle.columns.specs.declared.Column.TheVariants.{Number, NotInForm}
 use Rattle.columns.specs.Columns.{signed, numeral, justified, column, least_number, greatest_number, Held, without_spaces, if_held, read_natural, read_negative, read_numeral, read_column, ColumnMeans}
 
 -- ---- spaces
@@ -75,27 +75,27 @@ read-numeral (negsuc n) = rw (digits-natural (suc n), value_digits (suc n), eqb-
 abbrev In32 : ℤ → Type 0
 In32 z = (least_number ≤ℤ z) × (z ≤ℤ greatest_number)
 
-if_held_lem : (z : ℤ) → least_number ≤ℤ z → z ≤ℤ greatest_number → if_held z ≡ Number z
+if_held_lem : (z : ℤ) → least_number ≤ℤ z → z ≤ℤ greatest_number → if_held z ≡ Some z
 unfolding if_held
 if_held_lem z l h = rw (between-yes least_number greatest_number z l h) refl
 
-no_number : (z : ℤ) → NotInForm ≡ Number z → ⊥
+no_number : (z : ℤ) → None ≡ Some z → ⊥
 no_number z e = let n : ◌≡◌ {A = ℕ} 0 1 = cc in omega arith
 
 -- an answer by cases is a number only where the test held
-picked : (t : Bool) (y z : ℤ) → cond t (Number y) NotInForm ≡ Number z → (t ≡ true) × (y ≡ z)
+picked : (t : Bool) (y z : ℤ) → cond t (Some y) None ≡ Some z → (t ≡ true) × (y ≡ z)
 picked true y z e = (refl, cc)
 picked false y z e = absurd (no_number z e)
 
 -- and 32 bits hold the number
-picked_held : (t : Bool) (y z : ℤ) → cond t (if_held y) NotInForm ≡ Number z → (t ≡ true) × ((y ≡ z) × In32 z)
+picked_held : (t : Bool) (y z : ℤ) → cond t (if_held y) None ≡ Some z → (t ≡ true) × ((y ≡ z) × In32 z)
 unfolding if_held
 picked_held true y z e =
     let p = picked (between least_number greatest_number y) y z e in
     (refl, (p.1, subst In32 p.1 (between-low least_number greatest_number y p.0, between-high least_number greatest_number y p.0)))
 picked_held false y z e = absurd (no_number z e)
 
-natural-read : (text : List ℕ) (z : ℤ) → read_natural text ≡ Number z → (text ≡ numeral z) × In32 z
+natural-read : (text : List ℕ) (z : ℤ) → read_natural text ≡ Some z → (text ≡ numeral z) × In32 z
 unfolding read_natural numeral signed
 natural-read text z e =
     let p = picked_held (is_natural text) (pos (value_from 0 text)) z e in
@@ -106,7 +106,7 @@ unfolding numeral signed
 negative-numeral zero n = absurd (n refl)
 negative-numeral (suc v) n = refl
 
-negative-read : (text : List ℕ) (z : ℤ) → read_negative text ≡ Number z → (45 ∷ text ≡ numeral z) × In32 z
+negative-read : (text : List ℕ) (z : ℤ) → read_negative text ≡ Some z → (45 ∷ text ≡ numeral z) × In32 z
 unfolding read_negative
 negative-read text z e =
     let v = value_from 0 text in
@@ -114,7 +114,7 @@ negative-read text z e =
     let some = eqb-false v 0 (not-true (eqb v 0) (and_right (is_natural text) (not (eqb v 0)) p.0)) in
     (ap (λ (l : List ℕ). 45 ∷ l) (sym (natural-digits text (and_left (is_natural text) (not (eqb v 0)) p.0))) ∙ negative-numeral v some ∙ ap numeral p.1.0, p.1.1)
 
-numeral-read : (text : List ℕ) (z : ℤ) → read_numeral text ≡ Number z → (text ≡ numeral z) × In32 z
+numeral-read : (text : List ℕ) (z : ℤ) → read_numeral text ≡ Some z → (text ≡ numeral z) × In32 z
 unfolding read_numeral
 numeral-read [] z e = absurd (no_number z e)
 numeral-read (c ∷ text) z e = go (eqb c 45) refl
@@ -143,7 +143,7 @@ sets-justified out at width text =
     ∙ ap (λ (n : ℕ). sets (sets out at (replicate (width - length text) 32)) (at + n) text) (length-replicate (width - length text) 32)
 
 -- every number that a column holds is read back from its print
-pub read-column-printed : (width : ℕ) (z : ℤ) → Held width z → read_column width (column width z) ≡ Number z
+pub read-column-printed : (width : ℕ) (z : ℤ) → Held width z → read_column width (column width z) ≡ Some z
 unfolding read_column column justified
 read-column-printed width z h =
     let s = numeral_solid z in
@@ -154,7 +154,7 @@ read-column-printed width z h =
     ∙ read-numeral z ∙ if_held_lem z h.least h.greatest)
 
 -- a column that is read as z is z as it is printed
-pub printed-read : (width : ℕ) (text : List ℕ) (z : ℤ) → read_column width text ≡ Number z → (text ≡ column width z) × Held width z
+pub printed-read : (width : ℕ) (text : List ℕ) (z : ℤ) → read_column width text ≡ Some z → (text ≡ column width z) × Held width z
 unfolding read_column column
 printed-read width text z e = go (eqb (length text) width) refl
   where

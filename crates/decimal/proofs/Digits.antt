@@ -77,6 +77,16 @@ digits_lead =
 pub length-digits-more : (n : ℕ) → 10 ≤ n → length (digits n) ≡ length (digits (n / 10)) + 1
 length-digits-more n h = ap length (digits_more n h) ∙ length-append (digits (n / 10)) ((48 + n % 10) ∷ [])
 
+pub digits_more_than_one : (n : ℕ) → 1 < length (digits n) → 10 ≤ n
+digits_more_than_one n h = ⊎_elim (λ g. let e = ap length (digits-one n g) in absurd (omega arith)) (λ g. g) (lt_or_ge n 10)
+
+pub digits_just_one : (n : ℕ) → length (digits n) ≤ 1 → n < 10
+digits_just_one n h =
+    ⊎_elim
+    (λ g. g)
+    (λ g. let l = digits_lead (n / 10) in let e = ap length l.is in absurd (omega (arith, length-digits-more n g)))
+    (lt_or_ge n 10)
+
 -- a number below the power of ten has no more digits than it
 pub digits_le : (k n : ℕ) → n < 10 ^ suc k → length (digits n) ≤ suc k
 digits_le zero n h = let e = ap length (digits-one n (omega arith)) in omega arith

@@ -9,44 +9,25 @@ ghost use Rattle.decimal.specs.Digits.{digits, most_digits, all_digits, digits_u
 pub fn all_digits(text: &[u8]) -> bool
     ensures { result ≡ all_digits text.now }
 {
-    let mut i = 0;
-    while i < text.len() {
-        let c = text[i];
-        if c < b'0' {
-            return false;
-        }
-        if b'9' < c {
-            return false;
-        }
-        i += 1;
-    }
-    true
+    text.iter().all(|c| c.is_ascii_digit())
 }
 
 // Whether the text is one digit at least and at most so many.
 pub fn digits_up_to(text: &[u8], most: usize) -> bool
     ensures { result ≡ digits_up_to most text.now }
 {
-    if text.len() == 0 {
-        return false;
-    }
-    if most < text.len() {
-        return false;
-    }
-    all_digits(text)
+    (1..=most).contains(&text.len()) && all_digits(text)
 }
 
 // Whether the text is digits, and the first is 0 only where it stands alone.
 pub fn is_natural(text: &[u8]) -> bool
     ensures { result ≡ is_natural text.now }
 {
-    if text.len() == 0 {
-        return false;
+    match text {
+        [] => false,
+        [b'0', rest @ ..] => rest.is_empty(),
+        _ => all_digits(text),
     }
-    if text[0] == b'0' {
-        return text.len() == 1;
-    }
-    all_digits(text)
 }
 
 // The number that digits make, as many as 63 bits always hold.
@@ -56,11 +37,8 @@ pub fn value(text: &[u8]) -> u64
     ensures small { result < 10 ^ length text.now }
 {
     let mut sum: u64 = 0;
-    let mut i = 0;
-    while i < text.len() {
-        let c = text[i];
-        sum = 10 * sum + (c - b'0') as u64;
-        i += 1;
+    for c in text {
+        sum = 10 * sum + u64::from(*c - b'0');
     }
     sum
 }
@@ -85,10 +63,8 @@ pub fn put_digits(n: u64, out: &mut [u8], at: usize) -> usize
     ensures text { out.new ≡ sets out.old at (digits n) }
 {
     let end = at + count_digits(n);
-    let mut place = end;
     let mut rest = n;
-    while 10 <= rest {
-        place -= 1;
+    for place in (at + 1..end).rev() {
         out[place] = b'0' + (rest % 10) as u8;
         rest /= 10;
     }

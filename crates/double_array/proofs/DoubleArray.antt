@@ -1,10 +1,11 @@
 -- Laws of specs/DoubleArray.antt: a node's marker, children, the head, the walk. Of a definition by tests, the law `..-told` says in plain
 -- facts what holds where it answers, and `..-shown` is the converse. Assumes nothing.
+use Rattle.std.specs.declared.option.Option.{Option}
+use Rattle.std.specs.declared.option.Option.TheVariants.{Some, None}
 use mathlib.Core.Path.{◌≡◌, refl, sym, ◌∙◌}
 use mathlib.Core.Logic.{◌≢◌}
 use mathlib.Core.Bool.{Bool, true, false, cond, ◌&&◌, false≢true}
 use mathlib.Core.List.{List, [], ◌∷◌}
-use mathlib.Core.Option.{none, some}
 use Prim.Native.Nat.{ℕ, suc, ◌≤◌, ◌<◌}
 use native.Mathlib.Omega.{arith}
 use native.Mathlib.Decide.{ℕ_discrete}
@@ -21,12 +22,10 @@ use Rattle.backoff.specs.Words.{is_word, radix}
 use Rattle.backoff.specs.Model.{in_probability, in_backoff}
 use Rattle.backoff.specs.Store.{absent, broken, here}
 use Rattle.markers.specs.Markers.{marker_check, marker_base, marker_of}
-use Rattle.markers.specs.declared.Marker.TheVariants.{Sound, Broken}
+use Rattle.markers.specs.Markers.{Sound, Broken}
 use Rattle.markers.proofs.Markers.{marker_sound, guarded, sound-read}
 use Rattle.child_slots.specs.Children.{free_check, child_slot, base_at, check_at, owned_by, or_else, on_either_side, child_at, root_child}
 use Rattle.child_slots.proofs.Children.{owned_none, negative_childless}
-use Rattle.child_slots.specs.declared.Child.{Child}
-use Rattle.child_slots.specs.declared.Child.TheVariants.{At, Nothing}
 use Rattle.double_array.specs.DoubleArray.{head_check, kept_marker, own_marker, marker_at, down_to, look_from, sizes_ok, order_ok, head_ok, is_array, order_in, look_row, store_in, opened}
 
 -- four tests that all hold
@@ -55,6 +54,28 @@ module _ (base check : List ℤ) (s : ℕ) (p b : ℤ) (e f : Bool) where
       let tests = guarded (le_z (pos 1) d) (lt_z d (pos (length check))) (marker_of (check_at base check (nat_abs d)) (base_at base check (nat_abs d))) p b e f h in
       let r = sound-read (check_at base check (nat_abs d)) (base_at base check (nat_abs d)) p b e f tests.2 in
       record { some-base = omega zarith; inside = omega (zarith, abs d); p-packed = r.0; b-packed = r.1; p_in_range = r.2; b_in_range = r.3 }
+
+-- what it is where BASE is no slot of a marker, and where it is one
+module _ (base check : List ℤ) (s : ℕ) where
+  pub kept-low : lt_z (base_at base check s) (pos 1) ≡ true → kept_marker base check s ≡ Broken
+  unfolding kept_marker
+  kept-low h = let e : le_z (pos 1) (base_at base check s) ≡ false = omega zarith in rw e
+
+  pub kept-outside : lt_z (base_at base check s) (pos 1) ≡ false → length check ≤ nat_abs (base_at base check s) → kept_marker base check s ≡ Broken
+  unfolding kept_marker
+  kept-outside h l =
+      let d = base_at base check s in
+      let e : le_z (pos 1) d ≡ true = omega zarith in
+      let u : lt_z d (pos (length check)) ≡ false = omega (zarith, abs d) in
+      rw (e, u)
+
+  pub kept-inside : lt_z (base_at base check s) (pos 1) ≡ false → nat_abs (base_at base check s) < length check → kept_marker base check s ≡ marker_of (check_at base check (nat_abs (base_at base check s))) (base_at base check (nat_abs (base_at base check s)))
+  unfolding kept_marker
+  kept-inside h l =
+      let d = base_at base check s in
+      let e : le_z (pos 1) d ≡ true = omega zarith in
+      let u : lt_z d (pos (length check)) ≡ true = omega (zarith, abs d) in
+      rw (e, u)
 
 -- what a node of n words says where it is sound: p and nothing else
 pub record IsOwn (base check : List ℤ) (s : ℕ) (p b : ℤ) (e f : Bool) : Type 0 where
@@ -101,7 +122,7 @@ module _ (base check : List ℤ) (s : ℕ) (p b : ℤ) (e f : Bool) (sound : kep
   m = kept_told base check s p b e f sound
 
   -- its marker's CHECK is negative
-  pub marker_unowned : owned_by check s (nat_abs d) ≡ Nothing
+  pub marker_unowned : owned_by check s (nat_abs d) ≡ None
   unfolding in_probability
   marker_unowned =
       let high = between-high least_probability (pos 0) p m.p_in_range in
@@ -115,13 +136,17 @@ module _ (base check : List ℤ) (s : ℕ) (p b : ℤ) (e f : Bool) (sound : kep
       low : le_z (pos 1) d ≡ true
       low = let l = m.some-base in omega zarith
 
-      go : (t : Bool) → leb 1 w ≡ t → cond ((t && leb w word_limit) && le_z (pos 1) d) (on_either_side check s (nat_abs d) w) Nothing ≡ on_either_side check s (nat_abs d) w
+      either : (t : Bool) (c : Option ℕ) → c ≡ cond t c c
+      either true c = refl
+      either false c = refl
+
+      go : (t : Bool) → leb 1 w ≡ t → cond ((t && leb w word_limit) && le_z (pos 1) d) (on_either_side check s (nat_abs d) w) None ≡ on_either_side check s (nat_abs d) w
       go true h = rw (le-leb w word_limit (omega arith), low)
       go false h =
           let z = leb-false 1 w h in
           let ahead : child_slot false (nat_abs d) w ≡ nat_abs d = omega arith in
           let back : child_slot true (nat_abs d) w ≡ nat_abs d = omega arith in
-          rw (ahead, back, marker_unowned) (elim (ltb w (nat_abs d)) as (λ r. Nothing ≡ cond r Nothing Nothing) [ true ↦ refl | false ↦ refl ])
+          rw (ahead, back, marker_unowned) (either (ltb w (nat_abs d)) None)
 
 -- ---- the head
 
@@ -211,20 +236,20 @@ module _ (base check : List ℤ) (h : is_array base check ≡ true) where
   unfolding child_at is_word
   root-child w = rw opened-head.root-base (go (leb 1 w) refl)
     where
-      alone : (c : Child) → c ≡ or_else c Nothing
-      alone (At t) = refl
-      alone Nothing = refl
+      alone : (c : Option ℕ) → c ≡ or_else c None
+      alone (Some t) = refl
+      alone None = refl
 
-      go : (t : Bool) → leb 1 w ≡ t → cond (t && leb w word_limit) (owned_by check 0 (child_slot false 1 w)) Nothing
-          ≡ cond ((t && leb w word_limit) && true) (on_either_side check 0 1 w) Nothing
-      go true h = rw (le-ltb w 1 (leb-true 1 w h)) (elim (leb w word_limit) as (λ r. cond r (owned_by check 0 (child_slot false 1 w)) Nothing ≡ cond (r && true) (or_else (owned_by check 0 (child_slot false 1 w)) Nothing) Nothing) [ true ↦ alone (owned_by check 0 (child_slot false 1 w)) | false ↦ refl ])
+      go : (t : Bool) → leb 1 w ≡ t → cond (t && leb w word_limit) (owned_by check 0 (child_slot false 1 w)) None
+          ≡ cond ((t && leb w word_limit) && true) (on_either_side check 0 1 w) None
+      go true h = rw (le-ltb w 1 (leb-true 1 w h)) (elim (leb w word_limit) as (λ r. cond r (owned_by check 0 (child_slot false 1 w)) None ≡ cond (r && true) (or_else (owned_by check 0 (child_slot false 1 w)) None) None) [ true ↦ alone (owned_by check 0 (child_slot false 1 w)) | false ↦ refl ])
       go false h = refl
 
-  pub opened_some : opened base check ≡ some (store_in base check)
+  pub opened_some : opened base check ≡ Some (store_in base check)
   unfolding opened
   opened_some = rw h
 
-pub opened-none : (base check : List ℤ) → is_array base check ≡ false → opened base check ≡ none
+pub opened-none : (base check : List ℤ) → is_array base check ≡ false → opened base check ≡ None
 unfolding opened
 opened-none base check h = rw h
 

@@ -1,17 +1,16 @@
 -- The double array of document 01: two lists of numbers, BASE and CHECK, of which nothing is known. The nodes' markers, the walk, the head, and the array as
 -- a store. Slots are natural numbers; words are newest first on a walk. Assumes nothing.
+use Rattle.std.specs.declared.option.Option.{Option}
+use Rattle.std.specs.declared.option.Option.TheVariants.{Some, None}
 use Rattle.std.specs.Prelude.{Bool, cond, ◌&&◌, List, [], ◌∷◌, ℕ, suc, ◌+◌, ◌-◌, eqb, leb, length, get_or, ℤ, pos, negsuc, nat_abs}
-use Rattle.std.proofs.Math.Option.{Option, none, some}
 use Rattle.std.specs.Int.Signed.{le_z, lt_z}
 use Rattle.integer.specs.Integer.{eq_z, between}
 use Rattle.backoff.specs.Limits.{order_limit, row_limit, slot_limit}
 use Rattle.backoff.specs.Store.{Look, absent, broken, Store}
 use Rattle.markers.specs.Markers.{marker_of, look_marker}
-use Rattle.markers.specs.declared.Marker.{Marker}
-use Rattle.markers.specs.declared.Marker.TheVariants.{Sound, Broken}
+use Rattle.markers.specs.Markers.{Marker}
+use Rattle.markers.specs.Markers.{Sound, Broken}
 use Rattle.child_slots.specs.Children.{free_check, base_at, check_at, child_at}
-use Rattle.child_slots.specs.declared.Child.{Child}
-use Rattle.child_slots.specs.declared.Child.TheVariants.{At, Nothing}
 
 -- "CHECK[0] becomes n + 24, and 11 meets any other head": the order, and what is added to it there
 abbrev pub head_offset : ℕ
@@ -42,9 +41,9 @@ abbrev pub past : Marker → Look → Look
 past (Sound p b e f) rest = rest
 past Broken rest = broken
 
-abbrev pub down_to : Child → (ℕ → Look) → Look
-down_to (At t) rest = rest t
-down_to Nothing rest = absent
+abbrev pub down_to : Option ℕ → (ℕ → Look) → Look
+down_to (Some t) rest = rest t
+down_to None rest = absent
 
 -- The walk from the node in slot s, to which k words have led: every node that it reaches needs a sound marker. A node of n words that has one has a negative
 -- BASE, and so no child.
@@ -82,4 +81,4 @@ store_in base check = record { order = order_in check; look = look_row base chec
 
 -- the array that start, run, lookup and unload are lent: none where 11 refuses it
 unfoldable pub opened : List ℤ → List ℤ → Option Store
-opened base check = cond (is_array base check) (some (store_in base check)) none
+opened base check = cond (is_array base check) (Some (store_in base check)) None

@@ -1,2 +1,3 @@
 -- What must be believed of a double array.
 pub mod DoubleArray
+pub mod Opened

@@ -2,11 +2,12 @@
 // are in specs/.
 #![tactic(auto)]
 
-ghost use Rattle.std.specs.Prelude.{◌≡◌, true, ◌≤◌, ◌<◌, length, replicate};
+ghost use Rattle.std.specs.Prelude.{◌≡◌, true, ◌≤◌, ◌<◌, length};
 ghost use Rattle.backoff.specs.Limits.{order_limit};
 ghost use Rattle.double_array.specs.DoubleArray.{head_check, kept_marker, marker_at, sizes_ok, order_ok, head_ok, is_array, order_in};
 
-use markers::Marker;
+use backoff::Reason;
+use markers::Entry;
 
 // CHECK of a free slot; its BASE is 0.
 pub const FREE: i32 = -2147483648;
@@ -26,42 +27,12 @@ pub fn head_check(order: usize) -> i32
     order as i32 + HEAD_OFFSET
 }
 
-// The marker of the node in slot s, which keeps one.
-pub fn kept_marker(base: &[i32], check: &[i32], s: usize) -> Marker
-    requires base_len { length base.now ≡ length check.now }
-    requires s_in_bounds { s < length base.now }
-    ensures { result ≡ kept_marker base.now check.now s }
-{
-    let d = base[s];
-    if d < 1 {
-        return Marker::Broken;
-    }
-    let t = d as usize;
-    if check.len() <= t {
-        return Marker::Broken;
-    }
-    markers::marker_of(check[t], base[t])
-}
-
-// What the node in slot s says, to which `depth` words lead. One of n words has no marker: its own BASE holds p − 1.
-pub fn read_marker(base: &[i32], check: &[i32], order: usize, depth: usize, s: usize) -> Marker
-    requires base_len { length base.now ≡ length check.now }
-    requires s_in_bounds { s < length base.now }
-    requires order_value { order ≡ order_in check.now }
-    ensures { result ≡ marker_at base.now check.now depth s }
-{
-    if depth == order {
-        return markers::marker_of(base[s], 0);
-    }
-    kept_marker(base, check, s)
-}
-
 // Whether BASE and CHECK have lengths that an array can have.
 pub fn sizes_ok(base: &[i32], check: &[i32]) -> bool
     ensures { result ≡ sizes_ok base.now check.now }
 {
     let n = base.len();
-    (n == check.len()) & (2 <= n) & (n <= backoff::SLOT_LIMIT)
+    (n == check.len()) & (2..=backoff::SLOT_LIMIT).contains(&n)
 }
 
 // Whether slots 0 and 1 are as a build writes them.
@@ -70,49 +41,77 @@ fn head_ok(base: &[i32], check: &[i32]) -> bool
     requires in_bounds_2 { 2 ≤ length check.now }
     ensures { result ≡ head_ok base.now check.now }
 {
-    let head = check[0];
-    let rows = base[1];
     (base[0] == 1)
-        & (LEAST_HEAD <= head)
-        & (head <= LARGEST_HEAD)
+        & (LEAST_HEAD..=LARGEST_HEAD).contains(&check[0])
         & (check[1] == -1)
-        & (3 <= rows)
-        & (rows <= backoff::ROW_LIMIT as i32)
+        & (3..=backoff::ROW_LIMIT as i32).contains(&base[1])
 }
 
 // Whether the slices have the lengths and the head of an array, so that 11 does not refuse them.
-pub fn is_array(base: &[i32], check: &[i32]) -> bool
+fn is_array(base: &[i32], check: &[i32]) -> bool
     ensures { result ≡ is_array base.now check.now }
 {
     sizes_ok(base, check) && head_ok(base, check)
 }
 
 // The order of an array.
-pub fn order_of(check: &[i32]) -> usize
+fn order_of(check: &[i32]) -> usize
     requires { order_ok check.now ≡ true }
     ensures { result ≡ order_in check.now }
 {
     (check[0] - HEAD_OFFSET) as usize
 }
 
-// Writes one value everywhere.
-pub fn fill(numbers: &mut [i32], value: i32)
-    ensures { numbers.new ≡ replicate (length numbers.old) value }
-{
-    let mut t = 0;
-    while t < numbers.len() {
-        numbers[t] = value;
-        t += 1;
-    }
+// A lent double array that 11 does not refuse, with its order.
+#[derive(Clone, Copy)]
+pub struct Array<'a> {
+    pub base: &'a [i32],
+    pub check: &'a [i32],
+    pub order: usize,
+    pub ghost is_array: { is_array base.now check.now ≡ true },
+    pub ghost order_is: { order ≡ order_in check.now },
 }
 
-// Writes 0 everywhere.
-pub fn zero(work: &mut [u32])
-    ensures { work.new ≡ replicate (length work.old) 0 }
-{
-    let mut i = 0;
-    while i < work.len() {
-        work[i] = 0;
-        i += 1;
+impl<'a> Array<'a> {
+    ghost use Rattle.markers.specs.Markers.{marker_in};
+    ghost use Rattle.double_array.specs.Opened.{Opens};
+
+    // 11 for slices that are no array.
+    pub fn open(base: &'a [i32], check: &'a [i32]) -> Result<Array<'a>, Reason>
+        ensures { Opens base.now check.now result }
+    {
+        if !is_array(base, check) {
+            return Err(Reason::ArrayHead);
+        }
+        Ok(Array {
+            base,
+            check,
+            order: order_of(check),
+        })
+    }
+
+    // What the marker of the node in slot s says, which keeps one: nothing where it is not sound.
+    pub fn kept_marker(self, s: usize) -> Option<Entry>
+        requires { s < length self.base.now }
+        ensures { marker_in result ≡ kept_marker self.entry.base.now self.entry.check.now s }
+    {
+        let d = self.base[s];
+        if d < 1 {
+            return None;
+        }
+        let t = d as usize;
+        let check = *self.check.get(t)?;
+        markers::marker_of(check, self.base[t])
+    }
+
+    // What the node in slot s says, to which `depth` words lead. One of n words has no marker: its own BASE holds p − 1.
+    pub fn read_marker(self, depth: usize, s: usize) -> Option<Entry>
+        requires { s < length self.base.now }
+        ensures { marker_in result ≡ marker_at self.entry.base.now self.entry.check.now depth s }
+    {
+        if depth == self.order {
+            return markers::marker_of(self.base[s], 0);
+        }
+        self.kept_marker(s)
     }
 }

@@ -8,7 +8,7 @@ use lib.IntN.{ℤ}
 use Rattle.integer.proofs.Ranges.{lt_or_ge, up_to_le}
 use Rattle.backoff.specs.Limits.{word_limit}
 use Rattle.backoff.specs.Words.{are_words, radix, key}
-use Rattle.backoff.specs.declared.Verdict.TheVariants.{Accepted}
+use Rattle.backoff.specs.Refusal.{Accepted}
 use Rattle.backoff.proofs.Words.{first_some}
 use Rattle.rows.specs.Table.{rows_of, field, length_of, word_of, words_of, words, without_first}
 use Rattle.extensions.specs.Stretch.{Stretch, ChildrenFrom}

@@ -1,5 +1,5 @@
 // The rows of a list that put one more word in front of a row, found by their keys. The definitions that the contracts cite are in specs/.
-#![tactic(auto)]
+#![tactic(auto, unfolding(rows::specs::Table::rows_of))]
 
 ghost use Rattle.std.specs.Prelude.{◌≡◌, ◌+◌, ◌*◌, ◌<◌, ◌≤◌, length};
 ghost use Rattle.backoff.specs.Words.{radix};
@@ -14,23 +14,18 @@ use backoff::{RADIX, THREE_DIGITS};
 use row_search::Span;
 use rows::Key;
 
-// From here on, the sum of a low part and RADIX carries into the high part.
-const CARRY: u64 = 18446744073709486080;
-
 // The first row from `from` on whose key is not below k, found row by row.
 fn next_bound(table: &[i32], k: Key, from: usize) -> usize
     requires { Good table.now (rows_of table.now) × Bracket table.now (key_of k.high k.low) from (rows_of table.now) }
     ensures { Bracket table.now (key_of k.high k.low) result result }
 {
     let rows = table.len() / 8;
-    let mut to = from;
-    while to < rows {
-        if !rows::key_less(rows::row_key(table, to), k) {
+    for to in from..rows {
+        if rows::row_key(table, to) >= k {
             return to;
         }
-        to += 1;
     }
-    to
+    rows
 }
 
 // The first row whose key is not below k: at `near` or soon after, it is found at once.
@@ -47,12 +42,12 @@ pub fn first_not_below(table: &[i32], k: Key, likely: Span) -> usize
     requires { Good table.now (rows_of table.now) }
     ensures { Bracket table.now (key_of k.high k.low) result result }
 {
-    let Span { from, to } = row_search::search_window(table, k, likely);
-    if to <= from {
-        return lower_bound(table, k, from);
+    let window = row_search::search_window(table, k, likely);
+    if window.to <= window.from {
+        return lower_bound(table, k, window.from);
     }
-    let last = row_search::last_not_above(table, k, from, to);
-    if rows::key_less(rows::row_key(table, last), k) {
+    let last = row_search::last_not_above(table, k, window);
+    if rows::row_key(table, last) < k {
         return last + 1;
     }
     last
@@ -69,20 +64,15 @@ pub fn key_shifted(k: Key) -> Key
     }
 }
 
-// The least key past those that differ from k in the first word only.
-fn key_next(k: Key) -> Key
+// The key that is so much above k.
+pub fn key_raised(k: Key, step: u64) -> Key
     requires { k.high < radix * radix }
-    ensures { key_of result.high result.low ≡ key_of k.high k.low + radix }
+    ensures { key_of result.high result.low ≡ key_of k.high k.low + step }
 {
-    if k.low < CARRY {
-        return Key {
-            high: k.high,
-            low: k.low + RADIX,
-        };
-    }
+    let (low, carried) = k.low.overflowing_add(step);
     Key {
-        high: k.high + 1,
-        low: k.low - CARRY,
+        high: k.high + u64::from(carried),
+        low,
     }
 }
 
@@ -99,8 +89,8 @@ pub fn children_end(table: &[i32], i: usize, from: usize) -> usize
     requires { (8 * i + 8 ≤ length table.now) × Good table.now (rows_of table.now) × ChildrenFrom table.now i from }
     ensures { Stretch table.now i from result }
 {
-    let k = key_next(front_key(table, i));
-    next_bound(table, k, from)
+    let past = key_raised(front_key(table, i), RADIX);
+    next_bound(table, past, from)
 }
 
 // The rows that put one more word in front of row i. They may be anywhere; at `near` or soon after, they are found sooner.
@@ -120,8 +110,5 @@ pub fn extended(table: &[i32], i: usize, likely: Span) -> bool
 {
     let k = front_key(table, i);
     let first = first_not_below(table, k, likely);
-    if first < table.len() / 8 {
-        return rows::key_less(rows::row_key(table, first), key_next(k));
-    }
-    false
+    first < table.len() / 8 && rows::row_key(table, first) < key_raised(k, RADIX)
 }

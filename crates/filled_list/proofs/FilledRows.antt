@@ -1,5 +1,6 @@
 -- The rows of the filled list: exactly the lent rows and those of two or more words that a lent row is without its first words; they ascend, and with each
 -- row of two or more words those without its first and without its last word are among them. Assumes nothing.
+use Rattle.std.specs.declared.option.Option.TheVariants.{None}
 use mathlib.Core.Path.{◌≡◌, refl, sym, ap, ◌∙◌}
 use mathlib.Core.Logic.{◌⊎◌, inl, inr, ⊎_elim}
 use mathlib.Core.Bool.{true}
@@ -10,13 +11,12 @@ use lib.ListN.{length, length-append}
 use lib.IntN.{ℤ}
 use Rattle.backoff.specs.Limits.{order_limit}
 use Rattle.backoff.specs.Words.{are_words}
-use Rattle.backoff.specs.declared.Verdict.TheVariants.{Accepted}
+use Rattle.backoff.specs.Refusal.{Accepted}
 use Rattle.rows.specs.Table.{rows_of, field, length_of, word_of, words, without_last}
 use Rattle.rows.specs.Good.{Good}
 use Rattle.rows.proofs.Table.{length_limit, row_in, words-length, words_snoc, last_word_lem}
 use Rattle.rows.proofs.Good.{are_words_lem}
 use Rattle.row_search.specs.Search.{find_in, is_at}
-use Rattle.row_search.specs.declared.Found.TheVariants.{Nothing}
 use Rattle.rows_before.specs.Faults.{without_firsts}
 use Rattle.list.specs.Check.{verdict_for}
 use Rattle.list.proofs.Check.{checked-good, checked-first, checked-last}
@@ -70,7 +70,7 @@ module _ (t : List ℤ) where
           record { at = j.0; within = j.1; front = []; same = j.2; long = inl refl }
 
   -- a row that the list lacks has two or more words
-  pub end-absent : (ws : List ℕ) → EndOf t ws → find_in t ws ≡ Nothing → 2 ≤ length ws
+  pub end-absent : (ws : List ℕ) → EndOf t ws → find_in t ws ≡ None → 2 ≤ length ws
   end-absent ws d e =
       ⊎_elim
       (λ z. absurd (no_row t ws (ap is_at e) d.at d.within (d.same ∙ ap (λ (front : List ℕ). front ++ ws) z)))

@@ -14,7 +14,7 @@ use Rattle.integer.proofs.Arithmetic.{zarith}
 use Rattle.integer.proofs.Ranges.{lt_or_ge, and_both, between-yes}
 use Rattle.backoff.specs.Limits.{order_limit, word_limit}
 use Rattle.backoff.specs.Words.{are_words}
-use Rattle.backoff.specs.declared.Verdict.TheVariants.{Accepted}
+use Rattle.backoff.specs.Refusal.{Accepted}
 use Rattle.backoff.proofs.Words.{first_some, first_limit, words-rest}
 use Rattle.rows.specs.Table.{rows_of, field, probability_at, backoff_at, length_of, words, row, place_fits, places_fit}
 use Rattle.rows.specs.Good.{GoodRow, Good}

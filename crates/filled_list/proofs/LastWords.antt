@@ -10,7 +10,7 @@ use lib.Seq.{drop-cons, drop-drop}
 use lib.IntN.{ℤ}
 use Rattle.integer.proofs.Parts.{drop-take}
 use Rattle.backoff.specs.Words.{are_words}
-use Rattle.backoff.specs.declared.Verdict.TheVariants.{Accepted}
+use Rattle.backoff.specs.Refusal.{Accepted}
 use Rattle.rows.specs.Table.{rows_of, length_of, words_of, words}
 use Rattle.rows.specs.Good.{GoodRow}
 use Rattle.rows.proofs.Table.{row_in, words-length}

@@ -1,4 +1,6 @@
 -- Which sequence comes next in the filled list: of the rows of one length, the first whose key is not below a bound has the least last words. Assumes nothing.
+use Rattle.std.specs.declared.option.Option.{Option}
+use Rattle.std.specs.declared.option.Option.TheVariants.{Some, None}
 use mathlib.Core.Path.{◌≡◌, refl, sym, ap, ◌∙◌}
 use mathlib.Core.Logic.{◌⊎◌, inl, inr, ⊎_elim}
 use mathlib.Core.Bool.{true, false}
@@ -13,7 +15,7 @@ use lib.IntN.{ℤ}
 use Rattle.integer.proofs.Ranges.{lt_or_ge}
 use Rattle.backoff.specs.Limits.{order_limit}
 use Rattle.backoff.specs.Words.{are_words, radix, key}
-use Rattle.backoff.specs.declared.Verdict.TheVariants.{Accepted}
+use Rattle.backoff.specs.Refusal.{Accepted}
 use Rattle.rows.specs.Table.{rows_of, length_of, order_of, words}
 use Rattle.rows.specs.Good.{Good}
 use Rattle.rows.specs.Keys.{key_of, row_key}
@@ -22,14 +24,15 @@ use Rattle.rows.proofs.Good.{lengths-ascend, are_words_lem, ascend-key}
 use Rattle.rows.proofs.Keys.{key_unique}
 use Rattle.row_search.specs.Search.{find_in}
 use Rattle.row_search.specs.ByKey.{Bracket}
-use Rattle.row_search.specs.declared.Found.{Found}
-use Rattle.row_search.specs.declared.Found.TheVariants.{At, Nothing}
 use Rattle.row_search.proofs.ByKey.{keys_ascend}
 use Rattle.row_search.proofs.Search.{found-words}
 use Rattle.list.specs.Check.{verdict_for}
 use Rattle.list.proofs.ListModel.{length-order}
 use Rattle.list.proofs.Check.{checked-good, checked-size}
 use Rattle.filled_list.specs.Filled.{filled_table}
+use Rattle.std.specs.declared.option.Option.{Option}
+use Rattle.filled_list.specs.declared.NextRow.{NextRow}
+use Rattle.filled_list.specs.Found.{BestOf}
 use Rattle.filled_list.specs.Next.{zeros, power, last_words, end_key, Candidate, Least, Best, Filling, ComesNext}
 use Rattle.filled_list.proofs.FilledRows.{end-words, end-some}
 use Rattle.filled_list.proofs.FilledTable.{filled-end, filled-checked}
@@ -166,6 +169,15 @@ module _ (t : List ℤ) (g : Good t (rows_of t)) where
       absent = h.absent;
     }
 
+  -- where the row at the bound is no candidate, what was found stays the best
+  module _ (m floor k : ℕ) (low : power (m - 1) ≤ floor) (some : 0 < m) (mk : m ≤ k) (s : ℕ) (b : Bracket t (zeros (k - m) floor) s s) (n : s < rows_of t → length_of t s ≡ k → ⊥) where
+    kept : (r high₁ low₁ : ℕ) → Best t m floor k r high₁ low₁ → Best t m floor (suc k) r high₁ low₁
+    kept r high₁ low₁ h = record { least = least-same m floor k low some mk r s h.least b n; key-is = h.key-is; absent = h.absent }
+
+    pub best-kept : (best : Option NextRow) → BestOf t m floor k best → BestOf t m floor (suc k) best
+    best-kept (Some next) h = (h.0, kept next.row next.key.high next.key.low h.1)
+    best-kept None h = kept (rows_of t) 0 0 h
+
   least_start : (m floor : ℕ) → Least t m floor m (rows_of t)
   least_start m floor = record {
     within = omega arith;
@@ -177,18 +189,15 @@ module _ (t : List ℤ) (g : Good t (rows_of t)) where
   best-start m floor high low = record { least = least_start m floor; key-is = λ l. absurd (omega arith); absent = λ l. absurd (omega arith) }
 
   -- the last words of a longer row are no row if they come next
-  pub best-absent : (m floor to r high low : ℕ) → Best t m floor to r high low → r < rows_of t → m < length_of t r → find_in t (last_words t r m) ≡ Nothing
+  pub best-absent : (m floor to r high low : ℕ) → Best t m floor to r high low → r < rows_of t → m < length_of t r → find_in t (last_words t r m) ≡ None
   best-absent m floor to r high low b l h = go (find_in t (last_words t r m)) refl
     where
-      go : (f : Found) → find_in t (last_words t r m) ≡ f → f ≡ Nothing
-      go Nothing e = refl
-      go (At j) e =
+      go : (f : Option ℕ) → find_in t (last_words t r m) ≡ f → f ≡ None
+      go None e = refl
+      go (Some j) e =
           let w = found-words t (last_words t r m) j e in
           let size : length_of t j ≡ m = sym (row-size t j w.0) ∙ ap length w.1 ∙ last-size t r m l (omega arith) in
           absurd (b.absent l h j w.0 size (ap key (ap (last_words t j) (sym size) ∙ last-all t j ∙ w.1)))
-
-pub best_as : (t : List ℤ) (m floor j k r high low : ℕ) → j ≡ k → Best t m floor j r high low → Best t m floor k r high low
-best_as t m floor j k r high low e b = rw (← e) b
 
 -- ---- the place in the filled list
 

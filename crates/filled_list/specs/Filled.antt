@@ -1,11 +1,11 @@
 -- The filled list: which rows it has, in which order, and with which p and b. Words are oldest first, as in the list. Assumes nothing.
+use Rattle.std.specs.declared.option.Option.{Option}
+use Rattle.std.specs.declared.option.Option.TheVariants.{Some, None}
 use Rattle.std.specs.Prelude.{cond, List, [], ◌∷◌, ◌++◌, reverse, ℕ, zero, suc, leb, length, ℤ, pos}
 use Rattle.backoff.specs.Words.{same_words}
 use Rattle.rows.specs.Table.{rows_of, probability_at, backoff_at, words, row}
 use Rattle.rows.specs.Order.{precedes}
 use Rattle.row_search.specs.Search.{find_in}
-use Rattle.row_search.specs.declared.Found.{Found}
-use Rattle.row_search.specs.declared.Found.TheVariants.{At, Nothing}
 use Rattle.list.specs.ListModel.{model_of}
 use Rattle.filled_list.specs.Added.{own_points}
 
@@ -46,13 +46,13 @@ unfoldable pub added_probability : List ℤ → List ℕ → ℤ
 added_probability t ws = own_points (model_of t) (reverse ws)
 
 -- a lent row's own, and "its b is 0" of an added one
-abbrev pub filled_probability : List ℤ → List ℕ → Found → ℤ
-filled_probability t ws (At i) = probability_at t i
-filled_probability t ws Nothing = added_probability t ws
+abbrev pub filled_probability : List ℤ → List ℕ → Option ℕ → ℤ
+filled_probability t ws (Some i) = probability_at t i
+filled_probability t ws None = added_probability t ws
 
-abbrev pub filled_backoff : List ℤ → Found → ℤ
-filled_backoff t (At i) = backoff_at t i
-filled_backoff t Nothing = pos 0
+abbrev pub filled_backoff : List ℤ → Option ℕ → ℤ
+filled_backoff t (Some i) = backoff_at t i
+filled_backoff t None = pos 0
 
 unfoldable pub filled_row : List ℤ → List ℕ → List ℤ
 filled_row t ws = row ws (filled_probability t ws (find_in t ws)) (filled_backoff t (find_in t ws))

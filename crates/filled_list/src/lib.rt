@@ -1,21 +1,20 @@
 // The rows of the filled list of a pruned one, one after the other: which comes next, by the keys of the last words of lent rows. The definitions that the contracts cite are in specs/.
-#![tactic(auto)]
+#![tactic(auto, unfolding(rows::specs::Table::rows_of))]
 
 ghost use Rattle.std.specs.Prelude.{◌≡◌, true, ℕ, suc, ◌+◌, ◌*◌, ◌-◌, ◌<◌, ◌≤◌, length};
 ghost use Rattle.backoff.specs.Limits.{order_limit};
 ghost use Rattle.backoff.specs.Words.{radix};
-ghost use Rattle.backoff.specs.declared.Verdict.TheVariants.{Accepted};
+ghost use Rattle.backoff.specs.Refusal.{Accepted};
 ghost use Rattle.rows.specs.Table.{rows_of, length_of};
 ghost use Rattle.rows.specs.Good.{GoodRow, Good};
 ghost use Rattle.rows.specs.Keys.{key_of};
 ghost use Rattle.row_search.specs.ByKey.{Bracket};
 ghost use Rattle.list.specs.Check.{verdict_for};
-ghost use Rattle.filled_list.specs.Next.{zeros, power, end_key, Best, Filling, ComesNext};
+ghost use Rattle.filled_list.specs.Next.{zeros, power, end_key, Filling};
+ghost use Rattle.filled_list.specs.Found.{BestOf, ComesNextOf};
 
 use row_search::Span;
 use rows::Key;
-
-const LOW_MAX: u64 = 18446744073709551615;
 
 // The key k with j zeros put in front.
 fn with_zeros(k: Key, j: usize) -> Key
@@ -23,10 +22,8 @@ fn with_zeros(k: Key, j: usize) -> Key
     ensures { key_of result.high result.low ≡ zeros j (key_of k.high k.low) }
 {
     let mut shifted = k;
-    let mut i = 0;
-    while i < j {
+    for _ in 0..j {
         shifted = extensions::key_shifted(shifted);
-        i += 1;
     }
     shifted
 }
@@ -36,16 +33,7 @@ pub fn key_after(k: Key) -> Key
     requires { k.high < radix }
     ensures { key_of result.high result.low ≡ key_of k.high k.low + 1 }
 {
-    if k.low == LOW_MAX {
-        return Key {
-            high: k.high + 1,
-            low: 0,
-        };
-    }
-    Key {
-        high: k.high,
-        low: k.low + 1,
-    }
+    extensions::key_raised(k, 1)
 }
 
 // The key of the last m words of row i, which has k words.
@@ -59,8 +47,8 @@ fn end_key(table: &[i32], i: usize, k: usize, m: usize) -> Key
     rows::key_of(&table[first..end])
 }
 
-// The row whose last words come next, with their key; no row if `row` is the number of rows.
-#[derive(Drop)]
+// A row whose last words come next, with their key.
+#[derive(Clone, Copy)]
 struct NextRow {
     row: usize,
     key: Key,
@@ -79,7 +67,7 @@ fn first_from(table: &[i32], k: Key, near: usize) -> usize
 }
 
 // The first row of k words or more whose last m words, if it has k, are not below the floor. From floor to floor it only moves on, so `near` has
-// for each k where it stood last, 0 where it is not known: hints, on which no answer depends.
+// for each k where it stood last, 0 where it is not known: hints, on which no answer depends, so that a 0 is no plainer as a `None`.
 fn bound_of(table: &[i32], m: usize, k: usize, floor: Key, near: &mut [usize; 6]) -> usize
     requires { Good table.now (rows_of table.now) × (m ≤ k) × (k ≤ order_limit) × (key_of floor.high floor.low ≤ power m) }
     ensures { Bracket table.now (zeros (k - m) (key_of floor.high floor.low)) result result }
@@ -96,49 +84,39 @@ fn better(
     m: usize,
     k: usize,
     floor: Key,
-    best: NextRow,
+    best: Option<NextRow>,
     near: &mut [usize; 6],
-) -> NextRow
-    requires { Good table.now (rows_of table.now) × (0 < m) × (m ≤ k) × (k ≤ order_limit) × (power (m - 1) ≤ key_of floor.high floor.low) × (key_of floor.high floor.low ≤ power m) × Best table.now m (key_of floor.high floor.low) k best.row best.key.high best.key.low }
-    ensures { Best table.now m (key_of floor.high floor.low) (suc k) result.row result.key.high result.key.low }
+) -> Option<NextRow>
+    requires { Good table.now (rows_of table.now) × (0 < m) × (m ≤ k) × (k ≤ order_limit) × (power (m - 1) ≤ key_of floor.high floor.low) × (key_of floor.high floor.low ≤ power m) × BestOf table.now m (key_of floor.high floor.low) k best }
+    ensures { BestOf table.now m (key_of floor.high floor.low) (suc k) result }
 {
-    let rows = table.len() / 8;
     let row = bound_of(table, m, k, floor, near);
-    if rows <= row {
-        return best;
-    }
-    if rows::length_of(table, row) != k {
+    if table.len() / 8 <= row || rows::length_of(table, row) != k {
         return best;
     }
     let key = end_key(table, row, k, m);
-    if best.row < rows {
-        if !rows::key_less(key, best.key) {
+    if let Some(best_row) = best {
+        if key >= best_row.key {
             return best;
         }
     }
-    NextRow { row, key }
+    Some(NextRow { row, key })
 }
 
 // Of the last m words of all rows of m to n words, the least whose key is not below the floor.
-fn next_row(table: &[i32], m: usize, n: usize, floor: Key, near: &mut [usize; 6]) -> NextRow
+fn next_row(table: &[i32], m: usize, n: usize, floor: Key, near: &mut [usize; 6]) -> Option<NextRow>
     requires { Good table.now (rows_of table.now) × (0 < m) × (m ≤ n) × (n ≤ order_limit) × (power (m - 1) ≤ key_of floor.high floor.low) × (key_of floor.high floor.low ≤ power m) }
-    ensures { Best table.now m (key_of floor.high floor.low) (suc n) result.row result.key.high result.key.low }
+    ensures { BestOf table.now m (key_of floor.high floor.low) (suc n) result }
 {
-    let rows = table.len() / 8;
-    let mut best = NextRow {
-        row: rows,
-        key: floor,
-    };
-    let mut k = m;
-    while k <= n {
+    let mut best = None;
+    for k in m..=n {
         best = better(table, m, k, floor, best, near);
-        k += 1;
     }
     best
 }
 
-// The last `words` words of a row, which come next, with their key; none are left if `words` is above the order.
-#[derive(Drop)]
+// The last `words` words of a row, which come next, with their key.
+#[derive(Clone, Copy)]
 pub struct NextEnd {
     pub words: usize,
     pub row: usize,
@@ -146,27 +124,27 @@ pub struct NextEnd {
 }
 
 // Of the last words of all rows, m or more, the least whose key is not below the floor. `near` goes from call to call, zeros at first.
-pub fn next_end(table: &[i32], n: usize, m: usize, floor: Key, near: &mut [usize; 6]) -> NextEnd
+pub fn next_end(
+    table: &[i32],
+    n: usize,
+    m: usize,
+    floor: Key,
+    near: &mut [usize; 6],
+) -> Option<NextEnd>
     requires { (verdict_for true table.now ≡ Accepted) × ((place : ℕ) × Filling table.now n m floor.high floor.low place) }
-    ensures { (place : ℕ) → Filling table.now n m floor.high floor.low place → ComesNext table.now n place result.words result.row result.key.high result.key.low }
+    ensures { (place : ℕ) → Filling table.now n m floor.high floor.low place → ComesNextOf table.now n place result }
 {
-    let rows = table.len() / 8;
-    let mut words = m;
     let mut from = floor;
-    while words <= n {
-        let next = next_row(table, words, n, from, near);
-        if next.row < rows {
-            let row = next.row;
-            let key = next.key;
-            return NextEnd { words, row, key };
+    for words in m..=n {
+        if let Some(next) = next_row(table, words, n, from, near) {
+            return Some(NextEnd {
+                words,
+                row: next.row,
+                key: next.key,
+            });
         }
         from = with_zeros(Key { high: 0, low: 1 }, words);
-        *near = [0; 6];
-        words += 1;
+        near.fill(0);
     }
-    NextEnd {
-        words,
-        row: rows,
-        key: from,
-    }
+    None
 }

@@ -6,3 +6,4 @@ pub mod Meaning
 pub mod ChangesNothing
 pub mod Sample
 pub mod Written
+pub mod Walk

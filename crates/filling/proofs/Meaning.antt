@@ -10,8 +10,8 @@ use lib.IntN.{ℤ}
 use Rattle.backoff.specs.Refusal.{number_of, place_of}
 use Rattle.backoff.specs.Run.{written}
 use Rattle.backoff.proofs.Slices.{length-written}
-use Rattle.backoff.specs.declared.Verdict.{Verdict}
-use Rattle.backoff.specs.declared.Verdict.TheVariants.{Accepted, Refused}
+use Rattle.backoff.specs.Refusal.{Verdict}
+use Rattle.backoff.specs.Refusal.{Accepted, Refused}
 use Rattle.row_search.proofs.Search.{find_unique}
 use Rattle.list.proofs.Check.{checked-good, checked-size, accepted-refused}
 use Rattle.filled_list.specs.Filled.{filled_rows, filled_table}

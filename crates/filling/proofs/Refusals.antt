@@ -1,7 +1,8 @@
 -- The refusals of filling: what a list is that is filled, how the code comes to each refusal, and what a refusal means. Assumes nothing.
+use Rattle.std.specs.declared.option.Option.TheVariants.{None}
 use mathlib.Core.Path.{◌≡◌, refl, sym, ap, ◌∙◌, subst}
 use mathlib.Core.Logic.{⊎_elim}
-use mathlib.Core.Bool.{Bool, true, false, cond, true≢false}
+use mathlib.Core.Bool.{Bool, true, false, not, cond, true≢false}
 use mathlib.Core.List.{List, [], ◌∷◌, ◌++◌}
 use Prim.Native.Nat.{ℕ, zero, suc, ◌+◌, ◌*◌, ◌≤◌, ◌<◌}
 use native.Mathlib.Nat.{not-suc-le-zero}
@@ -12,14 +13,13 @@ use lib.IntN.{ℤ}
 use borrow.Author.Tests.{leb-true, leb-false, le-leb, lt-leb}
 use Rattle.integer.proofs.Ranges.{lt_or_ge}
 use Rattle.backoff.specs.Limits.{row_limit}
-use Rattle.backoff.specs.Refusal.{number_of, place_of, table_length, row_probability, short_slice}
+use Rattle.backoff.specs.Refusal.{number_of, table_length, row_probability, short_slice}
 use Rattle.backoff.specs.Model.{in_probability}
 use Rattle.backoff.specs.Run.{written}
-use Rattle.backoff.specs.declared.Verdict.{Verdict}
-use Rattle.backoff.specs.declared.Verdict.TheVariants.{Accepted, Refused}
+use Rattle.backoff.specs.Refusal.{Verdict}
+use Rattle.backoff.specs.Refusal.{Accepted, Refused}
 use Rattle.rows.specs.Table.{rows_of, words}
 use Rattle.row_search.specs.Search.{find_in, is_at}
-use Rattle.row_search.specs.declared.Found.TheVariants.{Nothing}
 use Rattle.list.specs.Check.{refuse, verdict_for}
 use Rattle.list.specs.Meaning.{NoneMeets}
 use Rattle.list.proofs.Meaning.{no_row, none-meets, refused-verdict}
@@ -31,7 +31,6 @@ use Rattle.row_ends.specs.Needed.{all_addable, needed_fault}
 use Rattle.row_ends.specs.Steps.{NoneNeeding, FirstNeeding}
 use Rattle.row_ends.proofs.Needed.{needed_in_range, not-addable, absent_out, fault_five}
 use Rattle.filling.specs.Fill.{size_verdict, needed_scan, and_then, fill_verdict, filled_by, fill_outcome, IsFilled}
-use Rattle.filling.specs.Steps.{Checks}
 use Rattle.filling.specs.Meaning.{OutOfRange, AllInRange, FillRefusedBy, bad_list, added-probability, too_many_rows, too_short}
 
 pub record Fills (t : List ℤ) (size : ℕ) : Type 0 where
@@ -97,17 +96,10 @@ module _ (t : List ℤ) (size : ℕ) where
 -- ---- the refusals, as the code goes through them
 
 module _ (t : List ℤ) where
-  checks-refused : (size n p rows : ℕ) → (n ≡ 0 → ⊥) → fill_verdict t size ≡ Refused n p → Checks t size n p rows
-  checks-refused size n p rows l e = record { number_is = sym (ap number_of e); place_is = sym (ap place_of e); accepted = λ z. absurd (l z); rows_are = λ z. absurd (l z) }
-
   -- by the checks of the list
-  pub checks-listed : (size n p rows : ℕ) → n ≡ number_of (verdict_for true t) → p ≡ place_of (verdict_for true t) → (n ≡ 0 → ⊥) → Checks t size n p rows
+  pub fill_listed : (size n p : ℕ) → Refused n p ≡ verdict_for true t → fill_verdict t size ≡ Refused n p
   unfolding fill_verdict
-  checks-listed size n p rows n-is p-is l = go (verdict_for true t) refl
-    where
-      go : (v : Verdict) → verdict_for true t ≡ v → Checks t size n p rows
-      go Accepted e = absurd (l (n-is ∙ ap number_of e))
-      go (Refused m q) e = checks-refused size n p rows l (rw (n-is, p-is, e))
+  fill_listed size n p e = rw (← e) refl
 
   module _ (size : ℕ) (a : verdict_for true t ≡ Accepted) (r : ℕ) (f : FirstNeeding t r) where
     scan_needing : (i k : ℕ) → r < rows_of t → i + k ≡ rows_of t → i ≤ r → needed_scan t size i k ≡ Refused row_probability (r + 1)
@@ -128,27 +120,30 @@ module _ (t : List ℤ) where
     unfolding fill_verdict
     fill_then = ap (λ (v : Verdict). and_then v (needed_scan t size 0 (rows_of t))) a
 
-    pub checks-five : (rows : ℕ) → r < rows_of t → Checks t size row_probability (r + 1) rows
-    checks-five rows l = checks-refused size row_probability (r + 1) rows (λ z. omega arith) (fill_then ∙ scan_needing 0 (rows_of t) l (omega arith) (omega arith))
+    pub fill-five : r < rows_of t → fill_verdict t size ≡ Refused row_probability (r + 1)
+    fill-five l = fill_then ∙ scan_needing 0 (rows_of t) l (omega arith) (omega arith)
 
     module _ (e : r ≡ rows_of t) (count : ℕ) (c : count ≡ length (filled_rows t)) where
       sized : fill_verdict t size ≡ size_verdict t size
       sized = fill_then ∙ scan-passing 0 (rows_of t) e (omega arith)
 
-      pub checks-many : (rows : ℕ) → row_limit < count → Checks t size table_length 0 rows
+      pub fill-many : row_limit < count → fill_verdict t size ≡ Refused table_length 0
       unfolding size_verdict
-      checks-many rows l = checks-refused size table_length 0 rows (λ z. omega arith) (sized ∙ rw (lt-leb (length (filled_rows t)) row_limit (omega arith)))
+      fill-many l = sized ∙ rw (lt-leb (length (filled_rows t)) row_limit (omega arith))
 
       module _ (few : count ≤ row_limit) where
-        pub checks-short : (rows : ℕ) → size < 8 * count → Checks t size short_slice 0 rows
+        pub fill-short : size < 8 * count → fill_verdict t size ≡ Refused short_slice 0
         unfolding size_verdict
-        checks-short rows l = checks-refused size short_slice 0 rows (λ z. omega arith) (sized ∙ rw (le-leb (length (filled_rows t)) row_limit (omega arith), lt-leb (8 * length (filled_rows t)) size (omega arith)))
+        fill-short l = sized ∙ rw (le-leb (length (filled_rows t)) row_limit (omega arith), lt-leb (8 * length (filled_rows t)) size (omega arith))
 
-        pub checks-none : 8 * count ≤ size → Checks t size 0 0 count
+        pub fill-none : 8 * count ≤ size → fill_verdict t size ≡ Accepted
         unfolding size_verdict
-        checks-none l =
-            let v : fill_verdict t size ≡ Accepted = sized ∙ rw (le-leb (length (filled_rows t)) row_limit (omega arith), le-leb (8 * length (filled_rows t)) size (omega arith)) in
-            record { number_is = sym (ap number_of v); place_is = sym (ap place_of v); accepted = λ _. v; rows_are = λ _. c }
+        fill-none l = sized ∙ rw (le-leb (length (filled_rows t)) row_limit (omega arith), le-leb (8 * length (filled_rows t)) size (omega arith))
+
+-- where the p of each row of the filled list is known to be in range, no row needs another
+pub needing-none : (t : List ℤ) (fits : Bool) → (fits ≡ true → NoneNeeding t) → not fits ≡ false → FirstNeeding t (rows_of t)
+needing-none t true h e = record { within = omega arith; none = h refl; one = λ l. absurd (omega arith) }
+needing-none t false h e = absurd (true≢false e)
 
 -- ---- what a refusal means
 
@@ -175,7 +170,7 @@ module _ (t : List ℤ) where
       go true q h = absurd (h refl)
       go false q h = out_of_range i l q
 
-  pub front-word : (ws front : List ℕ) (i : ℕ) → i < rows_of t → words t i ≡ front ++ ws → 2 ≤ length ws → find_in t ws ≡ Nothing → In ws (without_first_words (words t i))
+  pub front-word : (ws front : List ℕ) (i : ℕ) → i < rows_of t → words t i ≡ front ++ ws → 2 ≤ length ws → find_in t ws ≡ None → In ws (without_first_words (words t i))
   front-word ws [] i l e two n = absurd (no_row t ws (ap is_at n) i l e)
   front-word ws (v ∷ front) i l e two n = rw e (behind_in front v ws two)
 
@@ -232,9 +227,6 @@ refused_told t second n p some e = go (verdict_for true t) refl e
     go Accepted q h = scan_told t second (none-meets true t q) 0 (rows_of t) n p (omega arith) (λ j l. absurd (not-suc-le-zero l)) h
     go (Refused m k) q h = bad_list n p some (refused-verdict true t n p (q ∙ h))
 
-pub checks_as : (t : List ℤ) (size n p rows n' p' : ℕ) → n' ≡ n → p' ≡ p → Checks t size n p rows → Checks t size n' p' rows
-checks_as t size n p rows n' p' e f c = rw (e, f) c
-
 -- ---- the outcome
 
 module _ (t second : List ℤ) where
@@ -242,16 +234,8 @@ module _ (t second : List ℤ) where
   unfolding fill_outcome
   outcome_by v e = ap (filled_by t second) (sym e)
 
-  refused_by_lem : (n p : ℕ) → fill_verdict t (length second) ≡ Refused n p → IsFilled (fill_outcome t second) n p 0 second
-  refused_by_lem n p e = rw (← outcome_by (Refused n p) e) (record { number_is = refl; place_is = refl; rows_are = refl; table_is = refl })
+  pub outcome_refused : (n p : ℕ) → fill_verdict t (length second) ≡ Refused n p → IsFilled (fill_outcome t second) n p 0 second
+  outcome_refused n p e = rw (← outcome_by (Refused n p) e) (record { number_is = refl; place_is = refl; rows_are = refl; table_is = refl })
 
-  module _ (number place rows : ℕ) (c : Checks t (length second) number place rows) where
-    pub outcome_refused : (number ≡ 0 → ⊥) → IsFilled (fill_outcome t second) number place 0 second
-    outcome_refused n = go (fill_verdict t (length second)) refl
-      where
-        go : (v : Verdict) → fill_verdict t (length second) ≡ v → IsFilled (fill_outcome t second) number place 0 second
-        go Accepted e = absurd (n (c.number_is ∙ ap number_of e))
-        go (Refused m p) e = rw (c.number_is ∙ ap number_of e, c.place_is ∙ ap place_of e) (refused_by_lem m p e)
-
-    pub outcome_accepted : number ≡ 0 → (filled : List ℤ) → filled ≡ written (filled_table t) second → IsFilled (fill_outcome t second) 0 0 rows filled
-    outcome_accepted z filled e = rw (← outcome_by Accepted (c.accepted z)) (record { number_is = refl; place_is = refl; rows_are = c.rows_are z; table_is = e })
+  pub outcome_accepted : fill_verdict t (length second) ≡ Accepted → (rows : ℕ) → rows ≡ length (filled_rows t) → (filled : List ℤ) → filled ≡ written (filled_table t) second → IsFilled (fill_outcome t second) 0 0 rows filled
+  outcome_accepted v rows r filled e = rw (← outcome_by Accepted v) (record { number_is = refl; place_is = refl; rows_are = r; table_is = e })

@@ -9,7 +9,7 @@ use lib.Seq.{get_or-take, get_or-drop, length-take-le, ext_get_or, take_at, drop
 use lib.IntN.{ℤ, pos}
 use Rattle.backoff.specs.Limits.{row_limit}
 use Rattle.backoff.specs.Run.{written}
-use Rattle.backoff.specs.declared.Verdict.TheVariants.{Accepted}
+use Rattle.backoff.specs.Refusal.{Accepted}
 use Rattle.rows.specs.Table.{rows_of, field, words}
 use Rattle.list.specs.Check.{verdict_for}
 use Rattle.list.proofs.Check.{checked-good, checked-size}

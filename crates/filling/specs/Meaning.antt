@@ -1,14 +1,14 @@
 -- What filling means: the filled list is complete, has the lent rows and exactly the absent ones that it must have, and scores as the lent one does.
 -- Assumes nothing.
+use Rattle.std.specs.declared.option.Option.TheVariants.{None}
 use Rattle.std.specs.Prelude.{◌≡◌, ◌⊎◌, true, false, List, ◌++◌, ℕ, suc, ◌*◌, ◌≤◌, ◌<◌, length, take, drop, ℤ, pos}
 use Rattle.backoff.specs.Limits.{row_limit}
 use Rattle.backoff.specs.Refusal.{table_length, row_probability, short_slice}
 use Rattle.backoff.specs.Model.{in_probability}
 use Rattle.backoff.specs.Rule.{rule}
-use Rattle.backoff.specs.declared.Verdict.TheVariants.{Accepted}
+use Rattle.backoff.specs.Refusal.{Accepted}
 use Rattle.rows.specs.Table.{rows_of, order_of, probability_at, backoff_at, words}
 use Rattle.row_search.specs.Search.{find_in}
-use Rattle.row_search.specs.declared.Found.TheVariants.{Nothing}
 use Rattle.list.specs.Check.{verdict}
 use Rattle.list.specs.ListModel.{model_of}
 use Rattle.list.specs.Meaning.{NoneMeets, VerdictMeans}
@@ -30,7 +30,7 @@ module _ (t : List ℤ) where
     pub front : List ℕ
     pub same : words t at ≡ front ++ ws
     pub two : 2 ≤ length ws
-    pub absent : find_in t ws ≡ Nothing
+    pub absent : find_in t ws ≡ None
     pub probability-is : added_probability t ws ≡ p
     pub backoff-is : pos 0 ≡ b
 

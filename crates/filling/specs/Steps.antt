@@ -1,7 +1,9 @@
 -- What the steps of filling leave. Only contracts of inner functions cite these. Assumes nothing.
+use Rattle.std.specs.declared.result.Result.{Result}
+use Rattle.std.specs.declared.result.Result.TheVariants.{Ok, Err}
 use Rattle.std.specs.Prelude.{◌≡◌, Bool, true, List, ℕ, length, ℤ}
-use Rattle.backoff.specs.Refusal.{number_of, place_of}
-use Rattle.backoff.specs.declared.Verdict.TheVariants.{Accepted}
+use Rattle.backoff.specs.declared.Refusal.{Refusal}
+use Rattle.backoff.specs.Refusal.{reason_number, Accepted, Refused}
 use Rattle.filled_list.specs.Filled.{filled_rows}
 use Rattle.row_ends.specs.Steps.{NoneNeeding}
 use Rattle.filling.specs.Fill.{fill_verdict}
@@ -11,9 +13,7 @@ pub record Counts (t : List ℤ) (rows : ℕ) (fits : Bool) : Type 0 where
   pub rows_are : rows ≡ length (filled_rows t)
   pub none : fits ≡ true → NoneNeeding t
 
--- the refusal of filling t into a table of so many numbers, and without one the number of rows
-pub record Checks (t : List ℤ) (size number place rows : ℕ) : Type 0 where
-  pub number_is : number ≡ number_of (fill_verdict t size)
-  pub place_is : place ≡ place_of (fill_verdict t size)
-  pub accepted : number ≡ 0 → fill_verdict t size ≡ Accepted
-  pub rows_are : number ≡ 0 → rows ≡ length (filled_rows t)
+-- what the checks of filling t into a table of so many numbers return: the number of rows, or the refusal
+abbrev pub Checks : List ℤ → ℕ → Result ℕ (Refusal ℕ) → Type 0
+Checks t size (Ok rows) = (fill_verdict t size ≡ Accepted) × (rows ≡ length (filled_rows t))
+Checks t size (Err refusal) = fill_verdict t size ≡ Refused (reason_number refusal.reason) refusal.place

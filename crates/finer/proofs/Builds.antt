@@ -15,8 +15,8 @@ use Rattle.backoff.specs.Limits.{least_probability}
 use Rattle.backoff.specs.Model.{in_probability}
 use Rattle.backoff.specs.Refusal.{table_length, array_length}
 use Rattle.backoff.specs.Run.{written}
-use Rattle.backoff.specs.declared.Verdict.{Verdict}
-use Rattle.backoff.specs.declared.Verdict.TheVariants.{Accepted, Refused}
+use Rattle.backoff.specs.Refusal.{Verdict}
+use Rattle.backoff.specs.Refusal.{Accepted, Refused}
 use Rattle.rows.specs.Table.{rows_of, probability_at, order_of}
 use Rattle.list.specs.Check.{table_fits, verdict}
 use Rattle.list.proofs.Check.{accepted-row}

@@ -1,5 +1,7 @@
 -- Laws of specs/FinerList.antt: a list that is multiplied has the same rows in the same order, so it is accepted or refused as the list is where both p and b stay
 -- in their ranges, and its model is the list's, multiplied. Assumes nothing.
+use Rattle.std.specs.declared.option.Option.{Option}
+use Rattle.std.specs.declared.option.Option.TheVariants.{Some, None}
 use mathlib.Core.Path.{◌≡◌, refl, sym, ap, ap₂, ◌∙◌}
 use mathlib.Core.Bool.{Bool, true, false, cond, ◌&&◌}
 use mathlib.Core.List.{List, [], ◌∷◌, reverse}
@@ -16,19 +18,17 @@ use Rattle.backoff.specs.Limits.{order_limit, least_probability, largest_backoff
 use Rattle.backoff.specs.Words.{same_words}
 use Rattle.backoff.specs.Model.{in_probability, in_backoff}
 use Rattle.backoff.specs.Refusal.{word_count}
-use Rattle.backoff.specs.declared.Verdict.{Verdict}
+use Rattle.backoff.specs.Refusal.{Verdict}
 use Rattle.backoff.proofs.Model.{model_ext}
 use Rattle.rows.specs.Table.{rows_of, field, probability_at, backoff_at, length_of, order_of, words_of, words, without_first, without_last, last_word}
 use Rattle.rows.specs.Order.{precedes}
 use Rattle.rows.proofs.Table.{length_limit, same-places}
 use Rattle.row_search.specs.Search.{find_below, find_in, is_at}
-use Rattle.row_search.specs.declared.Found.{Found}
-use Rattle.row_search.specs.declared.Found.TheVariants.{At, Nothing}
 use Rattle.row_fields.specs.Fields.{backoff_fits, field_fault}
 use Rattle.rows_before.specs.Faults.{is_after, without_firsts, shorter_listed, order_fault, row_fault}
 use Rattle.list.specs.Check.{reserved_listed, refuse, scan, verdict_for}
 use Rattle.list.specs.ListModel.{any_below, extended_in, continued_in, entry_at, model_of}
-use Rattle.lookup.specs.declared.Lookup.TheVariants.{Refused as NoLookup}
+use Rattle.lookup.specs.Lookup.{Refused as NoLookup}
 use Rattle.build.specs.Listed.{answer_at, listed_answer}
 use Rattle.finer.specs.Times.{times, times_entry, times_model}
 use Rattle.finer.specs.FinerList.{times_from, times_list, OlderPoints, taken_over, times_lookup}
@@ -130,7 +130,7 @@ module _ (k : ℕ) (t : List ℤ) where
   find_below-times : (ws : List ℕ) (n : ℕ) → find_below u ws n ≡ find_below t ws n
   unfolding find_below
   find_below-times ws zero = refl
-  find_below-times ws (suc n) = ap₂ (λ (f : ℕ → List ℕ) (r : Found). cond (same_words (f n) ws) (At n) r) words-times (find_below-times ws n)
+  find_below-times ws (suc n) = ap₂ (λ (f : ℕ → List ℕ) (r : Option ℕ). cond (same_words (f n) ws) (Some n) r) words-times (find_below-times ws n)
 
   find_in-times : (ws : List ℕ) → find_in u ws ≡ find_in t ws
   unfolding find_in
@@ -144,9 +144,9 @@ module _ (k : ℕ) (t : List ℤ) where
   unfolding continued_in
   continued_in-times ws = ap₂ (λ (f : ℕ → List ℕ) (n : ℕ). any_below f ws n) without_last-times rows-times
 
-  entry_times : (ws : List ℕ) (r : Found) → entry_at u ws r ≡ times_entry k (entry_at t ws r)
-  entry_times ws (At i) = rw (field-times i 6 (omega arith) (omega arith), field-times i 7 (omega arith) (omega arith), extended_in-times ws, continued_in-times ws) refl
-  entry_times ws Nothing = refl
+  entry_times : (ws : List ℕ) (r : Option ℕ) → entry_at u ws r ≡ times_entry k (entry_at t ws r)
+  entry_times ws (Some i) = rw (field-times i 6 (omega arith) (omega arith), field-times i 7 (omega arith) (omega arith), extended_in-times ws, continued_in-times ws) refl
+  entry_times ws None = refl
 
   -- the model of the one is the other's with p and b multiplied
   pub model-times : model_of u ≡ times_model k (model_of t)
@@ -197,7 +197,7 @@ module _ (k : ℕ) (some-k : 0 < k) (t : List ℤ) (R : SameRanges k t) where
   shorter_listed-times : (filling : Bool) (i : ℕ) → shorter_listed filling v i ≡ shorter_listed filling t i
   unfolding shorter_listed
   shorter_listed-times filling i =
-      ap₂ (λ (a b : Found). is_at a && is_at b)
+      ap₂ (λ (a b : Option ℕ). is_at a && is_at b)
       (ahead i (without_firsts filling v i) ∙ ap (find_in (take (8 * i) t)) (without_firsts-times filling i))
       (ahead i (without_last v i) ∙ ap (λ (f : ℕ → List ℕ). find_in (take (8 * i) t) (f i)) (without_last-times k t))
 
@@ -253,9 +253,9 @@ taken_over-model t = model-times 100 t
 
 -- ---- lookups
 
-answer-times : (k : ℕ) (t : List ℤ) (ws : List ℕ) (r : Found) → answer_at (times_list k t) ws r ≡ times_lookup k (answer_at t ws r)
-answer-times k t ws (At i) = rw (field-times k t i 6 (omega arith) (omega arith), field-times k t i 7 (omega arith) (omega arith), extended_in-times k t ws) refl
-answer-times k t ws Nothing = refl
+answer-times : (k : ℕ) (t : List ℤ) (ws : List ℕ) (r : Option ℕ) → answer_at (times_list k t) ws r ≡ times_lookup k (answer_at t ws r)
+answer-times k t ws (Some i) = rw (field-times k t i 6 (omega arith) (omega arith), field-times k t i 7 (omega arith) (omega arith), extended_in-times k t ws) refl
+answer-times k t ws None = refl
 
 pub lookup_times : (k : ℕ) (t : List ℤ) (ws : List ℕ) → listed_answer (times_list k t) ws ≡ times_lookup k (listed_answer t ws)
 unfolding listed_answer

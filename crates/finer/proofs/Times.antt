@@ -1,9 +1,10 @@
 -- Over any model, with every p and b multiplied by k: each word has k times the points after every history, the same row is matched, and states have k times the
 -- back-offs; so have runs and lists of runs. Assumes nothing.
+use Rattle.std.specs.declared.option.Option.{Option}
+use Rattle.std.specs.declared.option.Option.TheVariants.{Some, None}
 use mathlib.Core.Path.{◌≡◌, refl, sym, ap, ap₂, subst, ◌∙◌}
 use mathlib.Core.Bool.{Bool, true, false, not, cond, ◌||◌}
 use mathlib.Core.List.{List, [], ◌∷◌, ◌++◌, map}
-use mathlib.Core.Option.{Option, none, some}
 use Prim.Native.Nat.{ℕ, zero, suc, ◌<◌, min}
 use lib.ListN.{length, take, drop, length-map}
 use lib.IntN.{ℤ, pos, ◌+ℤ◌}
@@ -28,24 +29,24 @@ use Rattle.finer.proofs.Products.{times_zero, times_add, times_none, sum-times, 
 
 module _ (k : ℕ) where
   found-listed : (o : Option Entry) → is_some (times_entry k o) ≡ is_some o
-  found-listed none = refl
-  found-listed (some r) = refl
+  found-listed None = refl
+  found-listed (Some r) = refl
 
   found-probability : (o : Option Entry) → probability_of (times_entry k o) ≡ times k (probability_of o)
-  found-probability none = sym (times_zero k)
-  found-probability (some r) = refl
+  found-probability None = sym (times_zero k)
+  found-probability (Some r) = refl
 
   found-backoff : (o : Option Entry) → backoff_of (times_entry k o) ≡ times k (backoff_of o)
-  found-backoff none = sym (times_zero k)
-  found-backoff (some r) = refl
+  found-backoff None = sym (times_zero k)
+  found-backoff (Some r) = refl
 
   found-extended : (o : Option Entry) → extended_of (times_entry k o) ≡ extended_of o
-  found-extended none = refl
-  found-extended (some r) = refl
+  found-extended None = refl
+  found-extended (Some r) = refl
 
   found-continued : (o : Option Entry) → continued_of (times_entry k o) ≡ continued_of o
-  found-continued none = refl
-  found-continued (some r) = refl
+  found-continued None = refl
+  found-continued (Some r) = refl
 
   add_times : (x : ℤ) (s : Score) → add_points (times k x) (times_score k s) ≡ times_score k (add_points x s)
   unfolding add_points times_score

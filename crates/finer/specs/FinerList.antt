@@ -2,8 +2,8 @@
 use Rattle.std.specs.Prelude.{◌≡◌, true, cond, List, [], ◌∷◌, ℕ, suc, ◌%◌, ◌<◌, leb, ℤ, pos, neg_ℤ}
 use Rattle.integer.specs.Integer.{between}
 use Rattle.rows.specs.Table.{rows_of, probability_at, backoff_at}
-use Rattle.lookup.specs.declared.Lookup.{Lookup}
-use Rattle.lookup.specs.declared.Lookup.TheVariants.{Found, NotFound, Refused}
+use Rattle.lookup.specs.Lookup.{Lookup}
+use Rattle.lookup.specs.Lookup.{Found, NotFound, Refused}
 use Rattle.finer.specs.Times.{times}
 
 -- Every p and every b multiplied by k, from number j of a table on: they are numbers 6 and 7 of each row's eight.

@@ -1,6 +1,7 @@
 -- A model, a state and the answers of runs with every p, every b and every score multiplied by k. Assumes nothing.
+use Rattle.std.specs.declared.option.Option.{Option}
+use Rattle.std.specs.declared.option.Option.TheVariants.{Some, None}
 use Rattle.std.specs.Prelude.{◌≡◌, List, ◌++◌, map, ℕ, take, drop, ℤ, pos, ◌*ℤ◌}
-use Rattle.std.proofs.Math.Option.{Option, none, some}
 use Rattle.backoff.specs.Model.{Entry, Model}
 use Rattle.backoff.specs.Rule.{Score}
 use Rattle.backoff.specs.State.{State}
@@ -11,8 +12,8 @@ abbrev pub times : ℕ → ℤ → ℤ
 times k z = pos k *ℤ z
 
 abbrev pub times_entry : ℕ → Option Entry → Option Entry
-times_entry k none = none
-times_entry k (some r) = some (record { p = times k r.p; b = times k r.b; e = r.e; f = r.f })
+times_entry k None = None
+times_entry k (Some r) = Some (record { p = times k r.p; b = times k r.b; e = r.e; f = r.f })
 
 -- the same rows, each p and each b multiplied by k
 unfoldable pub times_model : ℕ → Model → Model

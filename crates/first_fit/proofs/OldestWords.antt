@@ -4,13 +4,10 @@ use mathlib.Core.Path.{◌≡◌, refl, sym, ap, ◌∙◌, subst}
 use mathlib.Core.Bool.{Bool, true, false, ◌&&◌, false≢true}
 use mathlib.Core.List.{List, [], ◌∷◌, Memᴰ}
 use Prim.Native.Nat.{ℕ, zero, suc, ◌+◌, ◌-◌, ◌≤◌, ◌<◌, max}
-use native.Mathlib.Nat.{not-suc-le-zero}
 use native.Mathlib.Numerals.{add-one}
 use native.Mathlib.Omega.{arith}
 use lib.IntN.{ℤ, pos}
-use lib.ListN.{length, get_or, set, length-set}
-use lib.Seq.{get_or-set_same, get_or-set_other}
-use borrow.Author.Count.{below_more}
+use lib.ListN.{length, get_or}
 use Rattle.rows.specs.Table.{rows_of, field, word_of}
 use Rattle.child_slots.specs.Children.{child_slot}
 use Rattle.child_slots.proofs.Children.{slots_apart, marker_apart}
@@ -19,7 +16,7 @@ use Rattle.placing.proofs.FirstFit.{is_free-yes, open_told, all_open-at}
 use Rattle.placing.proofs.Rooms.{update_other}
 use Rattle.free_slots.specs.Chain.{Linked, Takes}
 use Rattle.free_slots.proofs.Chain.{update-kept}
-use Rattle.first_fit.specs.Steps.{oldest_from, oldest_of, Rising, ChildSlots, Settles, Fitting, Given}
+use Rattle.first_fit.specs.Steps.{oldest_from, oldest_of, Rising, ChildSlots, Settles, Fitting}
 
 -- ---- how far the children reach
 
@@ -72,19 +69,19 @@ module _ (t : List ℤ) (i n : ℕ) where
   unfolding oldest_from
   oldest_end l = let e : n - i ≡ 0 = omega arith in rw e
 
-  -- whether the slot of word v and those of the children left are open
-  module _ (c : Room) (behind : Bool) (d v : ℕ) where
-    pub open_step : i < n → is_open c (child_slot behind d v) ≡ true → all_open c behind d (v ∷ left) ≡ all_open c behind d (word ∷ rest)
+  -- whether the slots of the children left are open
+  module _ (c : Room) (behind : Bool) (d : ℕ) where
+    pub open_step : i < n → is_open c (child_slot behind d word) ≡ true → all_open c behind d left ≡ all_open c behind d rest
     unfolding all_open
     open_step l e = rw (oldest_step l, e)
 
-    pub open_fails : is_open c (child_slot behind d v) ≡ false → all_open c behind d (v ∷ left) ≡ false
+    pub open_fails : i < n → is_open c (child_slot behind d word) ≡ false → all_open c behind d left ≡ false
     unfolding all_open
-    open_fails e = rw e
+    open_fails l e = rw (oldest_step l, e)
 
-    pub open_end : n ≤ i → is_open c (child_slot behind d v) ≡ true → all_open c behind d (v ∷ left) ≡ true
+    pub open_end : n ≤ i → all_open c behind d left ≡ true
     unfolding all_open
-    open_end l e = rw (oldest_end l, e)
+    open_end l = rw (oldest_end l)
 
   module _ (behind : Bool) (d : ℕ) where
     reach_step : i < n → top_with 0 behind d left ≡ max (suc (child_slot behind d word)) (top_with 0 behind d rest)
@@ -102,6 +99,11 @@ module _ (t : List ℤ) (i n : ℕ) where
     own-end : (s : ℕ) (c : Room) → n ≤ i → own behind d s left c ≡ c
     unfolding own
     own-end s c l = rw (oldest_end l)
+
+-- where the slot of the first is not open
+pub first_fails : (c : Room) (behind : Bool) (d w : ℕ) (ws : List ℕ) → is_open c (child_slot behind d w) ≡ false → all_open c behind d (w ∷ ws) ≡ false
+unfolding all_open
+first_fails c behind d w ws e = rw e
 
 -- the word of row i + j is among them
 oldest_member : (t : List ℤ) (i k j : ℕ) → j < k → Memᴰ (word_of (field t (i + j) 1)) (oldest_from t i k)
@@ -228,17 +230,3 @@ module _ {N : ℕ} {b c₀ : Room} {rows : List ℤ} {behind : Bool} {d s : ℕ}
 pub record Giving (behind : Bool) (d : ℕ) (rows : List ℤ) (items₀ items : List ℕ) (i : ℕ) : Type 0 where
   pub same_length : length items ≡ length items₀
   pub item : (k : ℕ) → k < i → get_or items k 0 ≡ child_slot behind d (word_of (field rows k 1))
-
-module _ (behind : Bool) (d : ℕ) (rows : List ℤ) (items₀ : List ℕ) where
-  pub giving_none : Giving behind d rows items₀ items₀ 0
-  giving_none = record { same_length = refl; item = λ k l. absurd (not-suc-le-zero l) }
-
-  pub giving_next : (items : List ℕ) (i t : ℕ) → Giving behind d rows items₀ items i → i < length items → t ≡ child_slot behind d (word_of (field rows i 1))
-      → Giving behind d rows items₀ (set items i t) (i + 1)
-  giving_next items i t g l e = record {
-    same_length = length-set items i t ∙ g.same_length;
-    item = below_more _ i (λ k h. get_or-set_other items i k t 0 (λ q. absurd (omega arith)) ∙ g.item k h) (get_or-set_same items i t 0 l ∙ e);
-  }
-
-  pub giving_end : (items : List ℕ) (i : ℕ) → Giving behind d rows items₀ items i → length items₀ ≤ i → Given behind d rows items₀ items
-  giving_end items i g l = record { same_length = g.same_length; item = λ k h. g.item k (omega arith) }

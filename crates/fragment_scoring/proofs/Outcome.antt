@@ -1,9 +1,9 @@
 -- Laws of scoring over a store with no broken node and an accepted model, as every built array is: it answers as over the model, unless 14 refuses it.
 -- Assumes nothing.
+use Rattle.std.specs.declared.option.Option.TheVariants.{Some}
 use mathlib.Core.Path.{◌≡◌, refl, sym, ap, ◌∙◌}
 use mathlib.Core.Logic.{◌⊎◌, inl, inr}
 use mathlib.Core.List.{List, []}
-use mathlib.Core.Option.{some}
 use Prim.Native.Nat.{ℕ, ◌-◌, ◌≤◌, ◌<◌}
 use native.Mathlib.Omega.{arith}
 use lib.ListN.{length, length-take}
@@ -30,16 +30,16 @@ module _ (S : Store) (W : Whole S) (A : AcceptedModel (model_in S)) where
   abbrev M : Model
   M = model_in S
 
-  pub fragment_outcome-is : (ws : List ℕ) → length ws ≤ run_limit → fragment_outcome (some S) ws ≡ shown (fragment_of M ws)
+  pub fragment_outcome-is : (ws : List ℕ) → length ws ≤ run_limit → fragment_outcome (Some S) ws ≡ shown (fragment_of M ws)
   unfolding fragment_outcome packed fragment_of fragment_from reach model_in
   fragment_outcome-is ws few = rw (le-ltb run_limit (length ws) few, run_over-is S W ws empty 1)
 
-  pub fragment_outcome_too_many : (ws : List ℕ) → run_limit < length ws → fragment_outcome (some S) ws ≡ crossed (refused_by word_count 0)
+  pub fragment_outcome_too_many : (ws : List ℕ) → run_limit < length ws → fragment_outcome (Some S) ws ≡ crossed (refused_by word_count 0)
   unfolding fragment_outcome
   fragment_outcome_too_many ws many = rw (lt-ltb run_limit (length ws) many)
 
   -- a scoring that is not refused
-  pub scored-few : (ws : List ℕ) → (fragment_outcome (some S) ws).number ≡ 0 → length ws ≤ run_limit
+  pub scored-few : (ws : List ℕ) → (fragment_outcome (Some S) ws).number ≡ 0 → length ws ≤ run_limit
   scored-few ws e = go (lt_or_ge run_limit (length ws))
     where
       go : (run_limit < length ws) ⊎ (length ws ≤ run_limit) → length ws ≤ run_limit

@@ -1,7 +1,8 @@
 -- A fragment is scored and refused as a run is that begins with nothing, over any arrays, built or not. Assumes nothing.
+use Rattle.std.specs.declared.option.Option.{Option}
+use Rattle.std.specs.declared.option.Option.TheVariants.{Some, None}
 use mathlib.Core.Path.{◌≡◌, refl}
 use mathlib.Core.Bool.{Bool, true, false, cond}
-use mathlib.Core.Option.{Option, none, some}
 use Prim.Native.Nat.{ℕ, ◌≤◌}
 use lib.ListN.{length}
 use lib.Dec.{eqb, ltb}
@@ -36,8 +37,8 @@ module _ (r : Run) (points : length r.words ≤ length r.points) (lengths : leng
   -- "refuses by 11, 14 and 12 as a run does": number, place, total and end state, where the run's slices have room
   pub fragment-is_a_run : (o : Option Store) → SameResult (fragment_outcome o r.words) (run_outcome o nine_zeros r)
   unfolding fragment_outcome run_outcome accepted
-  fragment-is_a_run none = refused-alike array_head
-  fragment-is_a_run (some S) = rw (zeros_ok S.order, zeros-empty, refusal_is) (go (ltb run_limit (length r.words)))
+  fragment-is_a_run None = refused-alike array_head
+  fragment-is_a_run (Some S) = rw (zeros_ok S.order, zeros-empty, refusal_is) (go (ltb run_limit (length r.words)))
     where
       y : Ran
       y = run_over S r.words empty 1

@@ -1,6 +1,7 @@
 -- What scoring words as a fragment returns over the lent arrays, which are a store unless 11 meets them. Assumes nothing.
+use Rattle.std.specs.declared.option.Option.{Option}
+use Rattle.std.specs.declared.option.Option.TheVariants.{Some, None}
 use Rattle.std.specs.Prelude.{◌≡◌, cond, List, ℕ, length, ℤ, ltb}
-use Rattle.std.proofs.Math.Option.{Option, none, some}
 use Rattle.integer.specs.Integer.{sum}
 use Rattle.backoff.specs.Limits.{run_limit}
 use Rattle.backoff.specs.Refusal.{array_head, broken_node, word_count}
@@ -19,8 +20,8 @@ scored_as n ws (refused_at k) = refused_by broken_node k
 
 -- "refuses by 11, 14 and 12 as a run does"
 abbrev pub scored_in : Option Store → List ℕ → Reply
-scored_in none ws = refused_by array_head 0
-scored_in (some S) ws = cond (ltb run_limit (length ws)) (refused_by word_count 0) (scored_as S.order ws (run_over S ws empty 1))
+scored_in None ws = refused_by array_head 0
+scored_in (Some S) ws = cond (ltb run_limit (length ws)) (refused_by word_count 0) (scored_as S.order ws (run_over S ws empty 1))
 
 unfoldable pub fragment_outcome : Option Store → List ℕ → Joined
 fragment_outcome o ws = crossed (scored_in o ws)

@@ -1,5 +1,9 @@
 -- How a fragment crosses, and what scoring or joining returns. Assumes nothing.
+use Rattle.std.specs.declared.result.Result.{Result}
+use Rattle.std.specs.declared.result.Result.TheVariants.{Ok, Err}
 use Rattle.std.specs.Prelude.{◌≡◌, List, [], ◌∷◌, ◌++◌, ℕ, ◌-◌, length, take, get_or, replicate, ℤ}
+use Rattle.backoff.specs.declared.Refusal.{Refusal}
+use Rattle.backoff.specs.Refusal.{number_in, place_in}
 use Rattle.backoff.specs.NineNumbers.{nine_zeros}
 use Rattle.carried_state.specs.Numbers.{numbers_of, state_from}
 use Rattle.fragments.specs.declared.Fragment.{Fragment as Numbers}
@@ -39,6 +43,18 @@ to_numbers f = record { total = f.total; count = f.count; kept = length f.first;
 abbrev pub crossed : Reply → Joined
 crossed r = record { number = r.number; place = r.place; fragment = to_numbers r.fragment }
 
+-- the empty fragment
+abbrev pub empty_fragment : Numbers
+empty_fragment = to_numbers (no_words nine_zeros)
+
+-- the fragment that scoring or joining came to: the empty one where it is refused
+abbrev pub fragment_of : Result Numbers (Refusal ℕ) → Numbers
+fragment_of (Ok f) = f
+fragment_of (Err refusal) = empty_fragment
+
+abbrev pub joined_of : Result Numbers (Refusal ℕ) → Joined
+joined_of r = record { number = number_in r; place = place_in r; fragment = fragment_of r }
+
 -- ---- the fragment of scored words
 
 -- the fragment of the words ws where the order is n, with the total and the state that scoring them gave
@@ -47,4 +63,4 @@ scored_fragment n ws total end = record { total = total; first = take (n - 1) ws
 
 -- "A refused fragment or join is the empty fragment."
 abbrev pub RefusedIsEmpty : Joined → Type 0
-RefusedIsEmpty r = (r.number ≡ 0 → ⊥) → r.fragment ≡ to_numbers (no_words nine_zeros)
+RefusedIsEmpty r = (r.number ≡ 0 → ⊥) → r.fragment ≡ empty_fragment

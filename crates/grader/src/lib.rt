@@ -31,6 +31,7 @@ ghost use Rattle.c_answers.specs.Answers.{StatusIs, FoundIs, TotalIs};
 ghost use Rattle.c_scoring.specs.Crossing.{StartedIs, RanIs};
 ghost use Rattle.grader.specs.Exports.{BuiltIs, UnloadedIs, ReadIs, FilledIs};
 
+use backoff::Refusal;
 use batch::Sheet;
 use c_answers::{Found, RowCount, Status, Total};
 use fragments::{Fragment, Joined};
@@ -43,7 +44,7 @@ pub extern "C" fn backoff_check(table: &[i32]) -> Status
     ensures outcome { StatusIs (verdict table.now) result }
     ensures meaning { CheckMeans table.now result.number result.place }
 {
-    c_answers::status_of(list::check_list(table))
+    list::check_list(table).into()
 }
 
 // Builds the double array of a list: 1, 2, rows 3 to 8, 9, 10. `work` gets the slots of the rows' nodes.
@@ -57,7 +58,7 @@ pub extern "C" fn backoff_build(
     ensures outcome { BuiltIs (build_outcome table.now base.old check.old work.old) result base.new check.new work.new }
     ensures meaning { BuildMeans table.now base.old check.old work.old result.number result.place base.new check.new }
 {
-    c_answers::status_of(build::build(table, base, check, work))
+    build::build(table, base, check, work).into()
 }
 
 // Looks up the words, oldest first, in the array: 11, 14, 12.
@@ -66,7 +67,7 @@ pub extern "C" fn backoff_lookup(base: &[i32], check: &[i32], words: &[u32]) -> 
     ensures outcome { FoundIs (lookup_outcome base.now check.now words.now) result }
     ensures meaning { LookupMeans base.now check.now words.now result.number result.place result.found result.p result.b result.left }
 {
-    c_answers::found_of(lookup::look_up(base, check, words))
+    lookup::look_up(base, check, words).into()
 }
 
 // Leaves the state after `<s>` in a slice of nine: 16 for another length, 11, 12.
@@ -175,12 +176,7 @@ pub extern "C" fn backoff_plain(
     ensures outcome { TotalIs (plain_outcome table.now after_start (run_of words.now points.old lengths.old)) result points.new lengths.new }
     ensures meaning { PlainMeans table.now after_start (run_of words.now points.old lengths.old) result.number result.place result.total points.new lengths.new }
 {
-    let scored = plain::score_plain(table, after_start, words, points, lengths);
-    Total {
-        number: scored.number,
-        place: scored.place,
-        total: scored.total,
-    }
+    plain::score_plain(table, after_start, words, points, lengths).into()
 }
 
 // Gives the list of an array back, row for row: 11, 15, 12. `work` gets the slots of the rows' nodes.
@@ -194,7 +190,7 @@ pub extern "C" fn backoff_unload(
     ensures outcome { UnloadedIs (unload_outcome base.now check.now table.old work.old) result table.new work.new }
     ensures meaning { UnloadMeans base.now check.now table.old work.old result.number result.place table.new work.new }
 {
-    c_answers::status_of(unload::unload(base, check, table, work))
+    unload::unload(base, check, table, work).into()
 }
 
 // Reads an ARPA text: 17, 18, 15, 19 with the line, then the list checks with the row, where the list is to be filled 8 for the two cases that filling
@@ -209,7 +205,7 @@ pub extern "C" fn backoff_arpa(
     ensures outcome { ReadIs (read_arpa to_be_filled (length table.old) (length store.old) text.now) result table.new store.new }
     ensures meaning { ReadMeans to_be_filled text.now result.number result.place result.rows table.new store.new }
 {
-    c_answers::row_count_of(arpa::read_arpa(text, to_be_filled, table, store))
+    arpa::read_arpa(text, to_be_filled, table, store).into()
 }
 
 // Fills a pruned list: 1, rows 3 to 8, 9, then 5 with the row that needs it, 1, 15. Refused, nothing is written.
@@ -218,10 +214,7 @@ pub extern "C" fn backoff_fill(table: &[i32], filled: &mut [i32]) -> RowCount
     ensures outcome { FilledIs (fill_outcome table.now filled.old) result filled.new }
     ensures meaning { FillMeans table.now filled.old result.number result.place result.rows filled.new }
 {
-    let answer = filling::fill(table, filled);
-    RowCount {
-        number: answer.number,
-        rows: answer.rows,
-        place: answer.place as u64,
-    }
+    filling::fill(table, filled)
+        .map_err(Refusal::<u64>::from)
+        .into()
 }

@@ -1,9 +1,9 @@
 -- The largest pair of a group, from the least and the largest total and where each first stands. Assumes nothing.
 use mathlib.Core.Path.{◌≡◌, refl, sym, ap, ap₂, ◌∙◌}
 use mathlib.Core.Logic.{◌⊎◌, inl, inr}
-use mathlib.Core.Bool.{Bool, true, false}
+use mathlib.Core.Bool.{Bool, true, false, cond}
 use mathlib.Core.List.{List}
-use Prim.Native.Nat.{ℕ, suc, ◌+◌, ◌*◌, ◌≤◌, ◌<◌}
+use Prim.Native.Nat.{ℕ, suc, ◌+◌, ◌*◌, ◌≤◌, ◌<◌, min, max}
 use native.Mathlib.Nat.{mul-le-mul_right, mul-lt-mul_of_pos_right}
 use native.Mathlib.Numerals.{add-one}
 use native.Mathlib.Decide.{ℕ_discrete}
@@ -13,6 +13,7 @@ use lib.IntN.{ℤ, pos, nat_abs, ◌-ℤ◌}
 use mir.Syntax.{w64}
 use mir.Val.{SFits}
 use lib.Signed.{lt_z, ◌≤ℤ◌, ◌<ℤ◌}
+use Rattle.std.specs.Int.{int_min, int_max}
 use Rattle.integer.proofs.Arithmetic.{zarith, abs, sub, le_or_lt}
 use Rattle.integer.proofs.Ranges.{lt_or_ge}
 use Rattle.one_word.specs.OneWord.{distance}
@@ -40,15 +41,15 @@ distance_swap x y = omega (zarith, sub x y, sub y x, abs (x -ℤ y), abs (y -ℤ
 pub distance-up : (low high : ℤ) → low ≤ℤ high → pos (distance low high) ≡ high -ℤ low
 distance-up low high h = omega (zarith, sub low high, sub high low, abs (low -ℤ high))
 
--- a pair as the code makes it
-pub named-pair : (z d : ℤ) (x y : ℕ) → z ≡ d → ◌≡◌ {A = Pair} (record { distance = z; first = x + 1; second = y + 1 }) (record { distance = d; first = suc x; second = suc y })
-named-pair z d x y e = λ t. record { distance = e t; first = add-one x t; second = add-one y t }
-
 -- ---- the range of the first s of a group, and one more
 
 -- the new number where the test holds, else the old one
-abbrev pub Chosen : Bool → ℤ → ℤ → ℤ → Type 0
+abbrev Chosen : Bool → ℤ → ℤ → ℤ → Type 0
 Chosen t new old z = ((t ≡ true) × (z ≡ new)) ⊎ ((t ≡ false) × (z ≡ old))
+
+chosen : (t : Bool) (new old z : ℤ) → z ≡ cond t new old → Chosen t new old z
+chosen true new old z e = inl (refl, e)
+chosen false new old z e = inr (refl, e)
 
 module _ (totals : List ℤ) (first weight : ℕ) where
   abbrev total : ℕ → ℤ
@@ -82,41 +83,28 @@ module _ (totals : List ℤ) (first weight : ℕ) where
     lowered low' (inl (l, e)) = rw e (has_new, each (λ (z : ℤ). total s ≤ℤ z) (λ t h. omega (zarith, f.least t h)) (omega zarith))
     lowered low' (inr (l, e)) = rw e (has_old low f.low-has, each (λ (z : ℤ). low ≤ℤ z) f.least (omega zarith))
 
-    raised : (high' : ℤ) → Chosen (lt_z high (total s)) (total s) high high' → Has totals first weight (s + 1) high' × ((t : ℕ) → t < s + 1 → total t ≤ℤ high')
-    raised high' (inl (l, e)) = rw e (has_new, each (λ (z : ℤ). z ≤ℤ total s) (λ t h. omega (zarith, f.most t h)) (omega zarith))
-    raised high' (inr (l, e)) = rw e (has_old high f.high-has, each (λ (z : ℤ). z ≤ℤ high) f.most (omega zarith))
+    raised : (high' : ℤ) → Chosen (lt_z (total s) high) high (total s) high' → Has totals first weight (s + 1) high' × ((t : ℕ) → t < s + 1 → total t ≤ℤ high')
+    raised high' (inl (l, e)) = rw e (has_old high f.high-has, each (λ (z : ℤ). z ≤ℤ high) f.most (omega zarith))
+    raised high' (inr (l, e)) = rw e (has_new, each (λ (z : ℤ). z ≤ℤ total s) (λ t h. omega (zarith, f.most t h)) (omega zarith))
 
-    pub spans-more : (low' high' : ℤ) → Chosen (lt_z (total s) low) (total s) low low' → Chosen (lt_z high (total s)) (total s) high high' → Spans totals first weight (s + 1) low' high'
-    spans-more low' high' a b = let l = lowered low' a in let h = raised high' b in record { low-has = l.0; high-has = h.0; least = l.1; most = h.1 }
+    pub spans-more : (x low' high' : ℤ) → x ≡ total s → low' ≡ int_min low x → high' ≡ int_max high x → Spans totals first weight (s + 1) low' high'
+    spans-more x low' high' e p q =
+        let l = lowered low' (rw e at (chosen (lt_z x low) x low low' p)) in
+        let h = raised high' (rw e at (chosen (lt_z x high) high x high' q)) in
+        record { low-has = l.0; high-has = h.0; least = l.1; most = h.1 }
 
--- ---- the search for the first of a group with the total z: the s-th is reached, and none before has it
+-- ---- the search for the first of a group with the total z: the last has it where none before has
 
-pub record Searching (totals : List ℤ) (first weight : ℕ) (z : ℤ) (at s : ℕ) : Type 0 where
-  pub at-is : at ≡ first + s * weight
-  pub before : NoneBefore totals first weight z s
+pub search_exhausts : (totals : List ℤ) (first weight count : ℕ) (z : ℤ) (s : ℕ) → count ≡ s + 1 → NoneBefore totals first weight z s → Has totals first weight count z → FirstWith totals first weight z (first + s * weight)
+search_exhausts totals first weight count z s e before has = record { s = s; at-is = refl; total = go (lt_or_ge has.s s); before = before }
+  where
+    go : (has.s < s) ⊎ (s ≤ has.s) → total_at totals (first + s * weight) ≡ z
+    go (inl l) = absurd (before has.s l has.total)
+    go (inr l) = let e : s ≡ has.s = omega (arith, has.inside) in rw e has.total
 
-module _ (totals : List ℤ) (first weight : ℕ) (z : ℤ) where
-  pub search_begins : Searching totals first weight z first 0
-  search_begins = record { at-is = omega arith; before = λ t h. absurd (omega arith) }
-
-  module _ (at s : ℕ) (f : Searching totals first weight z at s) where
-    pub search-goes_on : (total_at totals at ≡ z → ⊥) → Searching totals first weight z (at + weight) (s + 1)
-    search-goes_on n = record { at-is = omega (arith, f.at-is); before = λ t h. go t h (ℕ_discrete t s) }
-      where
-        go : (t : ℕ) → t < s + 1 → Dec (t ≡ s) → total_at totals (first + t * weight) ≡ z → ⊥
-        go t h (yes e) q = n (rw (f.at-is, sym e) q)
-        go t h (no e) q = f.before t (omega arith) q
-
-    pub search-ends : total_at totals at ≡ z → FirstWith totals first weight z at
-    search-ends e = record { s = s; at-is = f.at-is; total = e; before = f.before }
-
-    -- the last of the group has it where no other has
-    pub search_exhausts : (count : ℕ) → count ≤ s + 1 → Has totals first weight count z → FirstWith totals first weight z at
-    search_exhausts count h has = search-ends (go (lt_or_ge has.s s))
-      where
-        go : (has.s < s) ⊎ (s ≤ has.s) → total_at totals at ≡ z
-        go (inl l) = absurd (f.before has.s l has.total)
-        go (inr l) = let e : s ≡ has.s = omega (arith, has.inside) in rw (f.at-is, e) has.total
+-- the group's second sentence is there too
+pub second : (totals : List ℤ) (first weight count : ℕ) → IsGroup totals first weight count → first + weight < length totals
+second totals first weight count group = omega (arith, group.inside 1 group.two)
 
 -- two totals that first stand at one place are one
 pub one-place-one-total : (totals : List ℤ) (first weight : ℕ) (z u : ℤ) (x y : ℕ) → FirstWith totals first weight z x → FirstWith totals first weight u y → x ≡ y → z ≡ u
@@ -158,15 +146,6 @@ module _ (totals : List ℤ) (first weight count : ℕ) (group : IsGroup totals 
       go : (t < f.s) ⊎ (f.s ≤ t) → f.s ≤ t
       go (inl l) = absurd (f.before t l e)
       go (inr l) = l
-
-  in_listing : (z : ℤ) (at : ℕ) (f : FirstWith totals first weight z at) (has : Has totals first weight count z) → at < length totals
-  in_listing z at f has = omega (arith, f.at-is, group.inside f.s (omega (arith, not_behind z at f has.s has.total, has.inside)))
-
-  pub low_in_listing : (at : ℕ) → FirstWith totals first weight low at → at < length totals
-  low_in_listing at f = in_listing low at f spans.low-has
-
-  pub high_in_listing : (at : ℕ) → FirstWith totals first weight high at → at < length totals
-  high_in_listing at f = in_listing high at f spans.high-has
 
   earlier : (s t : ℕ) → s < t → first + s * weight < first + t * weight
   earlier s t l = omega (arith, mul-lt-mul_of_pos_right l group.apart)
@@ -228,6 +207,14 @@ module _ (totals : List ℤ) (first weight count : ℕ) (group : IsGroup totals 
       swap : {A B : Type 0} → A ⊎ B → B ⊎ A
       swap (inl a) = inr a
       swap (inr b) = inl b
+
+  -- as the code makes it
+  pub apart-pair : (x y : ℕ) → FirstWith totals first weight low x → FirstWith totals first weight high y → (x ≡ y → ⊥) → (z : ℤ) → z ≡ high -ℤ low → GroupPair totals first weight count (record { distance = z; first = min x y + 1; second = max x y + 1 })
+  apart-pair x y f g n z e = go (lt_or_ge x y)
+    where
+      go : (x < y) ⊎ (y ≤ x) → GroupPair totals first weight count (record { distance = z; first = min x y + 1; second = max x y + 1 })
+      go (inl l) = let p : min x y ≡ x = omega arith in let q : max x y ≡ y = omega arith in low_first x y f g l _ (rw (p, q, e, add-one, add-one))
+      go (inr l) = let p : min x y ≡ y = omega arith in let q : max x y ≡ x = omega arith in high-first y x g f (omega arith) _ (rw (p, q, e, add-one, add-one))
 
   pub level-pair : low ≡ high → (m : Pair) → m ≡ record { distance = high -ℤ low; first = suc first; second = suc (first + weight) } → GroupPair totals first weight count m
   level-pair e m q = record {

@@ -1,10 +1,11 @@
 // A group of sentences, the same words at all places but one: its range of totals, and the earliest of its pairs that spans it.
 #![tactic(auto)]
 
+ghost use Rattle.std.specs.Prelude.{◌<◌, length};
 ghost use Rattle.group_pairs.specs.Groups.{Small, IsGroup, Has, FirstWith, IsRange, GroupPair};
 
-// Two sentences, named by their numbers from 1, and how far their totals lie apart. While there is no pair, the distance is −1 and the numbers are 0.
-#[derive(Drop)]
+// Two sentences, named by their numbers from 1, and how far their totals lie apart.
+#[derive(Clone, Copy)]
 pub struct Pair {
     pub distance: i64,
     pub first: usize,
@@ -12,84 +13,74 @@ pub struct Pair {
 }
 
 // The least and the largest total of a group, and how far they lie apart.
-#[derive(Drop)]
+#[derive(Clone, Copy)]
 pub struct Range {
     pub low: i64,
     pub high: i64,
     pub distance: i64,
 }
 
-// The range of a group of `count` sentences from `first` on, each the weight of the place behind the one before.
-pub fn range_of(totals: &[i64], first: usize, weight: usize, count: usize) -> Range
-    requires small { Small totals.now }
-    requires group { IsGroup totals.now first weight count }
-    ensures { IsRange totals.now first weight count result }
-{
-    let mut low = totals[first];
-    let mut high = low;
-    let mut at = first;
-    let mut s = 1;
-    while s < count {
-        at += weight;
-        let total = totals[at];
-        if total < low {
-            low = total;
-        }
-        if high < total {
-            high = total;
-        }
-        s += 1;
-    }
-    Range {
-        low,
-        high,
-        distance: high - low,
-    }
+// Two or more sentences among all of these totals: `count` of them from `first` on, each the weight of the place behind the one before.
+#[derive(Clone, Copy)]
+pub struct Group<'a> {
+    pub totals: &'a [i64],
+    pub first: usize,
+    pub weight: usize,
+    pub count: usize,
+    pub ghost is_group: { IsGroup totals.now first weight count },
 }
 
-// The first sentence of a group with that total.
-fn first_with(totals: &[i64], first: usize, weight: usize, count: usize, total: i64) -> usize
-    requires group { IsGroup totals.now first weight count }
-    requires has { Has totals.now first weight count total }
-    ensures { FirstWith totals.now first weight total result }
-{
-    let mut at = first;
-    let mut s = 0;
-    while s + 1 < count {
-        if totals[at] == total {
-            return at;
+impl Group<'_> {
+    // The range of its totals.
+    pub fn range(self) -> Range
+        requires { Small self.totals.now }
+        ensures { IsRange self.entry.totals.now self.entry.first self.entry.weight self.entry.count result }
+    {
+        let mut low = self.totals[self.first];
+        let mut high = low;
+        for s in 1..self.count {
+            let total = self.totals[self.first + s * self.weight];
+            low = low.min(total);
+            high = high.max(total);
         }
-        at += weight;
-        s += 1;
+        Range {
+            low,
+            high,
+            distance: high - low,
+        }
     }
-    at
-}
 
-// The earliest pair of a group that spans its range: the first two where all totals are equal.
-pub fn group_pair(totals: &[i64], first: usize, weight: usize, count: usize, range: Range) -> Pair
-    requires group { IsGroup totals.now first weight count }
-    requires range { IsRange totals.now first weight count range }
-    ensures { GroupPair totals.now first weight count result }
-{
-    let low = first_with(totals, first, weight, count, range.low);
-    let high = first_with(totals, first, weight, count, range.high);
-    if low < high {
-        return Pair {
-            distance: range.distance,
-            first: low + 1,
-            second: high + 1,
-        };
+    // Its first sentence with that total.
+    fn first_with(self, total: i64) -> usize
+        requires { Has self.totals.now self.first self.weight self.count total }
+        ensures first { FirstWith self.entry.totals.now self.entry.first self.entry.weight total result }
+        ensures listed { result < length self.entry.totals.now }
+    {
+        for s in 0..self.count - 1 {
+            let at = self.first + s * self.weight;
+            if self.totals[at] == total {
+                return at;
+            }
+        }
+        self.first + (self.count - 1) * self.weight
     }
-    if high < low {
-        return Pair {
-            distance: range.distance,
-            first: high + 1,
-            second: low + 1,
+
+    // The earliest of its pairs that spans its range: the first two where all totals are equal.
+    pub fn pair(self, range: Range) -> Pair
+        requires { IsRange self.totals.now self.first self.weight self.count range }
+        ensures { GroupPair self.entry.totals.now self.entry.first self.entry.weight self.entry.count result }
+    {
+        let low = self.first_with(range.low);
+        let high = self.first_with(range.high);
+        let (first, second) = if low == high {
+            (self.first, self.first + self.weight)
+        } else {
+            (low.min(high), low.max(high))
         };
-    }
-    Pair {
-        distance: range.distance,
-        first: first + 1,
-        second: first + weight + 1,
+        Pair {
+            distance: range.distance,
+            first: first + 1,
+            second: second + 1,
+        }
     }
 }

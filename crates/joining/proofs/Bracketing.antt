@@ -1,10 +1,10 @@
 -- Laws of bracketings over a store with no broken node and an accepted model, as every built array is: 14 is all that refuses, and where it refuses nothing the
 -- result is that of the words scored at once, or of the run from start's state. Assumes nothing.
+use Rattle.std.specs.declared.option.Option.TheVariants.{Some}
 use mathlib.Core.Path.{◌≡◌, refl, sym, ap, ap₂, ◌∙◌}
 use mathlib.Core.Logic.{◌⊎◌, inl, inr}
 use mathlib.Core.Bool.{Bool, true, ◌&&◌}
 use mathlib.Core.List.{List, [], ◌∷◌, ◌++◌}
-use mathlib.Core.Option.{some}
 use Prim.Native.Nat.{ℕ, ◌+◌, ◌≤◌, ◌<◌}
 use native.Mathlib.Omega.{arith}
 use lib.ListN.{length, length-append}
@@ -43,50 +43,50 @@ module _ (S : Store) (W : Whole S) (A : AcceptedModel (model_in S)) where
 
   -- ---- nothing is refused
 
-  evaluate-few : (t : Bracketing) → length (words_in t) ≤ run_limit → evaluate (some S) t ≡ shown (fragment_of M (words_in t))
+  evaluate-few : (t : Bracketing) → length (words_in t) ≤ run_limit → evaluate (Some S) t ≡ shown (fragment_of M (words_in t))
   unfolding evaluate words_in
   evaluate-few (piece ws) few = fragment_outcome-is S W A ws few
   evaluate-few (both t u) few =
       let size : length (words_in t ++ words_in u) ≡ length (words_in t) + length (words_in u) = length-append (words_in t) (words_in u) in
-      ap₂ (λ (a b : Joined). join_outcome (some S) a.fragment b.fragment) (evaluate-few t (omega arith)) (evaluate-few u (omega arith))
+      ap₂ (λ (a b : Joined). join_outcome (Some S) a.fragment b.fragment) (evaluate-few t (omega arith)) (evaluate-few u (omega arith))
       ∙ joined-scored S W A (words_in t) (words_in u)
       ∙ fragment_outcome-is S W A (words_in t ++ words_in u) few
 
-  evaluate-both : (t u : Bracketing) → length (words_in t) ≤ run_limit → length (words_in u) ≤ run_limit → evaluate (some S) (both t u) ≡ fragment_outcome (some S) (words_in (both t u))
+  evaluate-both : (t u : Bracketing) → length (words_in t) ≤ run_limit → length (words_in u) ≤ run_limit → evaluate (Some S) (both t u) ≡ fragment_outcome (Some S) (words_in (both t u))
   unfolding evaluate words_in
   evaluate-both t u few fewer =
-      ap₂ (λ (a b : Joined). join_outcome (some S) a.fragment b.fragment) (evaluate-few t few) (evaluate-few u fewer)
+      ap₂ (λ (a b : Joined). join_outcome (Some S) a.fragment b.fragment) (evaluate-few t few) (evaluate-few u fewer)
       ∙ joined-scored S W A (words_in t) (words_in u)
 
   -- then all the words are no more than a run may have
-  all_accepted-few : (t : Bracketing) → all_accepted (some S) t ≡ true → length (words_in t) ≤ run_limit
+  all_accepted-few : (t : Bracketing) → all_accepted (Some S) t ≡ true → length (words_in t) ≤ run_limit
   unfolding all_accepted
   all_accepted-few (piece ws) e = unfold words_in evaluate in scored-few S W A ws (eqb-true _ 0 e)
   all_accepted-few (both t u) e =
       scored-few S W A (words_in (both t u))
       (ap (λ (j : Joined). j.number) (sym (evaluate-both t u (all_accepted-few t (and_left first second sides)) (all_accepted-few u (and_right first second sides))))
-      ∙ eqb-true _ 0 (and_left (eqb (evaluate (some S) (both t u)).number 0) (first && second) e))
+      ∙ eqb-true _ 0 (and_left (eqb (evaluate (Some S) (both t u)).number 0) (first && second) e))
     where
       first : Bool
-      first = all_accepted (some S) t
+      first = all_accepted (Some S) t
 
       second : Bool
-      second = all_accepted (some S) u
+      second = all_accepted (Some S) u
 
       sides : (first && second) ≡ true
-      sides = and_right (eqb (evaluate (some S) (both t u)).number 0) (first && second) e
+      sides = and_right (eqb (evaluate (Some S) (both t u)).number 0) (first && second) e
 
   -- and where they are no more, nothing is refused
-  pub few-all_accepted : (t : Bracketing) → length (words_in t) ≤ run_limit → all_accepted (some S) t ≡ true
+  pub few-all_accepted : (t : Bracketing) → length (words_in t) ≤ run_limit → all_accepted (Some S) t ≡ true
   unfolding all_accepted
   few-all_accepted (piece ws) few = ap (λ (j : Joined). eqb j.number 0) (evaluate-few (piece ws) few)
   few-all_accepted (both t u) few =
       let size : length (words_in (both t u)) ≡ length (words_in t) + length (words_in u) = unfold words_in in length-append (words_in t) (words_in u) in
-      and_both (eqb (evaluate (some S) (both t u)).number 0) _ (ap (λ (j : Joined). eqb j.number 0) (evaluate-few (both t u) few))
-      (and_both (all_accepted (some S) t) (all_accepted (some S) u) (few-all_accepted t (omega arith)) (few-all_accepted u (omega arith)))
+      and_both (eqb (evaluate (Some S) (both t u)).number 0) _ (ap (λ (j : Joined). eqb j.number 0) (evaluate-few (both t u) few))
+      (and_both (all_accepted (Some S) t) (all_accepted (Some S) u) (few-all_accepted t (omega arith)) (few-all_accepted u (omega arith)))
 
   -- "However a sentence is bracketed, the result is the same wherever" nothing in it is refused: that of its words scored as one fragment
-  pub any_bracketing : (t : Bracketing) → all_accepted (some S) t ≡ true → evaluate (some S) t ≡ fragment_outcome (some S) (words_in t)
+  pub any_bracketing : (t : Bracketing) → all_accepted (Some S) t ≡ true → evaluate (Some S) t ≡ fragment_outcome (Some S) (words_in t)
   any_bracketing t e =
       let few : length (words_in t) ≤ run_limit = all_accepted-few t e in
       evaluate-few t few ∙ sym (fragment_outcome-is S W A (words_in t) few)
@@ -94,35 +94,35 @@ module _ (S : Store) (W : Whole S) (A : AcceptedModel (model_in S)) where
   -- ---- what is refused
 
   -- a fragment that scoring returned, refused or not, is one of words
-  returned-scored : (ws : List ℕ) → (us : List ℕ) × ((fragment_outcome (some S) ws).fragment ≡ to_numbers (packed (fragment_of M us)))
+  returned-scored : (ws : List ℕ) → (us : List ℕ) × ((fragment_outcome (Some S) ws).fragment ≡ to_numbers (packed (fragment_of M us)))
   returned-scored ws = go (lt_or_ge run_limit (length ws))
     where
-      go : (run_limit < length ws) ⊎ (length ws ≤ run_limit) → (us : List ℕ) × ((fragment_outcome (some S) ws).fragment ≡ to_numbers (packed (fragment_of M us)))
+      go : (run_limit < length ws) ⊎ (length ws ≤ run_limit) → (us : List ℕ) × ((fragment_outcome (Some S) ws).fragment ≡ to_numbers (packed (fragment_of M us)))
       go (inl many) = ([], ap (λ (j : Joined). j.fragment) (fragment_outcome_too_many S W A ws many) ∙ ap to_numbers (nothing-scored S W A))
       go (inr few) = (ws, ap (λ (j : Joined). j.fragment) (fragment_outcome-is S W A ws few))
 
   -- the scoring of some words
   abbrev Scoring : Joined → Type 0
-  Scoring j = (ws : List ℕ) × (j ≡ fragment_outcome (some S) ws)
+  Scoring j = (ws : List ℕ) × (j ≡ fragment_outcome (Some S) ws)
 
   -- whatever is refused in a bracketing, it comes to one
-  evaluate_scores : (t : Bracketing) → Scoring (evaluate (some S) t)
+  evaluate_scores : (t : Bracketing) → Scoring (evaluate (Some S) t)
   unfolding evaluate
   evaluate_scores (piece ws) = (ws, refl)
   evaluate_scores (both t u) = go (evaluate_scores t) (evaluate_scores u)
     where
-      go : Scoring (evaluate (some S) t) → Scoring (evaluate (some S) u) → Scoring (evaluate (some S) (both t u))
+      go : Scoring (evaluate (Some S) t) → Scoring (evaluate (Some S) u) → Scoring (evaluate (Some S) (both t u))
       go (us, e) (vs, f) = (
         (returned-scored us).0 ++ (returned-scored vs).0,
-        ap₂ (λ (a b : Numbers). join_outcome (some S) a b) (ap (λ (j : Joined). j.fragment) e ∙ (returned-scored us).1) (ap (λ (j : Joined). j.fragment) f ∙ (returned-scored vs).1)
+        ap₂ (λ (a b : Numbers). join_outcome (Some S) a b) (ap (λ (j : Joined). j.fragment) e ∙ (returned-scored us).1) (ap (λ (j : Joined). j.fragment) f ∙ (returned-scored vs).1)
             ∙ joined-scored S W A (returned-scored us).0 (returned-scored vs).0,
       )
 
   -- so no fragment that scoring and joining return meets 21
-  pub bracketings_pass : (t : Bracketing) → fragment_ok S.order (fragment_in (evaluate (some S) t).fragment) ≡ true
+  pub bracketings_pass : (t : Bracketing) → fragment_ok S.order (fragment_in (evaluate (Some S) t).fragment) ≡ true
   bracketings_pass t = go (evaluate_scores t)
     where
-      go : Scoring (evaluate (some S) t) → fragment_ok S.order (fragment_in (evaluate (some S) t).fragment) ≡ true
+      go : Scoring (evaluate (Some S) t) → fragment_ok S.order (fragment_in (evaluate (Some S) t).fragment) ≡ true
       go (ws, e) =
           let us = (returned-scored ws).0 in
           ap (λ (f : Numbers). fragment_ok S.order (fragment_in f)) (ap (λ (j : Joined). j.fragment) e ∙ (returned-scored ws).1)
@@ -130,30 +130,30 @@ module _ (S : Store) (W : Whole S) (A : AcceptedModel (model_in S)) where
           ∙ (unfold model_in in fragments_pass M A us)
 
   -- and 14 alone refuses anything
-  pub only_too_many_refused : (t : Bracketing) → ((evaluate (some S) t).number ≡ 0) ⊎ (evaluate (some S) t ≡ crossed (refused_by word_count 0))
+  pub only_too_many_refused : (t : Bracketing) → ((evaluate (Some S) t).number ≡ 0) ⊎ (evaluate (Some S) t ≡ crossed (refused_by word_count 0))
   only_too_many_refused t = go (evaluate_scores t)
     where
-      go : Scoring (evaluate (some S) t) → ((evaluate (some S) t).number ≡ 0) ⊎ (evaluate (some S) t ≡ crossed (refused_by word_count 0))
+      go : Scoring (evaluate (Some S) t) → ((evaluate (Some S) t).number ≡ 0) ⊎ (evaluate (Some S) t ≡ crossed (refused_by word_count 0))
       go (ws, e) = by_length (lt_or_ge run_limit (length ws))
         where
-          by_length : (run_limit < length ws) ⊎ (length ws ≤ run_limit) → ((evaluate (some S) t).number ≡ 0) ⊎ (evaluate (some S) t ≡ crossed (refused_by word_count 0))
+          by_length : (run_limit < length ws) ⊎ (length ws ≤ run_limit) → ((evaluate (Some S) t).number ≡ 0) ⊎ (evaluate (Some S) t ≡ crossed (refused_by word_count 0))
           by_length (inl many) = inr (e ∙ fragment_outcome_too_many S W A ws many)
           by_length (inr few) = inl (ap (λ (j : Joined). j.number) (e ∙ fragment_outcome-is S W A ws few))
 
   -- ---- begun with start's state
 
-  evaluate_since-few : (x : Begun) → length (words_since x) ≤ run_limit → evaluate_since (some S) (nine (start M)) x ≡ shown (fragment_from M (start M) (words_since x))
+  evaluate_since-few : (x : Begun) → length (words_since x) ≤ run_limit → evaluate_since (Some S) (nine (start M)) x ≡ shown (fragment_from M (start M) (words_since x))
   unfolding evaluate_since words_since no_words packed
   evaluate_since-few x few = rw (start-is-after M A) (go x few)
     where
       s : State
       s = after M (start_word ∷ [])
 
-      go : (x : Begun) → length (words_since x) ≤ run_limit → evaluate_since (some S) (nine s) x ≡ shown (fragment_from M s (words_since x))
+      go : (x : Begun) → length (words_since x) ≤ run_limit → evaluate_since (Some S) (nine s) x ≡ shown (fragment_from M s (words_since x))
       go at-start few = ap shown (sym (no-words-scored M s))
       go (onto x t) few =
           let size : length (words_since x ++ words_in t) ≡ length (words_since x) + length (words_in t) = length-append (words_since x) (words_in t) in
-          ap₂ (λ (a b : Joined). join_outcome (some S) a.fragment b.fragment) (go x (omega arith)) (evaluate-few t (omega arith))
+          ap₂ (λ (a b : Joined). join_outcome (Some S) a.fragment b.fragment) (go x (omega arith)) (evaluate-few t (omega arith))
           ∙ joined-few S W A (start_word ∷ []) (words_since x) (words_in t) few
 
   begun_scores : to_numbers (no_words (nine (start M))) ≡ to_numbers (packed (fragment_from M (after M (start_word ∷ [])) []))
@@ -167,28 +167,28 @@ module _ (S : Store) (W : Whole S) (A : AcceptedModel (model_in S)) where
   ScoredAfter f = (h : List ℕ) × ((ws : List ℕ) × (f ≡ to_numbers (packed (fragment_from M (after M h) ws))))
 
   -- whatever is refused in it, it comes to such, and so does not meet 21
-  since_scores : (x : Begun) → ScoredAfter (evaluate_since (some S) (nine (start M)) x).fragment
+  since_scores : (x : Begun) → ScoredAfter (evaluate_since (Some S) (nine (start M)) x).fragment
   unfolding evaluate_since
   since_scores at-start = (start_word ∷ [], ([], begun_scores))
   since_scores (onto x t) = go (since_scores x) (evaluate_scores t)
     where
-      go : ScoredAfter (evaluate_since (some S) (nine (start M)) x).fragment → Scoring (evaluate (some S) t) → ScoredAfter (join_outcome (some S) (evaluate_since (some S) (nine (start M)) x).fragment (evaluate (some S) t).fragment).fragment
+      go : ScoredAfter (evaluate_since (Some S) (nine (start M)) x).fragment → Scoring (evaluate (Some S) t) → ScoredAfter (join_outcome (Some S) (evaluate_since (Some S) (nine (start M)) x).fragment (evaluate (Some S) t).fragment).fragment
       go (h, (us, e)) (ws, f) = by_length (lt_or_ge run_limit (length (us ++ vs)))
         where
           vs : List ℕ
           vs = (returned-scored ws).0
 
-          joined : join_outcome (some S) (evaluate_since (some S) (nine (start M)) x).fragment (evaluate (some S) t).fragment ≡ join_outcome (some S) (to_numbers (packed (fragment_from M (after M h) us))) (to_numbers (packed (fragment_of M vs)))
-          joined = ap₂ (λ (a b : Numbers). join_outcome (some S) a b) e (ap (λ (j : Joined). j.fragment) f ∙ (returned-scored ws).1)
+          joined : join_outcome (Some S) (evaluate_since (Some S) (nine (start M)) x).fragment (evaluate (Some S) t).fragment ≡ join_outcome (Some S) (to_numbers (packed (fragment_from M (after M h) us))) (to_numbers (packed (fragment_of M vs)))
+          joined = ap₂ (λ (a b : Numbers). join_outcome (Some S) a b) e (ap (λ (j : Joined). j.fragment) f ∙ (returned-scored ws).1)
 
-          by_length : (run_limit < length (us ++ vs)) ⊎ (length (us ++ vs) ≤ run_limit) → ScoredAfter (join_outcome (some S) (evaluate_since (some S) (nine (start M)) x).fragment (evaluate (some S) t).fragment).fragment
+          by_length : (run_limit < length (us ++ vs)) ⊎ (length (us ++ vs) ≤ run_limit) → ScoredAfter (join_outcome (Some S) (evaluate_since (Some S) (nine (start M)) x).fragment (evaluate (Some S) t).fragment).fragment
           by_length (inl many) = ([], ([], ap (λ (j : Joined). j.fragment) (joined ∙ joined-many S W A h us vs many) ∙ ap to_numbers (nothing-scored S W A ∙ ap packed (fragment_of-is M []))))
           by_length (inr few) = (h, (us ++ vs, ap (λ (j : Joined). j.fragment) (joined ∙ joined-few S W A h us vs few)))
 
-  pub since_passes : (x : Begun) → fragment_ok S.order (fragment_in (evaluate_since (some S) (nine (start M)) x).fragment) ≡ true
+  pub since_passes : (x : Begun) → fragment_ok S.order (fragment_in (evaluate_since (Some S) (nine (start M)) x).fragment) ≡ true
   since_passes x = go (since_scores x)
     where
-      go : ScoredAfter (evaluate_since (some S) (nine (start M)) x).fragment → fragment_ok S.order (fragment_in (evaluate_since (some S) (nine (start M)) x).fragment) ≡ true
+      go : ScoredAfter (evaluate_since (Some S) (nine (start M)) x).fragment → fragment_ok S.order (fragment_in (evaluate_since (Some S) (nine (start M)) x).fragment) ≡ true
       go (h, (ws, e)) =
           ap (λ (f : Numbers). fragment_ok S.order (fragment_in f)) e
           ∙ ap (fragment_ok S.order) (packed-back (fragment_from M (after M h) ws) (few-kept S W A (after M h) ws))
@@ -196,17 +196,17 @@ module _ (S : Store) (W : Whole S) (A : AcceptedModel (model_in S)) where
 
   -- a run that is accepted, from the state that start returned
   module _ (r : Run) (l : List ℤ) (e : accepted r ≡ true) (n : length l ≡ 9) where
-    run-from-start : run_outcome (some S) (start_outcome (some S) l).state r ≡ accepted_run (nine (run_end M (start M) r.words)) (run_points M (start M) r.words) (run_bytes M (start M) r.words) r
+    run-from-start : run_outcome (Some S) (start_outcome (Some S) l).state r ≡ accepted_run (nine (run_end M (start M) r.words)) (run_points M (start M) r.words) (run_bytes M (start M) r.words) r
     run-from-start =
-        ap (λ (t : Started). run_outcome (some S) t.state r) (start_outcome-is S W l n)
+        ap (λ (t : Started). run_outcome (Some S) t.state r) (start_outcome-is S W l n)
         ∙ rw (start-is-after M A) (run_outcome-is S W A (start_word ∷ []) r ∙ (unfold packedAnswer run accepted_run in rw e))
 
     -- "joining it after an empty one with start's state gives the run's result", and so does any bracketing that begins there
-    pub any_bracketing_since : (x : Begun) → words_since x ≡ r.words → SameResult (evaluate_since (some S) (start_outcome (some S) l).state x) (run_outcome (some S) (start_outcome (some S) l).state r)
+    pub any_bracketing_since : (x : Begun) → words_since x ≡ r.words → SameResult (evaluate_since (Some S) (start_outcome (Some S) l).state x) (run_outcome (Some S) (start_outcome (Some S) l).state r)
     any_bracketing_since x w = rw (since, run-from-start) (unfold packed fragment_from accepted_run in record { number = refl; place = refl; total = refl; state = numbers-state_from _ (length-nine (run_end M (start M) r.words)) })
       where
-        since : evaluate_since (some S) (start_outcome (some S) l).state x ≡ shown (fragment_from M (start M) r.words)
+        since : evaluate_since (Some S) (start_outcome (Some S) l).state x ≡ shown (fragment_from M (start M) r.words)
         since =
-            ap (λ (t : Started). evaluate_since (some S) t.state x) (start_outcome-is S W l n)
+            ap (λ (t : Started). evaluate_since (Some S) t.state x) (start_outcome-is S W l n)
             ∙ evaluate_since-few x (rw w (fits r (eqb-true _ 0 (unfold accepted in e))).few)
             ∙ ap (λ (ws : List ℕ). shown (fragment_from M (start M) ws)) w

@@ -1,8 +1,9 @@
 -- Fragments of document 01's sample list, by computation. Assumes nothing.
+use Rattle.std.specs.declared.option.Option.{Option}
+use Rattle.std.specs.declared.option.Option.TheVariants.{Some, None}
 use mathlib.Core.Path.{◌≡◌, refl}
 use mathlib.Core.Bool.{Bool, true, false, cond}
 use mathlib.Core.List.{List, [], ◌∷◌}
-use mathlib.Core.Option.{Option, none, some}
 use Prim.Native.Nat.{ℕ, ◌+◌, ◌*◌}
 use lib.IntN.{ℤ, pos, neg_ℤ}
 use Rattle.integer.specs.Integer.{between}
@@ -48,8 +49,8 @@ rows =
     ∷ []
 
 abbrev find_in : List Row → List ℕ → Option Entry
-find_in [] l = none
-find_in (r ∷ rs) l = cond (same_words r.words l) (some r.entry) (find_in rs l)
+find_in [] l = None
+find_in (r ∷ rs) l = cond (same_words r.words l) (Some r.entry) (find_in rs l)
 
 abbrev sample : Model
 sample = record { order = 3; find = find_in rows }
@@ -82,12 +83,12 @@ abbrev own : ℕ → Numbers
 own w = record { total = pos (3 * largest_backoff); count = 1; kept = 1; first = w ∷ 0 ∷ 0 ∷ 0 ∷ []; state = state_from (nine (record { words = w ∷ []; backoffs = pos largest_backoff ∷ [] })) }
 
 abbrev joined_own : Joined
-joined_own = join_outcome (some (store_of sample)) (own 4) (own 5)
+joined_own = join_outcome (Some (store_of sample)) (own 4) (own 5)
 
 own-joined : joined_own.fragment.total ≡ pos (2 * (3 * largest_backoff) + 6000)
 unfolding computed
 own-joined = refl
 
-own_then_refused : join_outcome (some (store_of sample)) joined_own.fragment (own 5) ≡ crossed (refused_by bad_fragment 1)
+own_then_refused : join_outcome (Some (store_of sample)) joined_own.fragment (own 5) ≡ crossed (refused_by bad_fragment 1)
 unfolding computed
 own_then_refused = refl

@@ -4,6 +4,7 @@ pub mod Outcome
 pub mod Bracketing
 pub mod RefusedScoring
 pub mod Rescoring
+pub mod Merging
 pub mod Faults
 pub mod Meaning
 pub mod Examples

@@ -1,8 +1,8 @@
 -- A scoring that 14 refuses returns the empty fragment, and a join does not see that it was refused: so it is not enough that no join is. Assumes nothing.
+use Rattle.std.specs.declared.option.Option.TheVariants.{Some}
 use mathlib.Core.Path.{◌≡◌, refl, sym, ap, ap₂, ◌∙◌}
 use mathlib.Core.Bool.{true}
 use mathlib.Core.List.{List, [], ◌∷◌, ◌++◌, append_assoc}
-use mathlib.Core.Option.{some}
 use Prim.Native.Nat.{ℕ, suc, ◌≤◌, ◌<◌}
 use native.Mathlib.Omega.{arith}
 use lib.ListN.{length, replicate, length-append, length-replicate}
@@ -25,22 +25,22 @@ module _ (S : Store) (W : Whole S) (A : AcceptedModel (model_in S)) where
   M = model_in S
 
   module _ (us vs : List ℕ) (many : run_limit < length us) (few : length vs ≤ run_limit) where
-    refused_scoring_unseen : evaluate (some S) (both (piece us) (piece vs)) ≡ fragment_outcome (some S) vs
+    refused_scoring_unseen : evaluate (Some S) (both (piece us) (piece vs)) ≡ fragment_outcome (Some S) vs
     unfolding evaluate
     refused_scoring_unseen =
-        ap₂ (λ (a b : Numbers). join_outcome (some S) a b) (ap (λ (j : Joined). j.fragment) (fragment_outcome_too_many S W A us many) ∙ ap to_numbers (nothing-scored S W A)) (ap (λ (j : Joined). j.fragment) (fragment_outcome-is S W A vs few))
+        ap₂ (λ (a b : Numbers). join_outcome (Some S) a b) (ap (λ (j : Joined). j.fragment) (fragment_outcome_too_many S W A us many) ∙ ap to_numbers (nothing-scored S W A)) (ap (λ (j : Joined). j.fragment) (fragment_outcome-is S W A vs few))
         ∙ joined-scored S W A [] vs
 
-    unseen_accepted : joins_accepted (some S) (both (piece us) (piece vs)) ≡ true
+    unseen_accepted : joins_accepted (Some S) (both (piece us) (piece vs)) ≡ true
     unfolding joins_accepted
     unseen_accepted = rw (refused_scoring_unseen ∙ fragment_outcome-is S W A vs few)
 
-  count-is : (ws : List ℕ) → length ws ≤ run_limit → (fragment_outcome (some S) ws).fragment.count ≡ length ws
+  count-is : (ws : List ℕ) → length ws ≤ run_limit → (fragment_outcome (Some S) ws).fragment.count ≡ length ws
   count-is ws few = ap (λ (j : Joined). j.fragment.count) (fragment_outcome-is S W A ws few) ∙ (unfold packed fragment_of fragment_from in refl)
 
   -- Document 02 asks only that no join in a bracketing is refused. After more than 65,535 words, two further ones are joined as one fragment or as the second of
   -- them alone.
-  pub not_by_joins_alone : ((t u : Bracketing) → joins_accepted (some S) t ≡ true → joins_accepted (some S) u ≡ true → words_in t ≡ words_in u → evaluate (some S) t ≡ evaluate (some S) u) → ⊥
+  pub not_by_joins_alone : ((t u : Bracketing) → joins_accepted (Some S) t ≡ true → joins_accepted (Some S) u ≡ true → words_in t ≡ words_in u → evaluate (Some S) t ≡ evaluate (Some S) u) → ⊥
   unfolding words_in
   not_by_joins_alone claim = go (replicate (suc run_limit) 4) (omega (arith, length-replicate {A = ℕ} (suc run_limit) 4))
     where
@@ -56,7 +56,7 @@ module _ (S : Store) (W : Whole S) (A : AcceptedModel (model_in S)) where
           more : run_limit < length (us ++ one)
           more = omega (arith, length-append us one)
 
-          counts : (fragment_outcome (some S) two).fragment.count ≡ (fragment_outcome (some S) one).fragment.count
+          counts : (fragment_outcome (Some S) two).fragment.count ≡ (fragment_outcome (Some S) one).fragment.count
           counts =
               ap (λ (j : Joined). j.fragment.count)
               (sym (refused_scoring_unseen us two many (omega arith))

@@ -1,6 +1,6 @@
 -- A sentence taken apart into fragments that are scored and joined again, by the calls' own outcomes over the lent arrays. Assumes nothing.
+use Rattle.std.specs.declared.option.Option.{Option}
 use Rattle.std.specs.Prelude.{Bool, true, ◌&&◌, List, [], ◌++◌, ℕ, ℤ, eqb}
-use Rattle.std.proofs.Math.Option.{Option}
 use Rattle.backoff.specs.Store.{Store}
 use Rattle.fragments.specs.declared.Joined.{Joined}
 use Rattle.fragments.specs.Fragment.{no_words}

@@ -1,6 +1,7 @@
 -- What joining two fragments returns over the lent arrays, which are a store unless 11 meets them. Assumes nothing.
+use Rattle.std.specs.declared.option.Option.{Option}
+use Rattle.std.specs.declared.option.Option.TheVariants.{Some, None}
 use Rattle.std.specs.Prelude.{cond, List, ◌++◌, ℕ, ◌+◌, ◌-◌, take, ℤ, ◌+ℤ◌, ◌-ℤ◌, leb, ltb}
-use Rattle.std.proofs.Math.Option.{Option, none, some}
 use Rattle.integer.specs.Integer.{sum}
 use Rattle.backoff.specs.Limits.{run_limit}
 use Rattle.backoff.specs.Refusal.{array_head, broken_node, word_count, bad_fragment}
@@ -29,8 +30,8 @@ joined_as n a b (refused_at j) second = refused_by broken_node 0
 
 -- 11, then 21 for the first and for the second, then 14, then 12
 abbrev pub joined_in : Option Store → Fragment (List ℤ) → Fragment (List ℤ) → Reply
-joined_in none a b = refused_by array_head 0
-joined_in (some S) a b =
+joined_in None a b = refused_by array_head 0
+joined_in (Some S) a b =
     cond (fragment_ok S.order a)
     (cond (fragment_ok S.order b)
     (cond (ltb run_limit (a.count + b.count)) (refused_by word_count 0)

@@ -1,9 +1,10 @@
 -- What an accepted listing gives the search for the largest move: so many sentences, whose totals are small, and the pair that is to be found.
 -- Assumes nothing.
+use Rattle.std.specs.declared.option.Option.{Option}
+use Rattle.std.specs.declared.option.Option.TheVariants.{Some, None}
 use mathlib.Core.Path.{◌≡◌, refl, sym, ap, ap₂, ◌∙◌}
 use mathlib.Core.Bool.{Bool, true, false}
 use mathlib.Core.List.{List, []}
-use mathlib.Core.Option.{Option, none, some}
 use Prim.Native.Nat.{ℕ, ◌^◌, ◌≤◌, ◌<◌}
 use native.Mathlib.Omega.{arith}
 use lib.Dec.{eqb}
@@ -32,8 +33,8 @@ use Rattle.largest_move.proofs.Apart.{apart_by_digits}
 
 pub accepted_sized : (o : Option Store) (k : ℕ) (words : List ℕ) (totals : List ℤ) → (listing_outcome o k words totals).listing.number ≡ 0 → Sized k (length (usable_over o)) (length words) (length totals)
 unfolding listing_outcome
-accepted_sized none k words totals z = absurd (omega arith)
-accepted_sized (some S) k words totals z = sized k (length (usable_words S)) (length words) (length totals) (go (eqb number 0) refl)
+accepted_sized None k words totals z = absurd (omega arith)
+accepted_sized (Some S) k words totals z = sized k (length (usable_words S)) (length words) (length totals) (go (eqb number 0) refl)
   where
     number : ℕ
     number = size_refusal k (length (usable_words S)) (length words) (length totals)
@@ -75,7 +76,7 @@ module _ (base check : List ℤ) (k : ℕ) (words : List ℕ) (totals : List ℤ
   pub sizes : Sized k v (length words) (length totals)
   sizes = accepted_sized o k words totals (ap (λ (y : Outcome). y.listing.number) (sym is) ∙ accepted)
 
-  means : (S : Store) × ((o ≡ some S) × Listed S k words totals x)
+  means : (S : Store) × ((o ≡ Some S) × Listed S k words totals x)
   means = let m = listing_means base check k words totals in rw is (m.accepted (ap (λ (y : Outcome). y.listing.number) (sym is) ∙ accepted))
 
   pub sentences_are : n ≡ v ^ k

@@ -1,9 +1,10 @@
 -- Two sentences differ at as many places as their numbers do in digits. Assumes nothing.
+use Rattle.std.specs.declared.option.Option.{Option}
+use Rattle.std.specs.declared.option.Option.TheVariants.{Some, None}
 use mathlib.Core.Path.{◌≡◌, refl, sym, ap, ap₂, ◌∙◌}
 use mathlib.Core.Logic.{◌⊎◌, inl, inr}
 use mathlib.Core.Bool.{Bool, cond}
 use mathlib.Core.List.{List, [], ◌∷◌, ◌++◌}
-use mathlib.Core.Option.{Option, none, some}
 use Prim.Native.Nat.{ℕ, zero, suc, ◌+◌, ◌/◌, ◌%◌, ◌^◌, ◌≤◌, ◌<◌}
 use native.Mathlib.Nat.{mod-lt, div-lt_iff_lt-mul, pow-suc, add_comm}
 use native.Mathlib.Decide.{ℕ_discrete}
@@ -45,18 +46,18 @@ module _ (us : List ℕ) (ascends : (i j : ℕ) → i < j → j < length us → 
   differing-digits zero i j h l = unfold differing in refl
   differing-digits (suc k) i j h l =
       let v = length us in
-      let some : 0 < v = some_word v (suc k) i (omega arith) h in
+      let Some : 0 < v = some_word v (suc k) i (omega arith) h in
       let s = sentence_at us k (i / v) in
       let t = sentence_at us k (j / v) in
       differing_snoc s t _ _ (length-sentence_at us k (i / v) ∙ sym (length-sentence_at us k (j / v)))
-      ∙ ap₂ (λ (n : ℕ) (b : Bool). n + cond b 0 1) (differing-digits k (i / v) (j / v) ((div-lt_iff_lt-mul some).1 (rw pow-suc at h)) ((div-lt_iff_lt-mul some).1 (rw pow-suc at l))) (same_word (i % v) (j % v) (mod-lt i some) (mod-lt j some))
+      ∙ ap₂ (λ (n : ℕ) (b : Bool). n + cond b 0 1) (differing-digits k (i / v) (j / v) ((div-lt_iff_lt-mul Some).1 (rw pow-suc at h)) ((div-lt_iff_lt-mul Some).1 (rw pow-suc at l))) (same_word (i % v) (j % v) (mod-lt i Some) (mod-lt j Some))
       ∙ add_comm _ _
 
 -- usable words ascend
 over_ascends : (o : Option Store) (i j : ℕ) → i < j → j < length (usable_over o) → get_or (usable_over o) i 0 < get_or (usable_over o) j 0
 unfolding usable_words
-over_ascends none i j l h = absurd (omega arith)
-over_ascends (some S) i j l h = passing-ascends (usable S) word_limit i j l h
+over_ascends None i j l h = absurd (omega arith)
+over_ascends (Some S) i j l h = passing-ascends (usable S) word_limit i j l h
 
 pub apart_by_digits : (o : Option Store) (k i j : ℕ) → i < j → j < length (usable_over o) ^ k → one_digit (length (usable_over o)) k i j ≡ sentences_apart (sentences_over o k) i j
 unfolding one_digit sentences_apart one_apart

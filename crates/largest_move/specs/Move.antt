@@ -1,7 +1,7 @@
 -- The outcome of the largest move, over any store as start and run are lent one, and over any two slices. The sentences quoted are those of document 02, T-13.
 -- Assumes nothing.
+use Rattle.std.specs.declared.option.Option.{Option}
 use Rattle.std.specs.Prelude.{Bool, cond, List, [], ℕ, eqb, length, get_or, ℤ, pos}
-use Rattle.std.proofs.Math.Option.{Option}
 use Rattle.backoff.specs.Store.{Store}
 use Rattle.one_word.specs.OneWord.{distance}
 use Rattle.sentence_totals.specs.Totals.{sentence_total}

@@ -41,21 +41,22 @@ pub fn find_largest_move(
     ensures outcome { record { move = result; words = words.new; totals = totals.new } ≡ move_outcome (opened base.now check.now) k words.old totals.old }
     ensures meaning { MoveMeans base.now check.now k words.old totals.old (record { move = result; words = words.new; totals = totals.new }) }
 {
-    let counted = sentences::list_counted(base, check, k, words, totals);
-    let listing = counted.listing;
-    if listing.number != 0 {
-        return unnamed(listing.number);
-    }
+    let counted = match sentences::list_counted(base, check, k, words, totals) {
+        Ok(counted) => counted,
+        Err(reason) => return unnamed(u32::from(reason)),
+    };
     if counted.usable < 2 {
         return unnamed(0);
     }
-    let sentences = listing.sentences as usize;
-    let largest = largest_pair::largest_pair(&totals[..sentences], counted.usable, k as usize);
-    Move {
-        number: 0,
-        place: 0,
-        distance: largest.distance,
-        first: largest.first as u32,
-        second: largest.second as u32,
+    let listed = &totals[..counted.sentences as usize];
+    match largest_pair::largest_pair(listed, counted.usable, k) {
+        Some(pair) => Move {
+            number: 0,
+            place: 0,
+            distance: pair.distance,
+            first: pair.first as u32,
+            second: pair.second as u32,
+        },
+        None => unnamed(0),
     }
 }

@@ -5,51 +5,21 @@ use mathlib.Core.Bool.{Bool, true, false, cond, ◌&&◌, ◌||◌}
 use Prim.Native.Nat.{ℕ, suc, ◌≤◌, ◌<◌}
 use native.Mathlib.Omega.{arith}
 use lib.Dec.{eqb, ltb}
-use borrow.Author.Tests.{lt-ltb, le-ltb, eq-eqb, ne_eqb, ltb-true, ltb-false, eqb-true, eqb-false}
+use borrow.Author.Tests.{ne_eqb, ltb-true, ltb-false, eqb-true, eqb-false}
 use lib.IntN.{pos}
 use lib.Signed.{lt_z}
-use Rattle.integer.specs.Integer.{eq_z}
-use Rattle.integer.proofs.Arithmetic.{zarith}
 use Rattle.integer.proofs.Ranges.{lt_or_ge}
 use Rattle.group_pairs.specs.declared.Pair.{Pair}
 use Rattle.group_pairs.specs.Pairs.{pair_of, NotAfter, IsLargest}
 use Rattle.largest_pair.specs.Pairs.{no_pair, further}
 use Rattle.largest_pair.specs.Inner.{none_yet, better, Kept, nothing, something}
 
--- ---- what `better` gives, by how two pairs compare
+-- ---- what `better` gives where the second lies further apart
 
 module _ (m c : Pair) where
   pub further-better : lt_z m.distance c.distance ≡ true → c ≡ better m c
   unfolding better
   further-better e = rw e
-
-  pub nearer_better : lt_z c.distance m.distance ≡ true → m ≡ better m c
-  unfolding better
-  nearer_better e = let f : lt_z m.distance c.distance ≡ false = omega zarith in let g : eq_z m.distance c.distance ≡ false = omega zarith in rw (f, g)
-
-  module _ (f : lt_z m.distance c.distance ≡ false) (g : lt_z c.distance m.distance ≡ false) where
-    as_far : eq_z m.distance c.distance ≡ true
-    as_far = omega zarith
-
-    pub earlier-better : c.first < m.first → c ≡ better m c
-    unfolding better
-    earlier-better l = rw (f, as_far, lt-ltb c.first m.first l)
-
-    pub later_better : m.first < c.first → m ≡ better m c
-    unfolding better
-    later_better l = rw (f, as_far, le-ltb c.first m.first (omega arith), ne_eqb c.first m.first (λ e. omega arith))
-
-    module _ (p : m.first ≤ c.first) (q : c.first ≤ m.first) where
-      same_first : (ltb c.first m.first ≡ false) × (eqb c.first m.first ≡ true)
-      same_first = (le-ltb c.first m.first p, eq-eqb c.first m.first (omega arith))
-
-      pub second-earlier-better : c.second < m.second → c ≡ better m c
-      unfolding better
-      second-earlier-better l = rw (f, as_far, same_first.0, same_first.1, lt-ltb c.second m.second l)
-
-      pub second_later_better : m.second ≤ c.second → m ≡ better m c
-      unfolding better
-      second_later_better l = rw (f, as_far, same_first.0, same_first.1, le-ltb c.second m.second l)
 
 -- ---- one pair before another
 

@@ -1,4 +1,6 @@
 -- The pairs that were looked at: group by group, block by block, place by place, and then all. Assumes nothing.
+use Rattle.std.specs.declared.option.Option.{Option}
+use Rattle.std.specs.declared.option.Option.TheVariants.{Some, None}
 use mathlib.Core.Path.{◌≡◌, refl, sym, ap, ap₂, ◌∙◌}
 use mathlib.Core.Logic.{◌⊎◌, inl, inr}
 use mathlib.Core.Bool.{true}
@@ -11,15 +13,20 @@ use lib.ListN.{length}
 use lib.IntN.{ℤ, ◌-ℤ◌}
 use lib.Signed.{lt_z}
 use borrow.Author.Tests.{eq-eqb, eqb-true}
+use Rattle.integer.proofs.Arithmetic.{zarith}
 use Rattle.integer.proofs.Ranges.{lt_or_ge}
 use Rattle.group_pairs.specs.declared.Pair.{Pair}
 use Rattle.group_pairs.specs.Groups.{apart_in, IsGroup, Spans, InGroup, GroupPair}
 use Rattle.largest_pair.specs.Pairs.{first_largest, IsPair}
-use Rattle.largest_pair.specs.Inner.{better, first_of, Passed, Seen, none_yet, nothing, KeptSoFar, IsListing, IsPlace, IsBlock, IsGroupOf, digits_apart, one_digit}
-use Rattle.largest_pair.proofs.Kept.{kept_same, kept-one, kept-better}
+use Rattle.largest_pair.specs.Inner.{better, first_of, Passed, Seen, none_yet, Kept, nothing, something, KeptSoFar, IsListing, IsPlace, IsBlock, IsGroupOf, digits_apart, one_digit}
+use Rattle.largest_pair.proofs.Kept.{further-better, kept_same, kept-one, kept-better}
 use Rattle.largest_pair.proofs.Groups.{group_nearer, group_later}
 use Rattle.largest_pair.proofs.Earliest.{first-kept}
 use Rattle.largest_pair.proofs.Digits.{one-group, group_of}
+
+-- m is kept of the pairs that were looked at
+abbrev KeptPair : List ℤ → ℕ → ℕ → ℕ → Pair → Type 0
+KeptPair totals v weight f m = Kept none_yet (Seen v (length totals) weight f) (apart_in totals) m
 
 -- ---- one more group
 
@@ -80,14 +87,20 @@ module _ (totals : List ℤ) (v weight f : ℕ) (g : IsGroupOf totals v weight f
 
   -- a group that changes nothing, and what its pair changes
   module _ (low high : ℤ) (spans : Spans totals f weight v low high) (m : Pair) where
-    pub nearer_seen : KeptSoFar totals v weight f m → lt_z (high -ℤ low) m.distance ≡ true → KeptSoFar totals v weight (f + 1) m
+    pub nearer_seen : KeptPair totals v weight f m → lt_z (high -ℤ low) m.distance ≡ true → KeptPair totals v weight (f + 1) m
     nearer_seen = group_nearer totals f weight v is-group low high spans seen_either seen_before seen_group m
 
-    pub later_seen : KeptSoFar totals v weight f m → high -ℤ low ≡ m.distance → m.first ≤ f → KeptSoFar totals v weight (f + 1) m
+    pub later_seen : KeptPair totals v weight f m → high -ℤ low ≡ m.distance → m.first ≤ f → KeptPair totals v weight (f + 1) m
     later_seen = group_later totals f weight v is-group low high spans seen_either seen_before seen_group m
 
-  pub group_seen : (m c : Pair) → KeptSoFar totals v weight f m → GroupPair totals f weight v c → KeptSoFar totals v weight (f + 1) (better m c)
+  pub group_seen : (m c : Pair) → KeptPair totals v weight f m → GroupPair totals f weight v c → KeptPair totals v weight (f + 1) (better m c)
   group_seen m c k p = rw p.pair_is (kept-better (apart_in totals) seen_either seen_before seen_group k p.largest)
+
+  pub first-seen : (c : Pair) → KeptPair totals v weight f none_yet → GroupPair totals f weight v c → KeptPair totals v weight (f + 1) c
+  first-seen c k p =
+      let further : lt_z none_yet.distance c.distance ≡ true = rw p.pair_is refl in
+      let e = sym (further-better none_yet c further) in
+      rw e at (group_seen none_yet c k p)
 
 -- ---- one more block: no group begins behind the first groups of a block
 
@@ -102,7 +115,7 @@ block_at totals v weight b f h e l = record { two = h.two; place = h.place; weig
 pub some_block : (totals : List ℤ) (v weight : ℕ) → IsPlace totals v weight → 0 < weight * v
 some_block totals v weight h = omega (arith, rw (sym h.weight_is) at (one-le-pow h.place v (omega (arith, h.two))), mul-le-mul_left {m = 1} {n = v} weight (omega (arith, h.two)))
 
-pub block_seen : (totals : List ℤ) (v weight f : ℕ) (m : Pair) → IsBlock totals v weight f → KeptSoFar totals v weight (f + weight) m → KeptSoFar totals v weight (f + weight * v) m
+pub block_seen : (totals : List ℤ) (v weight f : ℕ) (m : Pair) → IsBlock totals v weight f → KeptPair totals v weight (f + weight) m → KeptPair totals v weight (f + weight * v) m
 block_seen totals v weight f m h = kept_same (apart_in totals) (seen_wider v n weight (f + weight) (f + weight * v) (omega (arith, mul-le-mul_left {m = 1} {n = v} weight (omega (arith, h.two))))) back
   where
     n : ℕ
@@ -151,7 +164,7 @@ not-next v p q two l = go (lt_or_ge q p) (ℕ_discrete q p)
     go (inr m) (yes e) = inr (ap (λ (n : ℕ). v ^ n) e)
     go (inr m) (no e) = absurd (omega (arith, pow-suc v p, pow-le-pow_right {n = v} (omega arith) {i = suc p} {j = q} (omega arith)))
 
-pub place_seen : (totals : List ℤ) (v p weight : ℕ) (m : Pair) → 2 ≤ v → weight ≡ v ^ p → KeptSoFar totals v weight (length totals) m → KeptSoFar totals v (weight * v) 0 m
+pub place_seen : (totals : List ℤ) (v p weight : ℕ) (m : Pair) → 2 ≤ v → weight ≡ v ^ p → KeptPair totals v weight (length totals) m → KeptPair totals v (weight * v) 0 m
 place_seen totals v p weight m two w = kept_same (apart_in totals) to from
   where
     n : ℕ
@@ -183,7 +196,7 @@ place_seen totals v p weight m two w = kept_same (apart_in totals) to from
 
 -- ---- nothing yet, and all
 
-pub none_seen : (totals : List ℤ) (v : ℕ) → 0 < v → KeptSoFar totals v 1 0 none_yet
+pub none_seen : (totals : List ℤ) (v : ℕ) → 0 < v → KeptPair totals v 1 0 none_yet
 none_seen totals v some = nothing refl (λ a b s. go s.place s.block s.group s.passed)
   where
     go : (place block group : ℕ) → Passed v 1 0 place block group → ⊥
@@ -224,5 +237,12 @@ module _ (v k : ℕ) (two : 2 ≤ v) where
           at : (s : ℕ) → first_of v (v ^ 0) 0 0 + s * v ^ 0 ≡ s
           at s = omega (arith, ap (λ (n : ℕ). s * n) (pow-zero v))
 
-  pub all_seen : (totals : List ℤ) (m : Pair) → length totals ≡ v ^ k → 1 ≤ k → KeptSoFar totals v (v ^ k) 0 m → m ≡ first_largest (one_digit v k) (apart_in totals) (length totals)
-  all_seen totals m e h f = kept-one (apart_in totals) 0 1 (first_two h) (kept_same (apart_in totals) seen_pair pair_seen (rw e at f)) (first-kept (one_digit v k) (apart_in totals) (v ^ k)) ∙ ap (first_largest (one_digit v k) (apart_in totals)) (sym e)
+  -- so a pair is kept
+  none-kept : (totals : List ℤ) (a b : ℕ) → IsPair (one_digit v k) (v ^ k) a b → Kept none_yet (IsPair (one_digit v k) (v ^ k)) (apart_in totals) none_yet → ⊥
+  none-kept totals a b p (nothing e f) = f a b p
+  none-kept totals a b p (something i j e f) = let d = ap (λ (q : Pair). q.distance) e in omega zarith
+
+  pub all_seen : (totals : List ℤ) (m : Option Pair) → length totals ≡ v ^ k → 1 ≤ k → KeptSoFar totals v (v ^ k) 0 m → m ≡ Some (first_largest (one_digit v k) (apart_in totals) (length totals))
+  all_seen totals None e h f = absurd (none-kept totals 0 1 (first_two h) (kept_same (apart_in totals) seen_pair pair_seen (rw e at f)))
+  all_seen totals (Some m) e h f =
+      ap Some (kept-one (apart_in totals) 0 1 (first_two h) (kept_same (apart_in totals) seen_pair pair_seen (rw e at f)) (first-kept (one_digit v k) (apart_in totals) (v ^ k)) ∙ ap (first_largest (one_digit v k) (apart_in totals)) (sym e))

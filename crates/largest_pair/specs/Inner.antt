@@ -1,5 +1,7 @@
 -- What the functions that look for the largest pair are held to. Sentences are counted from 0. Assumes nothing.
 use Rattle.std.specs.Prelude.{◌≡◌, ◌⊎◌, Bool, cond, ◌&&◌, ◌||◌, List, ℕ, zero, suc, ◌+◌, ◌*◌, ◌/◌, ◌%◌, ◌^◌, ◌≤◌, ◌<◌, eqb, ltb, length, ℤ, negsuc}
+use Rattle.std.specs.declared.option.Option.{Option}
+use Rattle.std.specs.declared.option.Option.TheVariants.{Some, None}
 use Rattle.std.specs.Int.Signed.{lt_z}
 use Rattle.integer.specs.Integer.{eq_z}
 use Rattle.backoff.specs.Limits.{sentence_limit, usable_limit}
@@ -12,6 +14,10 @@ use Rattle.group_pairs.specs.Groups.{apart_in, InGroup}
 -- no pair yet: every pair is further apart
 abbrev pub none_yet : Pair
 none_yet = record { distance = negsuc 0; first = 0; second = 0 }
+
+abbrev pub kept_pair : Option Pair → Pair
+kept_pair None = none_yet
+kept_pair (Some pair) = pair
 
 -- the further of two pairs, and of two that are as far apart the earlier
 unfoldable pub better : Pair → Pair → Pair
@@ -43,8 +49,8 @@ pub record Seen (v n weight f a b : ℕ) : Type 0 where
   pub listed : b < n
 
 -- m is kept of these pairs
-abbrev pub KeptSoFar : List ℤ → ℕ → ℕ → ℕ → Pair → Type 0
-KeptSoFar totals v weight f m = Kept none_yet (Seen v (length totals) weight f) (apart_in totals) m
+abbrev pub KeptSoFar : List ℤ → ℕ → ℕ → ℕ → Option Pair → Type 0
+KeptSoFar totals v weight f m = Kept none_yet (Seen v (length totals) weight f) (apart_in totals) (kept_pair m)
 
 -- the totals of all sentences of k words
 pub record IsListing (totals : List ℤ) (v k : ℕ) : Type 0 where

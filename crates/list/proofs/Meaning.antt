@@ -1,4 +1,5 @@
 -- What a verdict means: the refusal that is answered meets the list, and nothing meets it that is tried earlier. Assumes nothing.
+use Rattle.std.specs.declared.option.Option.TheVariants.{Some}
 use mathlib.Core.Path.{◌≡◌, refl, sym, ap, ◌∙◌, subst}
 use mathlib.Core.Logic.{◌⊎◌, inl, inr, ⊎_elim}
 use mathlib.Core.Bool.{Bool, true, false, not, cond, ◌&&◌, ◌||◌, and-false, false≢true}
@@ -18,14 +19,13 @@ use Rattle.backoff.specs.Limits.{row_limit, order_limit, unknown_word, start_wor
 use Rattle.backoff.specs.Model.{in_probability, in_backoff}
 use Rattle.backoff.specs.Refusal.{number_of, place_of, table_length, row_length, row_words, row_probability, row_backoff, row_order, shorter_row, reserved_word}
 use Rattle.backoff.specs.Words.{same_words}
-use Rattle.backoff.specs.declared.Verdict.{Verdict}
-use Rattle.backoff.specs.declared.Verdict.TheVariants.{Accepted, Refused}
+use Rattle.backoff.specs.Refusal.{Verdict}
+use Rattle.backoff.specs.Refusal.{Accepted, Refused}
 use Rattle.backoff.proofs.Words.{same_refl}
 use Rattle.rows.specs.Table.{rows_of, field, probability_at, backoff_at, length_of, order_of, words, without_last, place_fits, places_fit}
 use Rattle.rows.specs.Order.{precedes}
 use Rattle.rows.proofs.Table.{length_limit, row_in, part_rows_lem, part_words, place-fits, place_used, place_unused}
 use Rattle.row_search.specs.Search.{find_below, find_in, is_at}
-use Rattle.row_search.specs.declared.Found.TheVariants.{At}
 use Rattle.row_search.proofs.Search.{is-at, found-words}
 use Rattle.row_fields.specs.Fields.{backoff_fits, field_fault}
 use Rattle.row_fields.proofs.Fields.{backoff_in, backoff-longest as backoff-last}
@@ -102,7 +102,7 @@ unfolding find_below
 row-found t ws zero j l e = absurd (not-suc-le-zero l)
 row-found t ws (suc n) j l e = go (same_words (words t n) ws) refl (λ m. row-found t ws n j m e)
   where
-    go : (b : Bool) → same_words (words t n) ws ≡ b → (j < n → is_at (find_below t ws n) ≡ true) → is_at (cond b (At n) (find_below t ws n)) ≡ true
+    go : (b : Bool) → same_words (words t n) ws ≡ b → (j < n → is_at (find_below t ws n) ≡ true) → is_at (cond b (Some n) (find_below t ws n)) ≡ true
     go true q ih = refl
     go false q ih =
         ⊎_elim ih

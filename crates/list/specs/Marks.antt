@@ -1,15 +1,15 @@
 -- A mark for each row, from the first on and as far as there are marks: whether some row is this row followed by one more word. Only contracts of inner
 -- functions cite these. Assumes nothing.
+use Rattle.std.specs.declared.option.Option.{Option}
+use Rattle.std.specs.declared.option.Option.TheVariants.{Some, None}
 use Rattle.std.specs.Prelude.{◌≡◌, Bool, true, false, List, ℕ, ◌<◌, length, get_or, set, ℤ}
 use Rattle.rows.specs.Table.{rows_of, words}
-use Rattle.row_search.specs.declared.Found.{Found}
-use Rattle.row_search.specs.declared.Found.TheVariants.{At, Nothing}
 use Rattle.list.specs.ListModel.{continued_below}
 
 -- the mark of the row found is set, if it has one
-abbrev pub mark_found : Found → List Bool → List Bool
-mark_found (At j) marks = set marks j true
-mark_found Nothing marks = marks
+abbrev pub mark_found : Option ℕ → List Bool → List Bool
+mark_found (Some j) marks = set marks j true
+mark_found None marks = marks
 
 abbrev pub NoneMarked : List Bool → Type 0
 NoneMarked marks = (i : ℕ) → get_or marks i false ≡ false

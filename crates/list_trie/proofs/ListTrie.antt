@@ -1,9 +1,10 @@
 -- Laws of the trie of an accepted list: what the markers of its nodes say, and where words are found among them. Assumes nothing.
+use Rattle.std.specs.declared.option.Option.{Option}
+use Rattle.std.specs.declared.option.Option.TheVariants.{Some, None}
 use mathlib.Core.Path.{◌≡◌, refl, sym, ap, ◌∙◌}
 use mathlib.Core.Logic.{◌⊎◌, inl, inr, ⊎_elim, ◌≢◌}
 use mathlib.Core.Bool.{Bool}
 use mathlib.Core.List.{List, [], Memᴰ}
-use mathlib.Core.Option.{Option, none, some}
 use Prim.Native.Nat.{ℕ, zero, suc, ◌<◌}
 use native.Mathlib.Omega.{arith}
 use lib.IntN.{ℤ, pos, negsuc, neg_ℤ}
@@ -14,17 +15,15 @@ use Rattle.integer.proofs.Ranges.{between-yes, and_both}
 use Rattle.integer.proofs.Items.{get_or_in, in_get_or}
 use Rattle.backoff.specs.Limits.{largest_backoff}
 use Rattle.backoff.specs.Model.{in_probability, in_backoff}
-use Rattle.backoff.specs.declared.Verdict.TheVariants.{Accepted}
+use Rattle.backoff.specs.Refusal.{Accepted}
 use Rattle.rows.specs.Table.{rows_of, probability_at, backoff_at, order_of, words}
 use Rattle.row_search.specs.Search.{find_in}
-use Rattle.row_search.specs.declared.Found.{Found}
-use Rattle.row_search.specs.declared.Found.TheVariants.{At, Nothing}
 use Rattle.row_search.proofs.Search.{found-words, finds}
 use Rattle.row_fields.proofs.Fields.{backoff_in}
 use Rattle.list.specs.Check.{verdict}
 use Rattle.list.specs.ListModel.{extended_in, continued_in}
 use Rattle.list.proofs.Check.{accepted-row, accepted-good, accepted-size}
-use Rattle.markers.specs.declared.Marker.TheVariants.{Sound, Broken}
+use Rattle.markers.specs.Markers.{Sound, Broken}
 use Rattle.markers.proofs.Markers.{marker_sound, marker_round_trip}
 use Rattle.placing.specs.Trie.{Node, find_node, node_at, Ready}
 use Rattle.placing.proofs.Trie.{found_in, in_found}
@@ -42,7 +41,7 @@ module _ (t : List ℤ) where
       go (suc i) l e = let k : i < rows_of t = omega (arith, length-nodes_of t) in inr (i, k, sym e ∙ node_at-row t i k)
 
 -- a node that is ready to be placed is found by its words
-find_node-at : {order : ℕ} {nodes : List Node} → Ready order nodes → (i : ℕ) → i < length nodes → find_node nodes (node_at nodes i).words ≡ some (node_at nodes i)
+find_node-at : {order : ℕ} {nodes : List Node} → Ready order nodes → (i : ℕ) → i < length nodes → find_node nodes (node_at nodes i).words ≡ Some (node_at nodes i)
 find_node-at {order} {nodes} R i h =
     let f = in_found nodes (node_at nodes i) (get_or_in nodes i _ h) in
     let w = found_in nodes (node_at nodes i).words f.0 f.1 in
@@ -51,12 +50,12 @@ find_node-at {order} {nodes} R i h =
     let p : ¬ (g.0 < i) = λ l. R.distinct g.0 i l h same in
     let q : ¬ (i < g.0) = λ l. R.distinct i g.0 l g.1 (sym same) in
     let e : g.0 ≡ i = omega arith in
-    f.1 ∙ ap some (sym g.2 ∙ ap (node_at nodes) e)
+    f.1 ∙ ap Some (sym g.2 ∙ ap (node_at nodes) e)
 
 -- the node of the row that was found
-abbrev pub node_if : List ℤ → Found → Option Node
-node_if t (At j) = some (node_of t j)
-node_if t Nothing = none
+abbrev pub node_if : List ℤ → Option ℕ → Option Node
+node_if t (Some j) = Some (node_of t j)
+node_if t None = None
 
 module _ (t : List ℤ) (a : verdict t ≡ Accepted) where
   -- ---- what the markers say
@@ -89,16 +88,16 @@ module _ (t : List ℤ) (a : verdict t ≡ Accepted) where
 
   -- ---- where words are found
 
-  pub find_node-row : (i : ℕ) → i < rows_of t → find_node (nodes_of t) (words t i) ≡ some (node_of t i)
+  pub find_node-row : (i : ℕ) → i < rows_of t → find_node (nodes_of t) (words t i) ≡ Some (node_of t i)
   unfolding node_of
   find_node-row i h = rw (node_at-row t i h) at (find_node-at (nodes_ready t a) (suc i) (omega (arith, length-nodes_of t)))
 
   pub find_node-listed : (ws : List ℕ) → ws ≢ [] → find_node (nodes_of t) ws ≡ node_if t (find_in t ws)
   find_node-listed ws n = go (find_in t ws) refl
     where
-      unlisted : find_in t ws ≡ Nothing → (o : Option Node) → find_node (nodes_of t) ws ≡ o → o ≡ none
-      unlisted e none q = refl
-      unlisted e (some m) q =
+      unlisted : find_in t ws ≡ None → (o : Option Node) → find_node (nodes_of t) ws ≡ o → o ≡ None
+      unlisted e None q = refl
+      unlisted e (Some m) q =
           let f = found_in (nodes_of t) ws m q in
           ⊎_elim
           (λ (r : m ≡ root_of t). absurd (n (sym f.1 ∙ ap (λ (k : Node). k.words) r ∙ (unfold root_of in refl))))
@@ -107,6 +106,6 @@ module _ (t : List ℤ) (a : verdict t ≡ Accepted) where
           let z : ◌≡◌ {A = ℕ} 0 1 = cc (finds t (accepted-good t a) r.0 r.1) in absurd (omega arith))
           (node_cases t m f.0)
 
-      go : (f : Found) → find_in t ws ≡ f → find_node (nodes_of t) ws ≡ node_if t f
-      go (At j) e = let w = found-words t ws j e in rw w.1 at (find_node-row j w.0)
-      go Nothing e = unlisted e (find_node (nodes_of t) ws) refl
+      go : (f : Option ℕ) → find_in t ws ≡ f → find_node (nodes_of t) ws ≡ node_if t f
+      go (Some j) e = let w = found-words t ws j e in rw w.1 at (find_node-row j w.0)
+      go None e = unlisted e (find_node (nodes_of t) ws) refl

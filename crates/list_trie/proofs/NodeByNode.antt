@@ -11,11 +11,11 @@ use Rattle.row_nodes.specs.Steps.{placed_nodes, Filled, Tried}
 use Rattle.row_nodes.proofs.ListTrie.{length-nodes_of}
 use Rattle.list_trie.specs.ListTrie.{placed_list}
 
-module _ {t : List ℤ} {N : ℕ} (n : ℕ) {B C : List ℤ} {W : List ℕ} where
-  pub over_refused : {r : ℕ} → N < r → Tried t N (placed_nodes t n) r B C W → Tried t N (placed_list t) r B C W
-  unfolding placed_list
-  over_refused l T = record { answer = omega (arith, placed_first_over (order_of t) (nodes_of t) n N (omega (arith, T.answer))); filled = λ e. absurd (omega arith) }
+pub over_room : (t : List ℤ) (N n : ℕ) → N < (placed_nodes t n).top → N < (placed_list t).top
+unfolding placed_list
+over_room t N n h = omega (arith, placed_first_over (order_of t) (nodes_of t) n N h)
 
+module _ {t : List ℤ} {N : ℕ} (n : ℕ) {B C : List ℤ} {W : List ℕ} where
   pub all_placed : {r : ℕ} → n ≡ suc (rows_of t) → r ≡ (placed_nodes t n).top → Filled t N (placed_nodes t n) B C W → Tried t N (placed_list t) r B C W
   unfolding placed_list
   all_placed e o F =

@@ -4,7 +4,7 @@ use mathlib.Core.List.{List}
 use Prim.Native.Nat.{ℕ, ◌≤◌, ◌<◌}
 use native.Mathlib.Omega.{arith}
 use lib.IntN.{ℤ}
-use Rattle.backoff.specs.declared.Verdict.TheVariants.{Accepted}
+use Rattle.backoff.specs.Refusal.{Accepted}
 use Rattle.rows.specs.Table.{rows_of, length_of, order_of}
 use Rattle.list.specs.Check.{verdict}
 use Rattle.list.proofs.ListModel.{length-order}

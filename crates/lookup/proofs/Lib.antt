@@ -1,2 +1,3 @@
 -- The laws of lookup.
 pub mod LookupMeaning
+pub mod Walking

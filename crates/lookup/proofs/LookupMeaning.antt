@@ -1,9 +1,9 @@
 -- Laws of specs/Lookup.antt: what each answer means. Assumes nothing.
+use Rattle.std.specs.declared.option.Option.TheVariants.{Some}
 use mathlib.Core.Path.{◌≡◌, refl, sym, ap, ◌∙◌}
 use mathlib.Core.Logic.{◌⊎◌, inl, inr}
 use mathlib.Core.Bool.{Bool, true, false, cond, ◌&&◌, false≢true}
 use mathlib.Core.List.{List, reverse}
-use mathlib.Core.Option.{some}
 use Prim.Native.Nat.{ℕ, ◌≤◌, ◌<◌}
 use native.Mathlib.Omega.{arith}
 use borrow.Author.Tests.{leb-true, leb-false, le-leb, lt-leb}
@@ -18,8 +18,8 @@ use Rattle.backoff.proofs.FirstMet.{met_when, not_when, not-false}
 use Rattle.double_array.specs.DoubleArray.{look_from, is_array, order_in, store_in, opened}
 use Rattle.double_array.proofs.DoubleArray.{opened_some, opened-none, opened-order, look-row}
 use Rattle.lookup.specs.Lookup.{lookup_of, lookup_in, lookup_outcome, lookup_number, lookup_place, found_of, p_of, b_of, left_of, lookup_refusals, IsRow, IsNoRow, LookupMeans}
-use Rattle.lookup.specs.declared.Lookup.{Lookup}
-use Rattle.lookup.specs.declared.Lookup.TheVariants.{Found, NotFound, Refused}
+use Rattle.lookup.specs.Lookup.{Lookup}
+use Rattle.lookup.specs.Lookup.{Found, NotFound, Refused}
 
 module _ (base check : List ℤ) (ws : List ℕ) where
   -- what an answer means, by the numbers that the caller reads
@@ -59,7 +59,7 @@ module _ (base check : List ℤ) (ws : List ℕ) where
     look_means l u h broken e = refused_means broken_node (λ z. omega arith) (past-count l u broken_node (inl (met_when (h, e))))
     look_means l u h (here x) e = found_means x.p x.b x.e (past-count l u 0 (not-broken (here x) refl e)) (record { short = h; e = x.e; f = x.f; row = rw e; left_is = refl })
 
-    array_means : AnswerMeans (lookup_in (some (store_in base check)) ws)
+    array_means : AnswerMeans (lookup_in (Some (store_in base check)) ws)
     unfolding store_in
     array_means = counted (leb 1 (length ws)) (leb (length ws) order_limit) (leb (length ws) (order_in check)) refl refl refl
       where

@@ -1,13 +1,28 @@
 -- The outcome of lookup over any lent arrays: 11, then 14, then 12, else found with p, b and left, or not found; and what each answer means. Assumes nothing.
+use Rattle.std.specs.declared.option.Option.{Option}
+use Rattle.std.specs.declared.option.Option.TheVariants.{Some, None}
+use Rattle.std.specs.declared.result.Result.{Result}
+use Rattle.std.specs.declared.result.Result.TheVariants.{Ok, Err}
 use Rattle.std.specs.Prelude.{◌≡◌, ◌⊎◌, Bool, false, cond, ◌&&◌, List, [], ◌∷◌, reverse, ℕ, ◌≤◌, ◌<◌, leb, length, ℤ, pos}
-use Rattle.std.proofs.Math.Option.{Option, none, some}
 use Rattle.backoff.specs.Limits.{order_limit}
-use Rattle.backoff.specs.Refusal.{array_head, broken_node, word_count}
+use Rattle.backoff.specs.Refusal.{array_head, broken_node, word_count, reason_number}
+use Rattle.backoff.specs.declared.Refusal.{Refusal}
 use Rattle.backoff.specs.FirstMet.{Line, ◌when◌, FirstMet}
 use Rattle.backoff.specs.Store.{Look, absent, broken, here, Store, model_in}
 use Rattle.double_array.specs.DoubleArray.{is_array, order_in, store_in, opened}
-use Rattle.lookup.specs.declared.Lookup.{Lookup}
-use Rattle.lookup.specs.declared.Lookup.TheVariants.{Found, NotFound, Refused}
+use Rattle.lookup.specs.declared.Listed.{Listed}
+
+-- The answer of a lookup: p, b, and "left", whether some row puts a further word in front of the one that was found.
+pub data Lookup : Type 0 where
+  Found : ℤ → ℤ → Bool → Lookup
+  NotFound : Lookup
+  Refused : ℕ → ℕ → Lookup
+
+-- the same of what the code returns
+abbrev pub lookup_answer : Result (Option Listed) (Refusal ℕ) → Lookup
+lookup_answer (Ok (Some r)) = Found r.p r.b r.left
+lookup_answer (Ok None) = NotFound
+lookup_answer (Err refusal) = Refused (reason_number refusal.reason) refusal.place
 
 abbrev pub lookup_of : Look → Lookup
 lookup_of absent = NotFound
@@ -16,8 +31,8 @@ lookup_of (here r) = Found r.p r.b r.e
 
 -- "lookup of 0 or above 5 words" is 14; "more than n words are simply not found, without a walk"; the words are given oldest first
 abbrev pub lookup_in : Option Store → List ℕ → Lookup
-lookup_in none ws = Refused array_head 0
-lookup_in (some S) ws =
+lookup_in None ws = Refused array_head 0
+lookup_in (Some S) ws =
     cond (leb 1 (length ws) && leb (length ws) order_limit)
     (cond (leb (length ws) S.order) (lookup_of (S.look (reverse ws))) NotFound)
     (Refused word_count 0)
@@ -72,12 +87,12 @@ pub record IsRow (base check : List ℤ) (ws : List ℕ) (p b : ℤ) (left : ℕ
   pub short : length ws ≤ order_in check
   pub e : Bool
   pub f : Bool
-  pub row : (model_in (store_in base check)).find (reverse ws) ≡ some (record { p = p; b = b; e = e; f = f })
+  pub row : (model_in (store_in base check)).find (reverse ws) ≡ Some (record { p = p; b = b; e = e; f = f })
   pub left_is : left ≡ cond e 1 0
 
 -- They are more than n, or no such row.
 abbrev pub IsNoRow : List ℤ → List ℤ → List ℕ → Type 0
-IsNoRow base check ws = (order_in check < length ws) ⊎ ((model_in (store_in base check)).find (reverse ws) ≡ none)
+IsNoRow base check ws = (order_in check < length ws) ⊎ ((model_in (store_in base check)).find (reverse ws) ≡ None)
 
 -- The numbers that were returned. Where nothing is found, and where the lookup is refused, `found` and what would be told of a row are 0.
 pub record LookupMeans (base check : List ℤ) (ws : List ℕ) (number place found : ℕ) (p b : ℤ) (left : ℕ) : Type 0 where

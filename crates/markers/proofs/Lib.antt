@@ -1,2 +1,3 @@
--- The laws of markers.
+-- The proofs about markers.
 pub mod Markers
+pub mod Tests

@@ -8,8 +8,8 @@ use Rattle.integer.proofs.Ranges.{and_both}
 use Rattle.integer.proofs.Halving.{half_twice, odd-twice, half-odd, bit_bounds}
 use Rattle.backoff.specs.Model.{in_probability, in_backoff}
 use Rattle.markers.specs.Markers.{marker_check, marker_base, marker_of}
-use Rattle.markers.specs.declared.Marker.{Marker}
-use Rattle.markers.specs.declared.Marker.TheVariants.{Sound, Broken}
+use Rattle.markers.specs.Markers.{Marker}
+use Rattle.markers.specs.Markers.{Sound, Broken}
 
 module _ (check base : ℤ) where
   pub marker_sound : (in_probability (check +ℤ pos 1) && in_backoff (half (half base))) ≡ true → marker_of check base ≡ Sound (check +ℤ pos 1) (half (half base)) (odd (half base)) (odd base)

@@ -1,10 +1,21 @@
 -- Markers: the CHECK and BASE that a row's p, b, e and f become, and what such two numbers say. Assumes nothing.
+use Rattle.std.specs.declared.option.Option.{Option}
+use Rattle.std.specs.declared.option.Option.TheVariants.{Some, None}
 use Rattle.std.specs.Prelude.{Bool, cond, ◌&&◌, ℤ, pos, ◌+ℤ◌, ◌-ℤ◌}
 use Rattle.integer.specs.Integer.{twice, half, odd}
 use Rattle.backoff.specs.Model.{in_probability, in_backoff}
 use Rattle.backoff.specs.Store.{Look, broken, here}
-use Rattle.markers.specs.declared.Marker.{Marker}
-use Rattle.markers.specs.declared.Marker.TheVariants.{Sound, Broken}
+use Rattle.markers.specs.declared.Entry.{Entry}
+
+-- What a marker says. The paper's "sound": "the p and b read from it are in range"
+pub data Marker : Type 0 where
+  Sound : ℤ → ℤ → Bool → Bool → Marker
+  Broken : Marker
+
+-- the same of what the code returns
+abbrev pub marker_in : Option Entry → Marker
+marker_in (Some r) = Sound r.p r.b r.e r.f
+marker_in None = Broken
 
 -- "A row's marker has CHECK = p − 1", and "BASE becomes 4 × b + 2 × e + f"
 abbrev pub marker_check : ℤ → ℤ
@@ -13,7 +24,7 @@ marker_check p = p -ℤ pos 1
 abbrev pub marker_base : ℤ → Bool → Bool → ℤ
 marker_base b e f = twice (twice b e) f
 
--- What a marker says, from its CHECK and BASE. The paper's "sound": "the p and b read from it are in range"
+-- what a marker says, from its CHECK and BASE
 unfoldable pub marker_of : ℤ → ℤ → Marker
 marker_of check base =
     cond (in_probability (check +ℤ pos 1) && in_backoff (half (half base)))

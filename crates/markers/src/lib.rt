@@ -3,7 +3,7 @@
 
 ghost use Rattle.std.specs.Prelude.{◌≡◌, true};
 ghost use Rattle.backoff.specs.Model.{in_probability, in_backoff};
-ghost use Rattle.markers.specs.Markers.{marker_check, marker_base, marker_of};
+ghost use Rattle.markers.specs.Markers.{marker_check, marker_base, marker_of, marker_in};
 
 // CHECK of a marker whose p is in range is negative and at least this.
 const LEAST_CHECK: i32 = backoff::LEAST_PROBABILITY - 1;
@@ -13,12 +13,14 @@ const LEAST_BASE: i32 = 4 * backoff::LEAST_BACKOFF;
 
 const LARGEST_BASE: i32 = 4 * backoff::LARGEST_BACKOFF + 3;
 
-// What a marker says. The paper's "sound" marker holds a p and a b in range; `e` is set where some row puts a further word in front of this one, `f` where
-// some row is this row followed by one more word.
-#[derive(Drop)]
-pub enum Marker {
-    Sound { p: i32, b: i32, e: bool, f: bool },
-    Broken,
+// What a sound marker holds: a p and a b in range, `e` where some row puts a further word in front of this one, `f` where some row is this row followed by one
+// more word.
+#[derive(Clone, Copy)]
+pub struct Entry {
+    pub p: i32,
+    pub b: i32,
+    pub e: bool,
+    pub f: bool,
 }
 
 // CHECK of the marker of a row with this p.
@@ -34,26 +36,22 @@ pub fn marker_base(b: i32, e: bool, f: bool) -> i32
     requires { in_backoff b ≡ true }
     ensures { result ≡ marker_base b e f }
 {
-    4 * b + 2 * (e as i32) + (f as i32)
+    4 * b + 2 * i32::from(e) + i32::from(f)
 }
 
-// What a marker's CHECK and BASE say.
-pub fn marker_of(check: i32, base: i32) -> Marker
-    ensures { result ≡ marker_of check base }
+// What a marker's CHECK and BASE say, where it is sound.
+pub fn marker_of(check: i32, base: i32) -> Option<Entry>
+    ensures { marker_in result ≡ marker_of check base }
 {
-    let inside = (LEAST_CHECK <= check)
-        & (check < 0)
-        & (LEAST_BASE <= base)
-        & (base <= LARGEST_BASE);
+    let inside = (LEAST_CHECK..0).contains(&check) & (LEAST_BASE..=LARGEST_BASE).contains(&base);
     if !inside {
-        return Marker::Broken;
+        return None;
     }
-    let p = check + 1;
     let upper = base >> 1;
-    Marker::Sound {
-        p,
+    Some(Entry {
+        p: check + 1,
         b: upper >> 1,
         e: upper & 1 == 1,
         f: base & 1 == 1,
-    }
+    })
 }

@@ -5,8 +5,8 @@ use Rattle.backoff.specs.Refusal.{number_of}
 use Rattle.rows.specs.Table.{rows_of, order_of}
 use Rattle.list.specs.Check.{verdict}
 use Rattle.list.specs.ListModel.{extended_in, continued_in}
-use Rattle.markers.specs.declared.Marker.{Marker}
-use Rattle.markers.specs.declared.Marker.TheVariants.{Sound, Broken}
+use Rattle.markers.specs.Markers.{Marker}
+use Rattle.markers.specs.Markers.{Sound, Broken}
 use Rattle.double_array.specs.DoubleArray.{order_in}
 use Rattle.array_nodes.specs.Nodes.{Reached}
 use Rattle.node_rows.specs.Rows.{reached_marker, table_of}

@@ -1,8 +1,8 @@
 -- The rows that the nodes of any double array are. Assumes nothing.
 use Rattle.std.specs.Prelude.{List, [], ◌∷◌, ◌++◌, length, ℤ, pos}
 use Rattle.rows.specs.Table.{row}
-use Rattle.markers.specs.declared.Marker.{Marker}
-use Rattle.markers.specs.declared.Marker.TheVariants.{Sound, Broken}
+use Rattle.markers.specs.Markers.{Marker}
+use Rattle.markers.specs.Markers.{Sound, Broken}
 use Rattle.double_array.specs.DoubleArray.{marker_at}
 use Rattle.array_nodes.specs.Nodes.{Reached}
 

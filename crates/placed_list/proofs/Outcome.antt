@@ -1,6 +1,6 @@
 -- From the steps to the outcome of an accepted list: the slices before the first node, and what they hold at the end. Assumes nothing.
 use mathlib.Core.Path.{◌≡◌, refl, sym, ap, ◌∙◌}
-use mathlib.Core.Bool.{Bool, true, false}
+use mathlib.Core.Bool.{true, false}
 use mathlib.Core.List.{List, ◌++◌, append-nil}
 use Prim.Native.Nat.{ℕ, zero, suc, ◌+◌, ◌≤◌, ◌<◌}
 use native.Mathlib.Omega.{arith}
@@ -11,11 +11,11 @@ use lib.Seq.{ext_get_or}
 use borrow.Author.Tests.{le-leb, lt-leb}
 use Rattle.backoff.specs.Refusal.{no_room}
 use Rattle.backoff.specs.Run.{written}
-use Rattle.backoff.specs.declared.Verdict.TheVariants.{Accepted, Refused}
+use Rattle.backoff.specs.Refusal.{Accepted, Refused}
 use Rattle.rows.specs.Table.{rows_of, order_of, words}
 use Rattle.list.specs.Check.{verdict}
 use Rattle.child_slots.specs.Children.{free_check}
-use Rattle.double_array.specs.DoubleArray.{head_check}
+use Rattle.double_array.specs.DoubleArray.{head_check, sizes_ok}
 use Rattle.double_array.proofs.DoubleArray.{sizes_told}
 use Rattle.placing.specs.Trie.{node_at}
 use Rattle.placing.specs.Placing.{update, place_all, unplaced, slots}
@@ -29,15 +29,15 @@ use Rattle.row_nodes.specs.Steps.{placed_nodes, Filled, Tried}
 use Rattle.row_nodes.proofs.ListTrie.{nodes_ready}
 use Rattle.list_trie.specs.ListTrie.{placed_list, slots_from, row_slots}
 use Rattle.placed_list.specs.Build.{filled, emptied, checked_build, IsBuilt}
-use Rattle.placed_list.specs.Steps.{Passed, Wiped}
+use Rattle.placed_list.specs.Steps.{Wiped}
 
 -- ---- before the first node
 
 -- slots that are all free are linked: nothing is placed
-pub filled_none : (t : List ℤ) {B₀ C₀ B C : List ℤ} {F : List Bool} {W₀ W : List ℕ} → Passed t B₀ C₀ F W₀ → Wiped B₀ C₀ W₀ B C W → Filled t (length C₀) (placed_nodes t 0) B C W
+pub filled_none : (t B₀ C₀ : List ℤ) (W₀ : List ℕ) {B C : List ℤ} {W : List ℕ} → sizes_ok B₀ C₀ ≡ true → length W₀ ≡ rows_of t → Wiped B₀ C₀ W₀ B C W → Filled t (length C₀) (placed_nodes t 0) B C W
 unfolding place_all unplaced
-filled_none t {B₀} {C₀} {W₀ = W₀} p w =
-    let z = sizes_told B₀ C₀ p.sizes in
+filled_none t B₀ C₀ W₀ sizes items w =
+    let z = sizes_told B₀ C₀ sizes in
     let L = fresh_linked (length C₀) (head_check (order_of t)) (omega (arith, z.low, z.same)) (omega (arith, z.high, z.same)) refl in
     rw (w.base-free, z.same, w.check-free, w.items-zero)
     (record {
@@ -45,8 +45,8 @@ filled_none t {B₀} {C₀} {W₀ = W₀} p w =
       room = omega arith;
       linked = L;
       links = links-run_through_the_free_slots L;
-      each = length-replicate (length W₀) 0 ∙ p.each;
-      item = λ j l. get_or-replicate (length W₀) j 0 0 (omega (arith, p.each));
+      each = length-replicate (length W₀) 0 ∙ items;
+      item = λ j l. get_or-replicate (length W₀) j 0 0 (omega (arith, items));
     })
 
 -- ---- the rows' slots
@@ -107,11 +107,11 @@ module _ (t B C : List ℤ) (W : List ℕ) (same : length B ≡ length C) (each 
         work-is = filled-slots F ∙ sym (written-whole (row_slots t) W (length-row_slots t ∙ sym each));
       })
 
-  pub built-refused : {r : ℕ} {B₁ C₁ B' C' : List ℤ} {W₁ W' : List ℕ} → length C < r → Tried t (length C) (placed_list t) r B₁ C₁ W₁
+  pub built-refused : {B₁ C₁ B' C' : List ℤ} {W₁ W' : List ℕ} → length C < (placed_list t).top
       → length B₁ ≡ length B → length C₁ ≡ length C → length W₁ ≡ length W → Wiped B₁ C₁ W₁ B' C' W' → IsBuilt (checked_build t B C W Accepted) (Refused no_room 0) B' C' W'
   unfolding emptied
-  built-refused e T b c w X =
-      let room : leb (placed_list t).top (length B) ≡ false = lt-leb (placed_list t).top (length B) (omega (arith, T.answer)) in
+  built-refused e b c w X =
+      let room : leb (placed_list t).top (length B) ≡ false = lt-leb (placed_list t).top (length B) (omega arith) in
       rw room (record {
         answer-is = refl;
         base-is = X.base-free ∙ ap (λ (n : ℕ). replicate n (pos 0)) b;

@@ -2,8 +2,8 @@
 use Rattle.std.specs.Prelude.{◌≡◌, cond, List, ℕ, leb, length, replicate, ℤ, pos}
 use Rattle.backoff.specs.Refusal.{no_room}
 use Rattle.backoff.specs.Run.{written}
-use Rattle.backoff.specs.declared.Verdict.{Verdict}
-use Rattle.backoff.specs.declared.Verdict.TheVariants.{Accepted, Refused}
+use Rattle.backoff.specs.Refusal.{Verdict}
+use Rattle.backoff.specs.Refusal.{Accepted, Refused}
 use Rattle.rows.specs.Table.{rows_of}
 use Rattle.child_slots.specs.Children.{free_check}
 use Rattle.placing.specs.Placing.{slots}

@@ -67,10 +67,6 @@ module _ (c : Room) where
   unfolding is_open
   open_yes t l e = rw (le-leb 1 t l, e)
 
-  pub open_taken : (t : ℕ) → is_free (c t) ≡ false → is_open c t ≡ false
-  unfolding is_open
-  open_taken t e = rw e (elim (leb 1 t) as (λ b. (b && false) ≡ false) [ true ↦ refl | false ↦ refl ])
-
   -- behind d there is no slot for a word that is not below d
   pub open_none : (d w : ℕ) → d ≤ w → is_open c (child_slot true d w) ≡ false
   unfolding is_open

@@ -1,10 +1,12 @@
 -- What a correct layout of a trie is, told by what a walk can see of it; that it suffices for walking; and that the placing rule's array is one.
 -- Assumes nothing.
+use Rattle.std.specs.declared.option.Option.{Option}
+use Rattle.std.specs.declared.option.Option.TheVariants.{Some, None}
+use Rattle.std.proofs.lemmas.Option.{none-some}
 use mathlib.Core.Path.{◌≡◌, refl, sym, ap, ap₂, ◌∙◌}
 use mathlib.Core.Logic.{◌≢◌}
 use mathlib.Core.Bool.{Bool, true, false, false≢true}
 use mathlib.Core.List.{List, [], ◌∷◌, Memᴰ, reverse, reverse_aux}
-use mathlib.Core.Option.{Option, none, some, none-ne-some}
 use Prim.Native.Nat.{ℕ, suc, ◌≤◌, ◌<◌}
 use native.Mathlib.Omega.{arith}
 use native.Mathlib.Decide.{ℕ_discrete}
@@ -14,11 +16,9 @@ use lib.ListN.{length}
 use Rattle.integer.proofs.Arithmetic.{zarith}
 use Rattle.backoff.specs.Words.{is_word}
 use Rattle.backoff.specs.Store.{Look, absent}
-use Rattle.markers.specs.declared.Marker.{Marker}
-use Rattle.markers.specs.declared.Marker.TheVariants.{Sound, Broken}
+use Rattle.markers.specs.Markers.{Marker}
+use Rattle.markers.specs.Markers.{Sound, Broken}
 use Rattle.markers.specs.Markers.{marker_of, look_marker}
-use Rattle.child_slots.specs.declared.Child.{Child}
-use Rattle.child_slots.specs.declared.Child.TheVariants.{At, Nothing}
 use Rattle.child_slots.specs.Children.{free_check, child_slot, owned_by, base_at, check_at, child_at}
 use Rattle.child_slots.proofs.Children.{child-absent, owned_none, child_told, child_shown, child-word, negative_childless}
 use Rattle.double_array.specs.DoubleArray.{kept_marker, own_marker, marker_at, past, down_to, look_from, order_in}
@@ -35,19 +35,19 @@ abbrev pub node_marker : Node → Marker
 node_marker m = marker_of (negsuc m.cost) m.load
 
 abbrev pub look_node : Option Node → Look
-look_node none = absent
-look_node (some m) = look_marker (node_marker m)
+look_node None = absent
+look_node (Some m) = look_marker (node_marker m)
 
 -- a child in slot t, where there is a node for it
-abbrev pub child_if : Option Node → ℕ → Child
-child_if none t = Nothing
-child_if (some m) t = At t
+abbrev pub child_if : Option Node → ℕ → Option ℕ
+child_if None t = None
+child_if (Some m) t = Some t
 
 -- BASE and CHECK hold the nodes, the node of the words `us` in slot `slot us`
 pub record LaidOut (nodes : List Node) (slot : List ℕ → ℕ) (base check : List ℤ) : Type 0 where
   pub root : slot [] ≡ 0
-  pub marker : (us : List ℕ) (m : Node) → find_node nodes us ≡ some m → marker_at base check (length us) (slot us) ≡ node_marker m
-  pub child : (us : List ℕ) (m : Node) → find_node nodes us ≡ some m → (w : ℕ) → child_at base check (slot us) w ≡ child_if (find_node nodes (w ∷ us)) (slot (w ∷ us))
+  pub marker : (us : List ℕ) (m : Node) → find_node nodes us ≡ Some m → marker_at base check (length us) (slot us) ≡ node_marker m
+  pub child : (us : List ℕ) (m : Node) → find_node nodes us ≡ Some m → (w : ℕ) → child_at base check (slot us) w ≡ child_if (find_node nodes (w ∷ us)) (slot (w ∷ us))
 
 -- ---- a layout suffices for walking
 
@@ -58,7 +58,7 @@ past-sound Broken h rest = absurd (h refl)
 module _ {order : ℕ} {nodes : List Node} {slot : List ℕ → ℕ} {base check : List ℤ} (R : Ready order nodes) (L : LaidOut nodes slot base check)
     (sound : (m : Node) → Memᴰ m nodes → node_marker m ≢ Broken) where
   -- the walk from a node
-  look-from : (q us : List ℕ) (m : Node) → find_node nodes us ≡ some m → look_from base check (length us) (slot us) q ≡ look_node (find_node nodes (reverse_aux q us))
+  look-from : (q us : List ℕ) (m : Node) → find_node nodes us ≡ Some m → look_from base check (length us) (slot us) q ≡ look_node (find_node nodes (reverse_aux q us))
   unfolding look_from
   look-from [] us m e = rw (L.marker us m e, e)
   look-from (w ∷ q) us m e =
@@ -69,10 +69,10 @@ module _ {order : ℕ} {nodes : List Node} {slot : List ℕ → ℕ} {base check
       there : Look
       there = look_node (find_node nodes (reverse_aux q (w ∷ us)))
 
-      go : ((k : Node) → find_node nodes (w ∷ us) ≡ some k → look_from base check (suc (length us)) (slot (w ∷ us)) q ≡ there)
+      go : ((k : Node) → find_node nodes (w ∷ us) ≡ Some k → look_from base check (suc (length us)) (slot (w ∷ us)) q ≡ there)
           → (o : Option Node) → find_node nodes (w ∷ us) ≡ o → down_to (child_at base check (slot us) w) (λ (t : ℕ). look_from base check (suc (length us)) t q) ≡ there
-      go rec none h = rw (L.child us m e w, h, absent-below R q (w ∷ us) h)
-      go rec (some k) h = rw (L.child us m e w, h) (rec k h)
+      go rec None h = rw (L.child us m e w, h, absent-below R q (w ∷ us) h)
+      go rec (Some k) h = rw (L.child us m e w, h) (rec k h)
 
   -- a walk from the root over words, newest first, comes to the node of those words
   look_laid_out : (l : List ℕ) → look_from base check 0 0 l ≡ look_node (find_node nodes (reverse l))
@@ -92,7 +92,7 @@ module _ (base check : List ℤ) (s : ℕ) {d : ℕ} (b : base_at base check s �
   child-place behind w = ap (λ (z : ℤ). child_slot behind (nat_abs z) w) b
 
   child_there : (behind : Bool) (w : ℕ) → is_word w ≡ true → 1 ≤ child_slot behind d w → child_slot behind d w < length check → check_at base check (child_slot behind d w) ≡ pos s
-      → (behind ≡ true → owned_by check s (child_slot false d w) ≡ Nothing) → child_at base check s w ≡ At (child_slot behind d w)
+      → (behind ≡ true → owned_by check s (child_slot false d w) ≡ None) → child_at base check s w ≡ Some (child_slot behind d w)
   child_there behind w e k l q f =
       child_shown base check s w (child_slot behind d w) (record {
         word = e;
@@ -105,7 +105,7 @@ module _ (base check : List ℤ) (s : ℕ) {d : ℕ} (b : base_at base check s �
         first = λ z. ap (owned_by check s) (child-place false w) ∙ f z;
       })
 
-  child-none : (w : ℕ) → ((behind : Bool) → 1 ≤ w → 1 ≤ child_slot behind d w → child_slot behind d w < length check → check_at base check (child_slot behind d w) ≡ pos s → ⊥) → child_at base check s w ≡ Nothing
+  child-none : (w : ℕ) → ((behind : Bool) → 1 ≤ w → 1 ≤ child_slot behind d w → child_slot behind d w < length check → check_at base check (child_slot behind d w) ≡ pos s → ⊥) → child_at base check s w ≡ None
   child-none w h =
       child-absent base check s w
       (λ t e.
@@ -159,10 +159,10 @@ module _ {order : ℕ} {nodes : List Node} {P : Placed} (R : Ready order nodes) 
     child_laid w = go (find_node nodes (w ∷ m.words)) refl
       where
         go : (o : Option Node) → find_node nodes (w ∷ m.words) ≡ o → child_at B C s w ≡ child_if o (P.slot (w ∷ m.words))
-        go none e =
+        go None e =
             child-none B C s base_read a.d_positive w
-            (λ behind p l i q. let k = child-found nodes m.words w (owned behind w p l i q).1 in none-ne-some k.0 (sym e ∙ k.1))
-        go (some k) e =
+            (λ behind p l i q. let k = child-found nodes m.words w (owned behind w p l i q).1 in none-some k.0 (sym e ∙ k.1))
+        go (Some k) e =
             let is-child = found-child nodes m.words w k e in
             let q = a.child-check w is-child in
             let c = check-read (child_slot a.behind a.d w) (λ z. pos-ne-negsuc _ _ (sym q ∙ z)) in
@@ -184,9 +184,9 @@ module _ {order : ℕ} {nodes : List Node} {P : Placed} (R : Ready order nodes) 
     own_childless : (w : ℕ) → child_at B C (P.slot m.words) w ≡ child_if (find_node nodes (w ∷ m.words)) (P.slot (w ∷ m.words))
     own_childless w = negative_childless B C (P.slot m.words) own_read w ∙ go (find_node nodes (w ∷ m.words)) refl
       where
-        go : (o : Option Node) → find_node nodes (w ∷ m.words) ≡ o → Nothing ≡ child_if o (P.slot (w ∷ m.words))
-        go none q = refl
-        go (some k) q = absurd (omega (arith, child-short R m.words w (found-child nodes m.words w k q)))
+        go : (o : Option Node) → find_node nodes (w ∷ m.words) ≡ o → None ≡ child_if o (P.slot (w ∷ m.words))
+        go None q = refl
+        go (Some k) q = absurd (omega (arith, child-short R m.words w (found-child nodes m.words w k q)))
 
   -- either
   node_laid : (m : Node) (h : Memᴰ m nodes) → (marker_at B C (length m.words) (P.slot m.words) ≡ node_marker m)

@@ -1,7 +1,8 @@
 -- The trie that is placed: its nodes, the root first, their children, and what the placing rule asks of them. Words are oldest first, as in the list:
 -- the parent of `w ∷ us` is `us`. Assumes nothing.
+use Rattle.std.specs.declared.option.Option.{Option}
+use Rattle.std.specs.declared.option.Option.TheVariants.{Some, None}
 use Rattle.std.specs.Prelude.{◌≡◌, ◌≢◌, true, cond, List, [], ◌∷◌, ℕ, suc, ◌≤◌, ◌<◌, eqb, ℤ, pos, length, get_or}
-use Rattle.std.proofs.Math.Option.{Option, none, some}
 use Rattle.backoff.specs.Words.{same_words, are_words}
 
 -- A node: the words that lead to it, and what its marker holds: CHECK is −(cost + 1), which is p − 1 of a row with p = −cost, and BASE is load. A node of n words,
@@ -22,8 +23,8 @@ children (m ∷ ms) us = child_of us m.words (children ms us)
 
 -- the first node that has these words
 unfoldable pub find_node : List Node → List ℕ → Option Node
-find_node [] us = none
-find_node (m ∷ ms) us = cond (same_words m.words us) (some m) (find_node ms us)
+find_node [] us = None
+find_node (m ∷ ms) us = cond (same_words m.words us) (Some m) (find_node ms us)
 
 -- how many nodes have as many words as the order
 unfoldable pub longest_nodes : ℕ → List Node → ℕ

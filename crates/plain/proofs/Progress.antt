@@ -4,7 +4,7 @@ use mathlib.Core.List.{List, [], ◌∷◌, ◌++◌, append-nil, append_assoc}
 use Prim.Native.Nat.{ℕ, suc, ◌+◌, ◌*◌, ◌<◌, ◌≤◌}
 use native.Mathlib.Numerals.{add-one}
 use native.Mathlib.Omega.{arith}
-use lib.ListN.{length, drop, set, get_or, length-append, length-drop}
+use lib.ListN.{length, drop, set, get_or, length-append}
 use lib.Seq.{drop-cons, set_at}
 use lib.IntN.{ℤ, pos, ◌+ℤ◌, +ℤ_assoc, +ℤ_idl, +ℤ_idr}
 use mir.Syntax.{w32, w64}
@@ -32,9 +32,6 @@ module _ {A : Type 0} where
     whole = rw append_assoc p.whole;
     so_far = rw (p.so_far, drop-cons old i x h, set_at p.done (get_or old i x) (drop (suc i) old) x i p.size, add-one, append_assoc);
   }
-
-  pub progress_length : {all rest old new : List A} {i : ℕ} → Progress all rest old new i → i ≤ length old → length new ≡ length old
-  progress_length p h = rw (p.so_far, length-append, length-drop) (omega (arith, p.size))
 
   pub progress_end : {all old new : List A} {i : ℕ} → Progress all [] old new i → new ≡ written all old
   unfolding written

@@ -20,7 +20,7 @@ use Rattle.plain_history.specs.History.{first_history}
 use Rattle.plain_history.proofs.Preceding.{Holds, begun-holds, rule-held, pushed-holds}
 use Rattle.plain.specs.declared.Next.{Next}
 use Rattle.plain.specs.Held.{IsNext}
-use Rattle.plain.proofs.Progress.{Progress, progress_none, progress_more, progress_length, progress_end, Summed, summed-none, summed-more, summed-end, total-fits}
+use Rattle.plain.proofs.Progress.{Progress, progress_none, progress_more, progress_end, Summed, summed-none, summed-more, summed-end, total-fits}
 
 -- the rule over the words that are left
 module _ (M : Model) (h ws : List ℕ) (i : ℕ) where
@@ -66,12 +66,6 @@ module _ {M : Model} {b : Bool} {ws : List ℕ} {points₀ : List ℤ} {lengths�
         summed-end (rw e at s.total_left),
         (progress_end (rw e at s.points-left), progress_end (rw (bytes-end M s.before ws i l) at s.lengths-left)),
       )
-
-  pub points-length : length ws ≤ length points₀ → length points ≡ length points₀
-  points-length h = progress_length s.points-left (omega (arith, s.within))
-
-  pub lengths-length : length ws ≤ length lengths₀ → length lengths ≡ length lengths₀
-  lengths-length h = progress_length s.lengths-left (omega (arith, s.within))
 
   -- one word more
   module _ (A : AcceptedModel M) (l : i < length ws) {r : Next} (k : IsNext M (reach M) recent (get_or ws i 0) r) (f : SFits w32 r.points) where

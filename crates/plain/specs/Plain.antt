@@ -1,17 +1,17 @@
 -- Plain scoring over the lent list alone: the outcome of every call, and what it means. Assumes nothing.
+use Rattle.std.specs.declared.result.Result.{Result}
+use Rattle.std.specs.declared.result.Result.TheVariants.{Ok, Err}
 use Rattle.std.specs.Prelude.{◌≡◌, ◌⊎◌, Bool, false, List, ℕ, ◌≤◌, ◌<◌, length, take, drop, ℤ, pos}
 use Rattle.integer.specs.Integer.{sum}
 use Rattle.backoff.specs.Limits.{run_limit}
-use Rattle.backoff.specs.Refusal.{word_count, short_slice}
-use Rattle.backoff.specs.declared.Verdict.{Verdict}
-use Rattle.backoff.specs.declared.Verdict.TheVariants.{Accepted, Refused}
+use Rattle.backoff.specs.declared.Refusal.{Refusal}
+use Rattle.backoff.specs.Refusal.{word_count, short_slice, Verdict, Accepted, Refused, number_in, place_in}
 use Rattle.backoff.specs.Model.{Model, AcceptedModel}
 use Rattle.backoff.specs.Rule.{rule_points, rule_bytes}
 use Rattle.backoff.specs.Run.{Run, Answer, refused_run, front, plain}
 use Rattle.list.specs.Check.{verdict}
 use Rattle.list.specs.ListModel.{model_of}
 use Rattle.list.specs.Meaning.{NoneMeets, VerdictMeans}
-use Rattle.plain.specs.declared.Plain.{Plain}
 
 abbrev pub run_of : List ℕ → List ℤ → List ℕ → Run
 run_of words points lengths = record { words = words; points = points; lengths = lengths }
@@ -25,11 +25,16 @@ plain_if (Refused number place) M b r = refused_run number place tt r
 unfoldable pub plain_outcome : List ℤ → Bool → Run → Answer (Unit {0})
 plain_outcome t b r = plain_if (verdict t) (model_of t) b r
 
+-- the total that a call returned: 0 where it is refused
+abbrev pub total_in : Result ℤ (Refusal ℕ) → ℤ
+total_in (Ok total) = total
+total_in (Err refusal) = pos 0
+
 -- what the call returned, and the two slices at exit, are those of the answer a
-pub record Answers (a : Answer (Unit {0})) (r : Plain) (points : List ℤ) (lengths : List ℕ) : Type 0 where
-  pub number_is : r.number ≡ a.number
-  pub place_is : r.place ≡ a.place
-  pub total-is : r.total ≡ a.total
+pub record Answers (a : Answer (Unit {0})) (r : Result ℤ (Refusal ℕ)) (points : List ℤ) (lengths : List ℕ) : Type 0 where
+  pub number_is : number_in r ≡ a.number
+  pub place_is : place_in r ≡ a.place
+  pub total-is : total_in r ≡ a.total
   pub points_are : points ≡ a.points
   pub lengths_are : lengths ≡ a.lengths
 

@@ -7,25 +7,26 @@ ghost use Rattle.backoff.specs.Limits.{run_limit};
 ghost use Rattle.backoff.specs.Model.{listed};
 ghost use Rattle.backoff.specs.Rule.{text_rule, rule_points, rule_bytes};
 ghost use Rattle.backoff.specs.Run.{written, front};
-ghost use Rattle.backoff.specs.declared.Verdict.TheVariants.{Accepted};
+ghost use Rattle.backoff.specs.Refusal.{Accepted, number_in, place_in};
 ghost use Rattle.rows.specs.Table.{order_of, word_of};
 ghost use Rattle.list.specs.Check.{verdict};
 ghost use Rattle.list.specs.ListModel.{model_of};
 ghost use Rattle.plain_history.specs.History.{IsRecent, in_use};
-ghost use Rattle.plain.specs.Plain.{run_of, plain_outcome, Answers, PlainMeans};
+ghost use Rattle.plain.specs.Plain.{run_of, plain_outcome, total_in, Answers, PlainMeans};
 ghost use Rattle.plain.specs.Held.{IsScored, IsNext};
 
-use backoff::Verdict;
+use backoff::Refusal;
 use plain_history::Recent;
+use row_starts::RowStarts;
 
-#[derive(Drop)]
+#[derive(Clone, Copy)]
 struct Scored {
     points: i32,
     byte: u8,
 }
 
 // The word, which has a one-word row, after the whole history.
-fn score_word(table: &[i32], starts: &[usize; 8], recent: Recent, word: i32) -> Scored
+fn score_word(table: &[i32], starts: &RowStarts, recent: Recent, word: i32) -> Scored
     requires { (verdict table.now ≡ Accepted) × IsRecent recent × (listed (model_of table.now) (word_of word ∷ []) ≡ true) }
     ensures { IsScored (text_rule (model_of table.now) (in_use recent) (word_of word)) (word_of word) result }
 {
@@ -39,7 +40,7 @@ fn score_word(table: &[i32], starts: &[usize; 8], recent: Recent, word: i32) -> 
 }
 
 // A word's points and length byte, and the history of the word after it.
-#[derive(Drop)]
+#[derive(Clone, Copy)]
 struct Next {
     points: i32,
     byte: u8,
@@ -47,7 +48,7 @@ struct Next {
 }
 
 // The given word after the history.
-fn score_next(table: &[i32], starts: &[usize; 8], most: usize, recent: Recent, word: u32) -> Next
+fn score_next(table: &[i32], starts: &RowStarts, most: usize, recent: Recent, word: u32) -> Next
     requires { (verdict table.now ≡ Accepted) × IsRecent recent }
     ensures { IsNext (model_of table.now) most recent word result }
 {
@@ -74,61 +75,33 @@ fn score_words(
     ensures points { points.new ≡ written (rule_points (model_of table.now) (front after_start) words.now) points.old }
     ensures lengths { lengths.new ≡ written (rule_bytes (model_of table.now) (front after_start) words.now) lengths.old }
 {
-    let starts = row_starts::find_starts(table);
+    let starts = RowStarts::find(table);
     let most = n - 1;
     let mut recent = plain_history::begin(most, after_start);
     let mut total: i64 = 0;
-    for i in 0..words.len() {
-        let next = score_next(table, &starts, most, recent, words[i]);
-        let p = next.points;
-        points[i] = p;
+    for (i, word) in words.iter().enumerate() {
+        let next = score_next(table, &starts, most, recent, *word);
+        points[i] = next.points;
         lengths[i] = next.byte;
-        total += p as i64;
+        total += i64::from(next.points);
         recent = next.recent;
     }
     total
 }
 
-// The refusal's number and place, 0 and 0 where there is none, and the total.
-#[derive(Drop)]
-pub struct Plain {
-    pub number: u32,
-    pub place: u32,
-    pub total: i64,
-}
-
-// Scores the words by the list alone, after `<s>` or with no context.
+// Scores the words by the list alone, after `<s>` or with no context: writes points and length bytes, and returns the total.
 pub fn score_plain(
     table: &[i32],
     after_start: bool,
     words: &[u32],
     points: &mut [i32],
     lengths: &mut [u8],
-) -> Plain
+) -> Result<i64, Refusal>
     ensures outcome { Answers (plain_outcome table.now after_start (run_of words.now points.old lengths.old)) result points.new lengths.new }
-    ensures meaning { PlainMeans table.now after_start (run_of words.now points.old lengths.old) result.number result.place result.total points.new lengths.new }
+    ensures meaning { PlainMeans table.now after_start (run_of words.now points.old lengths.old) (number_in result) (place_in result) (total_in result) points.new lengths.new }
 {
-    let verdict = list::check_list(table);
-    if let Verdict::Refused { number, place } = verdict {
-        return Plain {
-            number,
-            place,
-            total: 0,
-        };
-    }
-    let fault = backoff::run_fault(words.len(), points.len(), lengths.len());
-    if fault != 0 {
-        return Plain {
-            number: fault,
-            place: 0,
-            total: 0,
-        };
-    }
+    list::check_list(table)?;
+    backoff::check_sizes(words.len(), points.len(), lengths.len())?;
     let n = rows::length_of(table, table.len() / 8 - 1);
-    let total = score_words(table, n, after_start, words, points, lengths);
-    Plain {
-        number: 0,
-        place: 0,
-        total,
-    }
+    Ok(score_words(table, n, after_start, words, points, lengths))
 }

@@ -4,7 +4,7 @@ use mathlib.Core.Bool.{true}
 use mathlib.Core.List.{List, [], ◌∷◌, ◌++◌, map-append, reverse}
 use Prim.Native.Nat.{ℕ, zero, suc, ◌-◌, ◌≤◌}
 use native.Mathlib.Omega.{arith}
-use lib.ListN.{length, get_or, take, drop, length-drop, length-append, length-map}
+use lib.ListN.{length, take, drop, length-drop, length-append, length-map}
 use lib.Seq.{take_all}
 use lib.IntN.{ℤ, pos}
 use Rattle.backoff.specs.Words.{are_words}
@@ -51,13 +51,6 @@ module _ (r : Recent) (k : IsRecent r) where
       go (suc (suc (suc zero))) l (places a b c d) = refl
       go (suc (suc (suc (suc zero)))) l (places a b c d) = refl
       go (suc (suc (suc (suc (suc i))))) l q = absurd (omega arith)
-
--- one word more behind four places, as the code writes it
-pub shift : (ws : List ℤ) (z : ℤ) → length ws ≡ 4 → get_or ws 1 (pos 0) ∷ get_or ws 2 (pos 0) ∷ get_or ws 3 (pos 0) ∷ z ∷ [] ≡ drop 1 ws ++ (z ∷ [])
-shift ws z h = go (four-places ws h)
-  where
-    go : {ws : List ℤ} → Four ws → get_or ws 1 (pos 0) ∷ get_or ws 2 (pos 0) ∷ get_or ws 3 (pos 0) ∷ z ∷ [] ≡ drop 1 ws ++ (z ∷ [])
-    go (places a b c d) = refl
 
 module _ (ws : List ℤ) (v : ℕ) (four : length ws ≡ 4) (a : are_words (v ∷ []) ≡ true) where
   pub newest_shifted : reverse (words_of (drop 1 ws ++ (pos v ∷ []))) ≡ v ∷ take 3 (reverse (words_of ws))

@@ -1,34 +1,56 @@
 -- A row that the search found, or found missing, is what the model has of the sequence. Assumes nothing.
-use mathlib.Core.Path.{◌≡◌, refl, ap, ◌∙◌}
-use mathlib.Core.Bool.{true, false≢true}
+use Rattle.std.specs.declared.option.Option.{Option}
+use Rattle.std.specs.declared.option.Option.TheVariants.{Some, None}
+use mathlib.Core.Path.{◌≡◌, refl, ap}
+use mathlib.Core.Bool.{true, false}
 use mathlib.Core.List.{List, [], ◌∷◌, ◌++◌, reverse, reverse-append, reverse-reverse}
 use Prim.Native.Nat.{ℕ}
-use lib.IntN.{ℤ}
-use Rattle.backoff.specs.Model.{listed, probability, extended, extended_of}
+use lib.IntN.{ℤ, pos}
+use Rattle.backoff.specs.Model.{listed, probability, backoff, extended}
+use Rattle.row_search.specs.declared.Row.{Row}
 use Rattle.row_search.specs.Search.{find_in, found_row}
-use Rattle.row_search.specs.declared.Found.{Found}
-use Rattle.row_search.specs.declared.Found.TheVariants.{At, Nothing}
 use Rattle.row_search.proofs.Search.{found-words}
-use Rattle.list.specs.ListModel.{extended_in, entry_at, model_of}
-use Rattle.list.proofs.ListModel.{entry_listed, entry_probability}
+use Rattle.list.specs.ListModel.{extended_in, model_of}
 use Rattle.plain_word.specs.Score.{IsExtended}
 
+-- what a row says of the sequence l, newest word first
+pub record IsRow (t : List ℤ) (l : List ℕ) (row : Row) : Type 0 where
+  pub is_listed : listed (model_of t) l ≡ true
+  pub p-is : row.p ≡ probability (model_of t) l
+  pub b-is : row.b ≡ backoff (model_of t) l
+  pub at-is : IsExtended t row.at (extended (model_of t) l)
+
+-- the same of what was found of it, which may be no row
+abbrev Says : List ℤ → List ℕ → Option Row → Type 0
+Says t l (Some row) = IsRow t l row
+Says t l None = (listed (model_of t) l ≡ false) × (backoff (model_of t) l ≡ pos 0)
+
 module _ (t : List ℤ) (ws : List ℕ) where
-  row-extended : (found_row t (find_in t ws)).listed ≡ true → IsExtended t (found_row t (find_in t ws)).at (extended (model_of t) (reverse ws))
-  unfolding extended model_of found_row
-  row-extended = rw (reverse-reverse ws) (go (find_in t ws) refl)
+  says : Says t (reverse ws) (found_row t (find_in t ws))
+  unfolding listed probability backoff extended model_of found_row
+  says = go (find_in t ws) refl
     where
-      go : (f : Found) → find_in t ws ≡ f → (found_row t f).listed ≡ true → IsExtended t (found_row t f).at (extended_of (entry_at t ws f))
-      go (At i) e l = let w = found-words t ws i e in record { within = w.0; extended-is = ap (extended_in t) w.1 }
-      go Nothing e l = absurd (false≢true l)
+      go : (f : Option ℕ) → find_in t ws ≡ f → Says t (reverse ws) (found_row t f)
+      go (Some i) e =
+          let w = found-words t ws i e in
+          record {
+            is_listed = rw (reverse-reverse ws, e) refl;
+            p-is = rw (reverse-reverse ws, e) refl;
+            b-is = rw (reverse-reverse ws, e) refl;
+            at-is = rw (reverse-reverse ws, e) (record { within = w.0; extended-is = ap (extended_in t) w.1 });
+          }
+      go None e = (rw (reverse-reverse ws, e) refl, rw (reverse-reverse ws, e) refl)
+
+  pub row-some : {row : Row} → Some row ≡ found_row t (find_in t ws) → IsRow t (reverse ws) row
+  row-some e = rw (← e) at says
+
+  pub row-none : None ≡ found_row t (find_in t ws) → (listed (model_of t) (reverse ws) ≡ false) × (backoff (model_of t) (reverse ws) ≡ pos 0)
+  row-none e = rw (← e) at says
 
 -- of the history h, oldest word first, followed by the word v
 module _ (t : List ℤ) (h : List ℕ) (v : ℕ) where
-  pub row_with-listed : (found_row t (find_in t (h ++ (v ∷ [])))).listed ≡ listed (model_of t) (v ∷ reverse h)
-  row_with-listed = entry_listed t (h ++ (v ∷ [])) ∙ ap (listed (model_of t)) (reverse-append h (v ∷ []))
+  pub with-some : {row : Row} → Some row ≡ found_row t (find_in t (h ++ (v ∷ []))) → IsRow t (v ∷ reverse h) row
+  with-some e = rw (← reverse-append h (v ∷ [])) (row-some t (h ++ (v ∷ [])) e)
 
-  pub row_with-probability : (found_row t (find_in t (h ++ (v ∷ [])))).p ≡ probability (model_of t) (v ∷ reverse h)
-  row_with-probability = entry_probability t (h ++ (v ∷ [])) ∙ ap (probability (model_of t)) (reverse-append h (v ∷ []))
-
-  pub row_with-extended : (found_row t (find_in t (h ++ (v ∷ [])))).listed ≡ true → IsExtended t (found_row t (find_in t (h ++ (v ∷ [])))).at (extended (model_of t) (v ∷ reverse h))
-  row_with-extended l = rw (← reverse-append h (v ∷ [])) (row-extended t (h ++ (v ∷ [])) l)
+  pub with-none : None ≡ found_row t (find_in t (h ++ (v ∷ []))) → listed (model_of t) (v ∷ reverse h) ≡ false
+  with-none e = rw (← reverse-append h (v ∷ [])) (row-none t (h ++ (v ∷ [])) e).0

@@ -2,7 +2,7 @@
 -- get. Assumes nothing.
 use mathlib.Core.Path.{◌≡◌, refl, sym, ap, ◌∙◌}
 use mathlib.Core.Bool.{Bool, true, false, cond, true≢false}
-use mathlib.Core.List.{List, [], ◌∷◌, ◌++◌, reverse}
+use mathlib.Core.List.{List, [], ◌∷◌, reverse}
 use Prim.Native.Nat.{ℕ, suc, ◌+◌, ◌*◌, ◌-◌, ◌<◌, ◌≤◌, min}
 use native.Mathlib.Numerals.{add-one}
 use native.Mathlib.Decide.{dec_le}
@@ -20,12 +20,11 @@ use Rattle.backoff.specs.Rule.{add_points, row_score, text_rule}
 use Rattle.backoff.proofs.Model.{dead_backoff, unlisted_dead}
 use Rattle.backoff.proofs.Sizes.{backoff-size}
 use Rattle.rows.specs.Table.{words_of}
-use Rattle.row_search.specs.Search.{find_in, found_row}
 use Rattle.row_search.specs.declared.Row.{Row}
 use Rattle.list.specs.ListModel.{model_of}
 use Rattle.plain_word.specs.declared.Score.{Score}
 use Rattle.plain_word.specs.Score.{IsScore}
-use Rattle.plain_word.proofs.Rows.{row_with-listed, row_with-probability, row_with-extended}
+use Rattle.plain_word.proofs.Rows.{IsRow}
 
 module _ (M : Model) (v : ℕ) where
   pub text-here : (h : List ℕ) → listed M (v ∷ reverse h) ≡ true → text_rule M h v ≡ row_score M (v ∷ reverse h) (length h + 1)
@@ -131,12 +130,11 @@ shorter_words (z ∷ zs) = ap words_of (take_all (suc (length zs) - 1) zs (omega
 
 -- the score of a call, by the row of history and word, and by the call for the shorter history
 module _ {t : List ℤ} (v : ℕ) (zs : List ℤ) where
-  pub score_here : {r : Row} {x : ℤ} → r ≡ found_row t (find_in t (words_of zs ++ (v ∷ []))) → r.listed ≡ true → x ≡ r.p → IsScore t (text_rule (model_of t) (words_of zs) v) (record { points = x; matched = length zs + 1; row = r.at })
-  score_here k l e =
+  pub score_here : {row : Row} {x : ℤ} → IsRow t (v ∷ reverse (words_of zs)) row → x ≡ row.p → IsScore t (text_rule (model_of t) (words_of zs) v) (record { points = x; matched = length zs + 1; row = row.at })
+  score_here k e =
       let size : length zs ≡ length (words_of zs) = unfold words_of in sym (length-map zs _) in
-      let is : (found_row t (find_in t (words_of zs ++ (v ∷ [])))).listed ≡ true = rw k at l in
-      rw (text-here (model_of t) v (words_of zs) (sym (row_with-listed t (words_of zs) v) ∙ is), size, k)
-      (record { points_are = (rw k at e) ∙ row_with-probability t (words_of zs) v; matched-is = refl; row_is = row_with-extended t (words_of zs) v is })
+      rw (text-here (model_of t) v (words_of zs) k.is_listed, size)
+      (record { points_are = e ∙ k.p-is; matched-is = refl; row_is = k.at-is })
 
   pub score_shorter : {s : Score} {x : ℤ} → 0 < length zs → listed (model_of t) (v ∷ reverse (words_of zs)) ≡ false → x ≡ backoff (model_of t) (reverse (words_of zs)) +ℤ (text_rule (model_of t) (drop 1 (words_of zs)) v).points → IsScore t (text_rule (model_of t) (drop 1 (words_of zs)) v) s → IsScore t (text_rule (model_of t) (words_of zs) v) (record { points = x; matched = s.matched; row = s.row })
   score_shorter l u e k =

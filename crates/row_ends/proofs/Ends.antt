@@ -1,4 +1,6 @@
 -- The last words of a row that come next: their p and b in the filled list, and what it says if the p of all are in range. Assumes nothing.
+use Rattle.std.specs.declared.option.Option.{Option}
+use Rattle.std.specs.declared.option.Option.TheVariants.{Some, None}
 use mathlib.Core.Path.{◌≡◌, refl, sym, ap, ◌∙◌}
 use mathlib.Core.Logic.{inr, ⊎_elim}
 use mathlib.Core.Bool.{Bool, true, false, cond, ◌&&◌}
@@ -9,11 +11,9 @@ use lib.IntN.{ℤ, pos}
 use Rattle.integer.proofs.Ranges.{lt_or_ge, and_left, and_right}
 use Rattle.backoff.specs.Refusal.{row_probability}
 use Rattle.backoff.specs.Model.{in_probability}
-use Rattle.backoff.specs.declared.Verdict.TheVariants.{Accepted}
+use Rattle.backoff.specs.Refusal.{Accepted}
 use Rattle.rows.specs.Table.{rows_of, probability_at, backoff_at, length_of, words}
 use Rattle.row_search.specs.Search.{find_in, is_at}
-use Rattle.row_search.specs.declared.Found.{Found}
-use Rattle.row_search.specs.declared.Found.TheVariants.{At, Nothing}
 use Rattle.row_search.proofs.Search.{found-words, finds}
 use Rattle.list.specs.Check.{verdict_for}
 use Rattle.list.proofs.Check.{checked-good, checked-row}
@@ -35,7 +35,7 @@ use Rattle.row_ends.proofs.Points.{end-words_are, end-points_are}
 module _ (t : List ℤ) (i k m : ℕ) (e : IsEnd t i k m) where
   -- not more words than m: it is the row itself
   module _ (l : k ≤ m) where
-    own : find_in t (last_words t i m) ≡ At i
+    own : find_in t (last_words t i m) ≡ Some i
     own =
         let z : m ≡ length_of t i = let h = e.long in let s = e.size in omega arith in
         ap (find_in t) (ap (last_words t i) z ∙ last-all t i) ∙ finds t (checked-good true t e.checked) i e.within
@@ -67,9 +67,9 @@ module _ (t : List ℤ) (a : verdict_for true t ≡ Accepted) where
   unfolding end_probability
   addable_by i m = go (find_in t (last_words t i m)) refl
     where
-      go : (f : Found) → find_in t (last_words t i m) ≡ f → in_probability (filled_probability t (last_words t i m) f) ≡ addable t (last_words t i m)
-      go (At j) e = (checked-row true t a j (found-words t (last_words t i m) j e).0).fields.probability ∙ sym (addable-listed t (last_words t i m) (ap is_at e))
-      go Nothing e = sym (addable-unlisted t (last_words t i m) (ap is_at e))
+      go : (f : Option ℕ) → find_in t (last_words t i m) ≡ f → in_probability (filled_probability t (last_words t i m) f) ≡ addable t (last_words t i m)
+      go (Some j) e = (checked-row true t a j (found-words t (last_words t i m) j e).0).fields.probability ∙ sym (addable-listed t (last_words t i m) (ap is_at e))
+      go None e = sym (addable-unlisted t (last_words t i m) (ap is_at e))
 
   pub none_needing : ((j : ℕ) → j < rows_of (filled_table t) → addable t (words (filled_table t) j) ≡ true) → NoneNeeding t
   unfolding needed_fault

@@ -1,4 +1,6 @@
 -- The loop over shorter and shorter ends: back-offs are owed for the histories passed, and the rule goes on with the rest. Assumes nothing.
+use Rattle.std.specs.declared.option.Option.{Option}
+use Rattle.std.specs.declared.option.Option.TheVariants.{Some, None}
 use mathlib.Core.Path.{◌≡◌, refl, sym, ap, ◌∙◌}
 use mathlib.Core.Bool.{true, false, false≢true}
 use mathlib.Core.Logic.{⊎_elim}
@@ -17,18 +19,18 @@ use Rattle.integer.proofs.Parts.{front_part}
 use Rattle.backoff.specs.Limits.{order_limit, least_probability, largest_backoff}
 use Rattle.backoff.specs.Words.{are_words}
 use Rattle.backoff.specs.Model.{in_probability, in_backoff}
-use Rattle.backoff.specs.declared.Verdict.TheVariants.{Accepted}
-use Rattle.rows.specs.Table.{rows_of, words_of}
+use Rattle.backoff.specs.Refusal.{Accepted}
+use Rattle.rows.specs.Table.{rows_of, probability_at, words_of}
 use Rattle.rows.specs.Good.{Good}
 use Rattle.rows.proofs.Table.{are_words-drop, are_words-take}
+use Rattle.std.specs.Option.{is_some}
 use Rattle.row_search.specs.Search.{find_in, is_at, found_row}
-use Rattle.row_search.specs.declared.Found.{Found}
-use Rattle.row_search.specs.declared.Found.TheVariants.{At, Nothing}
 use Rattle.row_search.specs.declared.Row.{Row}
 use Rattle.row_search.proofs.Search.{finds_nothing}
 use Rattle.list.specs.Check.{verdict_for}
 use Rattle.list.proofs.ListModel.{probability_range, backoff_range}
-use Rattle.row_ends.specs.Points.{words_from, points_by, place_points}
+use Rattle.row_ends.specs.Points.{words_from, points_by, backoff_in, place_points}
+use Rattle.row_ends.proofs.Points.{backoff-same}
 
 -- ---- words among words
 
@@ -65,7 +67,7 @@ pub record Sum (owed x y : ℤ) : Type 0 where
 summed : {owed x y : ℤ} → x ≡ y → SFits w32 y → SFits w32 (owed +ℤ y) → Sum owed x y
 summed e f g = rw e (record { fits = rw (to_z-of_z f) g; sum_is = rw (to_z-of_z f) (to_z-of_z g) })
 
-place-step : (t : List ℤ) (past at : ℕ) → at < past → place_points t at (past - at) ≡ points_by t (find_in t (words_from t at (past - at))) (found_row t (find_in t (words_from t at (past - 1 - at)))).b (place_points t (at + 1) (past - (at + 1)))
+place-step : (t : List ℤ) (past at : ℕ) → at < past → place_points t at (past - at) ≡ points_by t (find_in t (words_from t at (past - at))) (backoff_in (found_row t (find_in t (words_from t at (past - 1 - at))))) (place_points t (at + 1) (past - (at + 1)))
 unfolding place_points
 place-step t past at l =
     let e : past - at ≡ suc (past - (at + 1)) = omega arith in
@@ -73,24 +75,41 @@ place-step t past at l =
     let g : at + 1 ≡ suc at = omega arith in
     rw (f, e, g)
 
--- what is listed has a word
-pub listed-some : (t : List ℤ) (past at : ℕ) → Good t (rows_of t) → is_at (find_in t (words_from t at (past - at))) ≡ true → at < past
+-- what was found is a row, with its p
+found-some : (t : List ℤ) (f : Option ℕ) {row : Row} → Some row ≡ found_row t f → (i : ℕ) × (f ≡ Some i) × (row.p ≡ probability_at t i)
+unfolding found_row
+found-some t (Some i) e = (i, refl, let z : _ ≡ _ = e in cc)
+found-some t None e = absurd (some-none e)
+  where
+    some-none : {row : Row} → ◌≡◌ {A = Option Row} (Some row) None → ⊥
+    some-none e = cc
+
+-- whether it was found
+pub found-is : (t : List ℤ) (f : Option ℕ) → is_some (found_row t f) ≡ is_at f
+unfolding found_row
+found-is t (Some i) = refl
+found-is t None = refl
+
+pub none-absent : (t : List ℤ) (f : Option ℕ) → None ≡ found_row t f → is_at f ≡ false
+unfolding found_row
+none-absent t (Some i) e = cc
+none-absent t None e = refl
+
+-- a row that was found has a word
+listed-some : (t : List ℤ) (past at i : ℕ) → Good t (rows_of t) → find_in t (words_from t at (past - at)) ≡ Some i → at < past
 unfolding words_from
-listed-some t past at g e =
+listed-some t past at i g e =
     ⊎_elim
     (λ l. l)
-    (λ (l : past ≤ at). absurd (false≢true (sym (ap is_at (finds_nothing t (take (past - at) (drop at t)) g (rw length-take (omega arith)))) ∙ e)))
+    (λ (l : past ≤ at). absurd (false≢true (ap is_at (sym (finds_nothing t (take (past - at) (drop at t)) g (rw length-take (omega arith))) ∙ e))))
     (lt_or_ge at past)
 
 module _ {t : List ℤ} {a past : ℕ} where
-  -- the words that are left are listed
-  pub owed-here : {owed : ℤ} {at : ℕ} → Owed t a past owed at → at < past → is_at (find_in t (words_from t at (past - at))) ≡ true → place_points t a (past - a) ≡ owed +ℤ (found_row t (find_in t (words_from t at (past - at)))).p
-  unfolding found_row
-  owed-here {owed} {at} o l e = o.rest ∙ ap (λ (z : ℤ). owed +ℤ z) (place-step t past at l ∙ go (find_in t (words_from t at (past - at))) e)
-    where
-      go : (f : Found) → is_at f ≡ true → points_by t f (found_row t (find_in t (words_from t at (past - 1 - at)))).b (place_points t (at + 1) (past - (at + 1))) ≡ (found_row t f).p
-      go (At i) e = refl
-      go Nothing e = absurd (false≢true e)
+  -- the words that are left are a row
+  pub owed-here : {owed : ℤ} {at : ℕ} → Good t (rows_of t) → Owed t a past owed at → {row : Row} → Some row ≡ found_row t (find_in t (words_from t at (past - at))) → place_points t a (past - a) ≡ owed +ℤ row.p
+  owed-here {owed} {at} g o e =
+      let f = found-some t (find_in t (words_from t at (past - at))) e in
+      o.rest ∙ ap (λ (z : ℤ). owed +ℤ z) (rw f.1 at (place-step t past at (listed-some t past at f.0 g f.1)) ∙ sym f.2)
 
   -- no words are left
   pub owed-end : {owed : ℤ} {at : ℕ} → Owed t a past owed at → past ≤ at → owed ≡ place_points t a (past - a)
@@ -99,11 +118,11 @@ module _ {t : List ℤ} {a past : ℕ} where
 
   -- they are not, so the back-off of the words before the last is owed too
   pub owed_more : (c : verdict_for true t ≡ Accepted) {owed : ℤ} {at : ℕ} → Owed t a past owed at → at < past → is_at (find_in t (words_from t at (past - at))) ≡ false
-      → Owed t a past (owed +ℤ (found_row t (find_in t (words_from t at (past - 1 - at)))).b) (at + 1)
+      → Owed t a past (owed +ℤ (backoff_in (found_row t (find_in t (words_from t at (past - 1 - at)))))) (at + 1)
   unfolding in_backoff
   owed_more c {owed} {at} o l e =
-      let b = (found_row t (find_in t (words_from t at (past - 1 - at)))).b in
-      let r = backoff_range true t c (words_from t at (past - 1 - at)) in
+      let b = (backoff_in (found_row t (find_in t (words_from t at (past - 1 - at))))) in
+      let r = rw (← backoff-same (found_row t (find_in t (words_from t at (past - 1 - at))))) at (backoff_range true t c (words_from t at (past - 1 - at))) in
       let n = between-low (neg_ℤ (pos largest_backoff)) (pos largest_backoff) b r in
       let h = between-high (neg_ℤ (pos largest_backoff)) (pos largest_backoff) b r in
       let s = o.from in
@@ -115,23 +134,30 @@ module _ {t : List ℤ} {a past : ℕ} where
         high = omega (zarith, o.high, add owed b);
       }
     where
-      go : (f : Found) → is_at f ≡ false → points_by t f (found_row t (find_in t (words_from t at (past - 1 - at)))).b (place_points t (at + 1) (past - (at + 1))) ≡ (found_row t (find_in t (words_from t at (past - 1 - at)))).b +ℤ place_points t (at + 1) (past - (at + 1))
-      go (At i) e = absurd (false≢true (sym e))
-      go Nothing e = refl
+      go : (f : Option ℕ) → is_at f ≡ false → points_by t f (backoff_in (found_row t (find_in t (words_from t at (past - 1 - at))))) (place_points t (at + 1) (past - (at + 1))) ≡ (backoff_in (found_row t (find_in t (words_from t at (past - 1 - at))))) +ℤ place_points t (at + 1) (past - (at + 1))
+      go (Some i) e = absurd (false≢true (sym e))
+      go None e = refl
 
-  module _ (c : verdict_for true t ≡ Accepted) (k : past - a ≤ order_limit) {owed : ℤ} {at : ℕ} (o : Owed t a past owed at) (ws : List ℕ) {r : Row} (e : r ≡ found_row t (find_in t ws)) where
-    pub backoff-summed : Sum owed r.b (found_row t (find_in t ws)).b
+  module _ (c : verdict_for true t ≡ Accepted) (k : past - a ≤ order_limit) {owed : ℤ} {at : ℕ} (o : Owed t a past owed at) (ws : List ℕ) where
+    pub backoff-summed : {b : ℤ} → b ≡ backoff_in (found_row t (find_in t ws)) → Sum owed b (backoff_in (found_row t (find_in t ws)))
     unfolding in_backoff
-    backoff-summed =
-        let n = between-low (neg_ℤ (pos largest_backoff)) (pos largest_backoff) (found_row t (find_in t ws)).b (backoff_range true t c ws) in
-        let h = between-high (neg_ℤ (pos largest_backoff)) (pos largest_backoff) (found_row t (find_in t ws)).b (backoff_range true t c ws) in
+    backoff-summed e =
+        let r = rw (← backoff-same (found_row t (find_in t ws))) at (backoff_range true t c ws) in
+        let n = between-low (neg_ℤ (pos largest_backoff)) (pos largest_backoff) (backoff_in (found_row t (find_in t ws))) r in
+        let h = between-high (neg_ℤ (pos largest_backoff)) (pos largest_backoff) (backoff_in (found_row t (find_in t ws))) r in
         let s = o.to in
-        summed (ap (λ (r : Row). r.b) e) (omega zarith) (omega (zarith, o.low, o.high))
+        summed e (omega zarith) (omega (zarith, o.low, o.high))
 
-    pub probability-summed : Sum owed r.p (found_row t (find_in t ws)).p
+    pub probability-summed : {row : Row} → Some row ≡ found_row t (find_in t ws) → Sum owed row.p row.p
     unfolding in_probability
-    probability-summed =
-        let n = between-low least_probability (pos 0) (found_row t (find_in t ws)).p (probability_range true t c ws) in
-        let h = between-high least_probability (pos 0) (found_row t (find_in t ws)).p (probability_range true t c ws) in
+    probability-summed {row} e =
+        let r : in_probability row.p ≡ true = rw (← e) at (probability_range true t c ws) in
+        let n = between-low least_probability (pos 0) row.p r in
+        let h = between-high least_probability (pos 0) row.p r in
         let s = o.to in
-        summed (ap (λ (r : Row). r.p) e) (omega zarith) (omega (zarith, o.low, o.high))
+        summed refl (omega zarith) (omega (zarith, o.low, o.high))
+
+-- what the loop keeps: the words that are left are no row, if there are any
+pub record Passed (t : List ℤ) (a past : ℕ) (owed : ℤ) (at : ℕ) : Type 0 where
+  pub sum : Owed t a past owed at
+  pub absent : at < past → is_at (find_in t (words_from t at (past - at))) ≡ false

@@ -1,4 +1,6 @@
 -- The points worked out on the words in the table are those that the list gives. Assumes nothing.
+use Rattle.std.specs.declared.option.Option.{Option}
+use Rattle.std.specs.declared.option.Option.TheVariants.{Some, None}
 use mathlib.Core.Path.{◌≡◌, refl, sym, ap, ap₂, ◌∙◌}
 use mathlib.Core.Logic.{⊎_elim}
 use mathlib.Core.Bool.{true}
@@ -12,17 +14,16 @@ use Rattle.backoff.specs.Limits.{order_limit}
 use Rattle.backoff.specs.Words.{are_words}
 use Rattle.backoff.specs.Model.{Model, reach}
 use Rattle.backoff.specs.Rule.{Score, add_points, replaced, text_rule}
-use Rattle.backoff.specs.declared.Verdict.TheVariants.{Accepted}
+use Rattle.backoff.specs.Refusal.{Accepted}
 use Rattle.backoff.proofs.Rule.{rule-is-text_rule}
 use Rattle.rows.specs.Table.{rows_of, probability_at, length_of, order_of, word_of, words_of}
 use Rattle.rows.proofs.Table.{row_in, length_limit}
+use Rattle.row_search.specs.declared.Row.{Row}
 use Rattle.row_search.specs.Search.{find_in, found_row}
-use Rattle.row_search.specs.declared.Found.{Found}
-use Rattle.row_search.specs.declared.Found.TheVariants.{At, Nothing}
 use Rattle.row_search.proofs.Search.{finds}
 use Rattle.list.specs.Check.{verdict_for}
 use Rattle.list.specs.ListModel.{model_of}
-use Rattle.list.proofs.ListModel.{entry_backoff, length-order}
+use Rattle.list.proofs.ListModel.{backoff_in_row, entry_backoff, length-order}
 use Rattle.list.proofs.Check.{checked-good, checked-size}
 use Rattle.filled_list.specs.Added.{own_points}
 use Rattle.filled_list.specs.Filled.{added_probability}
@@ -30,7 +31,12 @@ use Rattle.filled_list.specs.Next.{last_words}
 use Rattle.filled_list.proofs.FilledRows.{EndOf, last_alone, end-without_last, end-some}
 use Rattle.filled_list.proofs.FilledModel.{listed_by, probability_by}
 use Rattle.filled_list.proofs.LastWords.{places-last, last-are_words, last-words-end}
-use Rattle.row_ends.specs.Points.{words_from, points_by, place_points}
+use Rattle.row_ends.specs.Points.{words_from, points_by, backoff_in, place_points}
+
+-- b of a row as the list's laws have it
+pub backoff-same : (o : Option Row) → backoff_in o ≡ backoff_in_row o
+backoff-same (Some row) = refl
+backoff-same None = refl
 
 -- ---- words in the table
 
@@ -55,29 +61,29 @@ module _ (t : List ℤ) where
   abbrev M : Model
   M = model_of t
 
-  text-here : (o : ℕ) (h : List ℕ) (v i : ℕ) → find_in t ((o ∷ h) ++ (v ∷ [])) ≡ At i → (text_rule M (o ∷ h) v).points ≡ probability_at t i
+  text-here : (o : ℕ) (h : List ℕ) (v i : ℕ) → find_in t ((o ∷ h) ++ (v ∷ [])) ≡ Some i → (text_rule M (o ∷ h) v).points ≡ probability_at t i
   unfolding text_rule found_row
   text-here o h v i e =
-      let f : find_in t (reverse (v ∷ reverse (o ∷ h))) ≡ At i = ap (find_in t) (turned (o ∷ h) v) ∙ e in
-      rw (listed_by t (v ∷ reverse (o ∷ h)) (At i) f) (probability_by t (v ∷ reverse (o ∷ h)) (At i) f)
+      let f : find_in t (reverse (v ∷ reverse (o ∷ h))) ≡ Some i = ap (find_in t) (turned (o ∷ h) v) ∙ e in
+      rw (listed_by t (v ∷ reverse (o ∷ h)) (Some i) f) (probability_by t (v ∷ reverse (o ∷ h)) (Some i) f)
 
-  text-down : (o : ℕ) (h : List ℕ) (v : ℕ) → find_in t ((o ∷ h) ++ (v ∷ [])) ≡ Nothing → (text_rule M (o ∷ h) v).points ≡ (found_row t (find_in t (o ∷ h))).b +ℤ (text_rule M h v).points
+  text-down : (o : ℕ) (h : List ℕ) (v : ℕ) → find_in t ((o ∷ h) ++ (v ∷ [])) ≡ None → (text_rule M (o ∷ h) v).points ≡ backoff_in (found_row t (find_in t (o ∷ h))) +ℤ (text_rule M h v).points
   unfolding text_rule add_points
   text-down o h v e =
-      let f : find_in t (reverse (v ∷ reverse (o ∷ h))) ≡ Nothing = ap (find_in t) (turned (o ∷ h) v) ∙ e in
-      rw (listed_by t (v ∷ reverse (o ∷ h)) Nothing f) (ap (λ (z : ℤ). z +ℤ (text_rule M h v).points) (sym (entry_backoff t (o ∷ h))))
+      let f : find_in t (reverse (v ∷ reverse (o ∷ h))) ≡ None = ap (find_in t) (turned (o ∷ h) v) ∙ e in
+      rw (listed_by t (v ∷ reverse (o ∷ h)) None f) (ap (λ (z : ℤ). z +ℤ (text_rule M h v).points) (sym (entry_backoff t (o ∷ h)) ∙ sym (backoff-same (found_row t (find_in t (o ∷ h))))))
 
-  text-single : (v i : ℕ) → find_in t (v ∷ []) ≡ At i → (text_rule M [] v).points ≡ probability_at t i
+  text-single : (v i : ℕ) → find_in t (v ∷ []) ≡ Some i → (text_rule M [] v).points ≡ probability_at t i
   unfolding text_rule found_row
-  text-single v i e = probability_by t (v ∷ []) (At i) e
+  text-single v i e = probability_by t (v ∷ []) (Some i) e
 
   -- the points at the places are the rule's, where the last word is listed alone
-  place-text : (k a i : ℕ) → a + k < length t → find_in t (word_of (get_or t (a + k) (pos 0)) ∷ []) ≡ At i → place_points t a (suc k) ≡ (text_rule M (words_from t a k) (word_of (get_or t (a + k) (pos 0)))).points
+  place-text : (k a i : ℕ) → a + k < length t → find_in t (word_of (get_or t (a + k) (pos 0)) ∷ []) ≡ Some i → place_points t a (suc k) ≡ (text_rule M (words_from t a k) (word_of (get_or t (a + k) (pos 0)))).points
   unfolding place_points
   place-text zero a i l e =
       let v = word_of (get_or t (a + 0) (pos 0)) in
       let z : words_from t a 0 ≡ [] = unfold words_from words_of in refl in
-      let f : find_in t (words_from t a 1) ≡ At i = ap (find_in t) (from_snoc t a 0 l ∙ ap (λ (ws : List ℕ). ws ++ (v ∷ [])) z) ∙ e in
+      let f : find_in t (words_from t a 1) ≡ Some i = ap (find_in t) (from_snoc t a 0 l ∙ ap (λ (ws : List ℕ). ws ++ (v ∷ [])) z) ∙ e in
       rw (f, z) (sym (text-single v i e))
   place-text (suc k) a i l e = go (find_in t (words_from t a (suc (suc k)))) refl
       (place-text k (suc a) i (omega arith) (ap (λ (b : ℕ). find_in t (word_of (get_or t b (pos 0)) ∷ [])) same ∙ e))
@@ -100,18 +106,18 @@ module _ (t : List ℤ) where
       whole : words_from t a (suc (suc k)) ≡ (o ∷ h) ++ (v ∷ [])
       whole = from_snoc t a (suc k) l ∙ ap (λ (ws : List ℕ). ws ++ (v ∷ [])) cons
 
-      go : (f : Found) → find_in t (words_from t a (suc (suc k))) ≡ f → place_points t (suc a) (suc k) ≡ (text_rule M h (word_of (get_or t (suc a + k) (pos 0)))).points
-          → points_by t (find_in t (words_from t a (suc (suc k)))) (found_row t (find_in t (words_from t a (suc k)))).b (place_points t (suc a) (suc k)) ≡ (text_rule M (words_from t a (suc k)) v).points
-      go (At j) q ih = rw (q, cons) (sym (text-here o h v j (ap (find_in t) (sym whole) ∙ q)))
-      go Nothing q ih =
+      go : (f : Option ℕ) → find_in t (words_from t a (suc (suc k))) ≡ f → place_points t (suc a) (suc k) ≡ (text_rule M h (word_of (get_or t (suc a + k) (pos 0)))).points
+          → points_by t (find_in t (words_from t a (suc (suc k)))) (backoff_in (found_row t (find_in t (words_from t a (suc k))))) (place_points t (suc a) (suc k)) ≡ (text_rule M (words_from t a (suc k)) v).points
+      go (Some j) q ih = rw (q, cons) (sym (text-here o h v j (ap (find_in t) (sym whole) ∙ q)))
+      go None q ih =
           rw (q, cons)
-          (ap (λ (z : ℤ). (found_row t (find_in t (o ∷ h))).b +ℤ z) (ih ∙ ap (λ (b : ℕ). (text_rule M h (word_of (get_or t b (pos 0)))).points) same)
+          (ap (λ (z : ℤ). backoff_in (found_row t (find_in t (o ∷ h))) +ℤ z) (ih ∙ ap (λ (b : ℕ). (text_rule M h (word_of (get_or t b (pos 0)))).points) same)
           ∙ sym (text-down o h v (ap (find_in t) (sym whole) ∙ q)))
 
 -- ---- the words of an end are listed, so none is replaced
 
 module _ (t : List ℤ) (a : verdict_for true t ≡ Accepted) where
-  single-found : (y : ℕ) (e : EndOf t (y ∷ [])) → find_in t (y ∷ []) ≡ At e.at
+  single-found : (y : ℕ) (e : EndOf t (y ∷ [])) → find_in t (y ∷ []) ≡ Some e.at
   single-found y e =
       ⊎_elim
       (λ z. ap (find_in t) (sym (e.same ∙ ap (λ (front : List ℕ). front ++ (y ∷ [])) z)) ∙ finds t (checked-good true t a) e.at e.within)
@@ -123,7 +129,7 @@ module _ (t : List ℤ) (a : verdict_for true t ≡ Accepted) where
 
   replaced_self : (y : ℕ) → EndOf t (y ∷ []) → replaced (model_of t) y ≡ y
   unfolding replaced
-  replaced_self y e = rw (listed_by t (y ∷ []) (At e.at) (single-found y e))
+  replaced_self y e = rw (listed_by t (y ∷ []) (Some e.at) (single-found y e))
 
   -- newest word first
   none-replaced : (l : List ℕ) → EndOf t (reverse l) → map (replaced (model_of t)) l ≡ l

@@ -52,22 +52,9 @@ unfolding backoff_fits
 backoff_shorter t n i h = rw (ne_eqb (length_of t i) n h) (and-true (in_backoff (backoff_at t i)))
 
 module _ (t : List ℤ) (n i : ℕ) where
-  pub fault_length : length_of t i ≡ 0 → field_fault t n i ≡ row_length
+  pub fault_backoff : (length_of t i ≡ 0 → ⊥) → places_fit t i 1 order_limit ≡ true → in_probability (probability_at t i) ≡ true → field_fault t n i ≡ cond (not (backoff_fits t n i)) row_backoff 0
   unfolding field_fault
-  fault_length a = rw (eq-eqb (length_of t i) 0 a)
-
-  module _ (a : length_of t i ≡ 0 → ⊥) where
-    pub fault_words : places_fit t i 1 order_limit ≡ false → field_fault t n i ≡ row_words
-    unfolding field_fault
-    fault_words b = rw (ne_eqb (length_of t i) 0 a, b)
-
-    pub fault_probability : places_fit t i 1 order_limit ≡ true → in_probability (probability_at t i) ≡ false → field_fault t n i ≡ row_probability
-    unfolding field_fault
-    fault_probability b c = rw (ne_eqb (length_of t i) 0 a, b, c)
-
-    pub fault_backoff : places_fit t i 1 order_limit ≡ true → in_probability (probability_at t i) ≡ true → field_fault t n i ≡ cond (not (backoff_fits t n i)) row_backoff 0
-    unfolding field_fault
-    fault_backoff b c = rw (ne_eqb (length_of t i) 0 a, b, c)
+  fault_backoff a b c = rw (ne_eqb (length_of t i) 0 a, b, c)
 
 -- ---- what no fault says of a row
 

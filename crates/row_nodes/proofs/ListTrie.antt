@@ -1,5 +1,6 @@
 -- Laws of the trie of an accepted list: its nodes by their places, that the placing rule may place them, what a row's marker has in CHECK, and which rows are
 -- the children of a node. Assumes nothing.
+use Rattle.std.specs.declared.option.Option.TheVariants.{Some}
 use mathlib.Core.Path.{◌≡◌, refl, sym, ap, ◌∙◌}
 use mathlib.Core.Logic.{◌⊎◌, inl, inr, ⊎_elim, ◌≢◌}
 use mathlib.Core.Bool.{true, false, cond}
@@ -14,13 +15,12 @@ use Rattle.integer.proofs.Ranges.{lt_or_ge, between-low, between-high, false_unl
 use Rattle.backoff.specs.Limits.{least_probability}
 use Rattle.backoff.specs.Words.{same_words, are_words}
 use Rattle.backoff.specs.Model.{in_probability, backoff_of, extended_of, continued_of, backoff, extended, continued, AcceptedModel}
-use Rattle.backoff.specs.declared.Verdict.TheVariants.{Accepted}
+use Rattle.backoff.specs.Refusal.{Accepted}
 use Rattle.backoff.proofs.Words.{same_refl, same_ne}
 use Rattle.rows.specs.Table.{rows_of, field, probability_at, backoff_at, length_of, order_of, word_of, words_of, words, without_first}
 use Rattle.rows.specs.Good.{Good}
 use Rattle.rows.proofs.Table.{row_in, words-length, words_cons}
 use Rattle.rows.proofs.Good.{are_words_lem}
-use Rattle.row_search.specs.declared.Found.TheVariants.{At}
 use Rattle.row_search.proofs.Search.{finds, find_unique}
 use Rattle.list.specs.Check.{verdict}
 use Rattle.list.specs.ListModel.{extended_in, continued_in, entry_at, model_of}
@@ -159,7 +159,7 @@ module _ (t : List ℤ) (a : verdict t ≡ Accepted) where
       long : length l ≡ order_of t
       long = length-reverse (words t i) ∙ words-length t i (row_in t i h) ∙ e
 
-      found : (model_of t).find l ≡ entry_at t (words t i) (At i)
+      found : (model_of t).find l ≡ entry_at t (words t i) (Some i)
       found = rw (reverse-reverse (words t i)) (ap (entry_at t (words t i)) (finds t good i h))
 
   node_bare : (i : ℕ) → i < length (nodes_of t) → length (node_at (nodes_of t) i).words ≡ order_of t → (node_at (nodes_of t) i).load ≡ pos 0

@@ -7,7 +7,7 @@ use lib.IntN.{ℤ}
 use lib.Dec.{lit<, lit≤}
 use lib.ListN.{length, get_or, take, drop, length-append, length-drop, get_or-append}
 use lib.Seq.{length-take-le, get_or-append-add, get_or-take, get_or-drop}
-use Rattle.backoff.specs.declared.Verdict.TheVariants.{Accepted}
+use Rattle.backoff.specs.Refusal.{Accepted}
 use Rattle.rows.specs.Table.{rows_of}
 use Rattle.rows.proofs.Good.{place_range}
 use Rattle.list.specs.Check.{verdict}

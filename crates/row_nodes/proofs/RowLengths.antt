@@ -4,7 +4,7 @@ use mathlib.Core.List.{List}
 use Prim.Native.Nat.{ℕ, ◌≤◌, ◌<◌}
 use native.Mathlib.Omega.{arith}
 use lib.IntN.{ℤ}
-use Rattle.backoff.specs.declared.Verdict.TheVariants.{Accepted}
+use Rattle.backoff.specs.Refusal.{Accepted}
 use Rattle.rows.specs.Table.{rows_of, length_of}
 use Rattle.rows.proofs.Good.{lengths-ascend}
 use Rattle.list.specs.Check.{verdict}

@@ -12,7 +12,7 @@ use lib.ListN.{length, get_or, take, drop, length-drop}
 use lib.Seq.{length-take-le}
 use Rattle.integer.proofs.Arithmetic.{zarith, add}
 use Rattle.integer.proofs.Ranges.{lt_or_ge, between-low}
-use Rattle.backoff.specs.declared.Verdict.TheVariants.{Accepted}
+use Rattle.backoff.specs.Refusal.{Accepted}
 use Rattle.backoff.specs.Limits.{least_probability}
 use Rattle.backoff.specs.Words.{radix, key}
 use Rattle.backoff.specs.Model.{in_probability}
@@ -39,7 +39,12 @@ use Rattle.free_slots.proofs.Following.{links-run_through_the_free_slots}
 use Rattle.first_fit.specs.Steps.{oldest_of, Rising, fit_of, side_of, Settles, Given, NodePlaced}
 use Rattle.first_fit.proofs.OldestWords.{oldest_in}
 use Rattle.row_nodes.specs.ListTrie.{node_of, root_of, nodes_of, RowsBelow}
-use Rattle.row_nodes.specs.Steps.{placed_nodes, Filled, Tried}
+use Rattle.row_nodes.specs.Steps.{placed_nodes, Filled, Tried, TriedTop}
+use Rattle.backoff.specs.declared.Reason.{Reason}
+use Rattle.backoff.specs.declared.Reason.TheVariants.{NoRoom}
+use Rattle.std.specs.declared.result.Result.{Result}
+use Rattle.std.specs.declared.result.Result.TheVariants.{Ok, Err}
+use Rattle.std.specs.Prelude.{MatchResult}
 use Rattle.row_nodes.proofs.ListTrie.{length-nodes_of, node_at-root, node_at-row, root-words, row_words_lem, one_word, row_cons, more-words, nodes_ready, row-check, children-stretch, children-root, middle_field}
 use Rattle.row_nodes.proofs.Parts.{part_rows, count-rows, oldest_rows, back, length_back, back_inside, back-before, back-after}
 
@@ -341,3 +346,10 @@ module _ (t : List ℤ) (a : verdict t ≡ Accepted) (i : ℕ) (l : i < rows_of 
         (tried t a row_in_nodes F (λ q. absurd (omega (arith, row-long))) row_oldest o
         (row-slot s e) (q ∙ row-mark) (g ∙ row-load (ltb from to) f (stretch-extended t i from to S) c) D
         from (to - from) row-stretch refl (λ j h. middle_field t from (to - from) j 1 h (lit< tt)))
+
+-- ---- a top that lies within the slots, or does not
+
+pub tried_within : {t : List ℤ} {N : ℕ} {P : Placed} {base check : List ℤ} {items : List ℕ} (r slots : ℕ) (top : Result ℕ Reason) → slots ≡ N
+    → MatchResult top (λ kept. (kept ≡ r) × (r ≤ slots)) (λ reason. (reason ≡ NoRoom) × (slots < r)) → Tried t N P r base check items → TriedTop t N P top base check items
+tried_within r slots (Ok kept) e m T = rw m.0 (omega (arith, m.1), T)
+tried_within r slots (Err reason) e m T = (m.0, omega (arith, m.1, T.answer))

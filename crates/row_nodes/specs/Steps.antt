@@ -2,6 +2,10 @@
 -- none yet. Assumes nothing.
 use Rattle.std.specs.Prelude.{◌≡◌, Bool, false, List, ℕ, suc, ◌≤◌, ◌<◌, min, ℤ, length, get_or, take}
 use Rattle.backoff.specs.Limits.{slot_limit}
+use Rattle.std.specs.declared.result.Result.{Result}
+use Rattle.std.specs.declared.result.Result.TheVariants.{Ok, Err}
+use Rattle.backoff.specs.declared.Reason.{Reason}
+use Rattle.backoff.specs.declared.Reason.TheVariants.{NoRoom}
 use Rattle.rows.specs.Table.{rows_of, order_of, words}
 use Rattle.list.specs.ListModel.{continued_in}
 use Rattle.placing.specs.Placing.{Placed, place_all, unplaced}
@@ -30,3 +34,8 @@ pub record Filled (t : List ℤ) (N : ℕ) (P : Placed) (base check : List ℤ) 
 pub record Tried (t : List ℤ) (N : ℕ) (P : Placed) (r : ℕ) (base check : List ℤ) (items : List ℕ) : Type 0 where
   pub answer : min r (suc N) ≡ min P.top (suc N)
   pub filled : r ≤ N → Filled t N P base check items
+
+-- the same of a top that is answered only where there is room, and of 10 where there is none
+abbrev pub TriedTop : List ℤ → ℕ → Placed → Result ℕ Reason → List ℤ → List ℤ → List ℕ → Type 0
+TriedTop t N P (Ok r) base check items = (r ≤ N) × Tried t N P r base check items
+TriedTop t N P (Err reason) base check items = (reason ≡ NoRoom) × (N < P.top)

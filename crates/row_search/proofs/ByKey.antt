@@ -1,4 +1,5 @@
 -- Laws of the search by key among good rows: brackets and windows narrowed, and what is found. Assumes nothing.
+use Rattle.std.specs.declared.option.Option.TheVariants.{Some, None}
 use mathlib.Core.Path.{◌≡◌, refl, sym, ap, ◌∙◌, subst}
 use mathlib.Core.Bool.{Bool, true, false, cond}
 use mathlib.Core.List.{List}
@@ -9,13 +10,13 @@ use native.Mathlib.Omega.{arith}
 use lib.Dec.{eqb}
 use lib.IntN.{ℤ}
 use borrow.Author.Tests.{eqb-true, eqb-false}
+use Rattle.std.specs.Bool.{then_some}
 use Rattle.integer.proofs.Ranges.{lt_or_ge}
 use Rattle.rows.specs.Table.{rows_of}
 use Rattle.rows.specs.Good.{Good}
 use Rattle.rows.specs.Keys.{row_key}
 use Rattle.rows.proofs.Good.{ascend-key, good-fewer}
 use Rattle.row_search.specs.ByKey.{find_key, Bracket, Window}
-use Rattle.row_search.specs.declared.Found.TheVariants.{At, Nothing}
 
 pub bracket-start : (t : List ℤ) (k : ℕ) → Bracket t k 0 (rows_of t)
 bracket-start t k = record {
@@ -80,35 +81,35 @@ pub window_all : (t : List ℤ) (k : ℕ) → Window t k 0 (rows_of t)
 window_all t k = record { within = omega arith; below = λ j p. absurd (not-suc-le-zero p); above = λ j p q. absurd (omega arith) }
 
 -- the search by key
-pub find-key_hit : (t : List ℤ) (k n i : ℕ) → Good t n → i < n → row_key t i ≡ k → find_key t k n ≡ At i
+pub find-key_hit : (t : List ℤ) (k n i : ℕ) → Good t n → i < n → row_key t i ≡ k → find_key t k n ≡ Some i
 unfolding find_key
 find-key_hit t k zero i g l e = absurd (not-suc-le-zero l)
 find-key_hit t k (suc n) i g l e =
     go (eqb (row_key t n) k) refl (λ h. find-key_hit t k n i (good-fewer t n (suc n) (omega arith) g) h e)
   where
-    go : (b : Bool) → eqb (row_key t n) k ≡ b → (i < n → find_key t k n ≡ At i) → cond b (At n) (find_key t k n) ≡ At i
+    go : (b : Bool) → eqb (row_key t n) k ≡ b → (i < n → find_key t k n ≡ Some i) → cond b (Some n) (find_key t k n) ≡ Some i
     go true q ih =
         ⊎_elim
         (λ m. absurd (let u = ascend-key t (suc n) i n g m (omega arith) in let v = eqb-true (row_key t n) k q in omega arith))
-        (λ m. ap At (omega arith))
+        (λ m. ap Some (omega arith))
         (lt_or_ge i n)
     go false q ih = ⊎_elim ih (λ m. let s : i ≡ n = omega arith in absurd (eqb-false (row_key t n) k q (ap (row_key t) (sym s) ∙ e))) (lt_or_ge i n)
 
-find-key_miss : (t : List ℤ) (k n : ℕ) → ((j : ℕ) → j < n → row_key t j ≡ k → ⊥) → find_key t k n ≡ Nothing
+find-key_miss : (t : List ℤ) (k n : ℕ) → ((j : ℕ) → j < n → row_key t j ≡ k → ⊥) → find_key t k n ≡ None
 unfolding find_key
 find-key_miss t k zero h = refl
 find-key_miss t k (suc n) h = go (eqb (row_key t n) k) refl (find-key_miss t k n (λ j l. h j (omega arith)))
   where
-    go : (b : Bool) → eqb (row_key t n) k ≡ b → find_key t k n ≡ Nothing → cond b (At n) (find_key t k n) ≡ Nothing
+    go : (b : Bool) → eqb (row_key t n) k ≡ b → find_key t k n ≡ None → cond b (Some n) (find_key t k n) ≡ None
     go true q ih = absurd (h n (omega arith) (eqb-true (row_key t n) k q))
     go false q ih = ih
 
 -- the row at hand is the only one that may have the key
 module _ (t : List ℤ) (k i : ℕ) (g : Good t (rows_of t)) (h : Window t k i (i + 1)) where
-  pub window_hit : row_key t i ≡ k → find_key t k (rows_of t) ≡ At i
+  window_hit : row_key t i ≡ k → find_key t k (rows_of t) ≡ Some i
   window_hit e = find-key_hit t k (rows_of t) i g (let w = h.within in omega arith) e
 
-  pub window_miss : (row_key t i ≡ k → ⊥) → find_key t k (rows_of t) ≡ Nothing
+  window_miss : (row_key t i ≡ k → ⊥) → find_key t k (rows_of t) ≡ None
   window_miss n =
       find-key_miss t k (rows_of t)
       (λ j l e.
@@ -117,7 +118,14 @@ module _ (t : List ℤ) (k i : ℕ) (g : Good t (rows_of t)) (h : Window t k i (
       (λ p. ⊎_elim (λ q. let u = h.above j (omega arith) l in omega arith) (λ (q : j ≤ i). let z : j ≡ i = omega arith in n (ap (row_key t) (sym z) ∙ e)) (lt_or_ge i j))
       (lt_or_ge j i))
 
-pub window_empty : (t : List ℤ) (k from to : ℕ) → Window t k from to → to ≤ from → find_key t k (rows_of t) ≡ Nothing
+  pub window_one : find_key t k (rows_of t) ≡ then_some (eqb (row_key t i) k) i
+  window_one = go (eqb (row_key t i) k) refl
+    where
+      go : (b : Bool) → eqb (row_key t i) k ≡ b → find_key t k (rows_of t) ≡ then_some b i
+      go true e = window_hit (eqb-true (row_key t i) k e)
+      go false e = window_miss (eqb-false (row_key t i) k e)
+
+pub window_empty : (t : List ℤ) (k from to : ℕ) → Window t k from to → to ≤ from → find_key t k (rows_of t) ≡ None
 window_empty t k from to h o =
     find-key_miss t k (rows_of t)
     (λ j l e. ⊎_elim (λ p. let u = h.below j p in omega arith) (λ (p : from ≤ j). let u = h.above j (omega arith) l in omega arith) (lt_or_ge j from))

@@ -1,14 +1,14 @@
 -- The search by key: where the row with a key stands, and where a search for it has come to. Only contracts of inner functions cite these. Assumes nothing.
+use Rattle.std.specs.declared.option.Option.{Option}
+use Rattle.std.specs.declared.option.Option.TheVariants.{Some, None}
 use Rattle.std.specs.Prelude.{cond, List, ℕ, zero, suc, ◌<◌, ◌≤◌, eqb, ℤ}
 use Rattle.rows.specs.Table.{rows_of}
 use Rattle.rows.specs.Keys.{row_key}
-use Rattle.row_search.specs.declared.Found.{Found}
-use Rattle.row_search.specs.declared.Found.TheVariants.{At, Nothing}
 
 -- the row among rows 0 to n − 1 whose key is k
-unfoldable pub find_key : List ℤ → ℕ → ℕ → Found
-find_key t k zero = Nothing
-find_key t k (suc n) = cond (eqb (row_key t n) k) (At n) (find_key t k n)
+unfoldable pub find_key : List ℤ → ℕ → ℕ → Option ℕ
+find_key t k zero = None
+find_key t k (suc n) = cond (eqb (row_key t n) k) (Some n) (find_key t k n)
 
 -- where a search for k has come to: rows below `from` have keys below k, rows from `to` on have not
 pub record Bracket (t : List ℤ) (k from to : ℕ) : Type 0 where

@@ -1,5 +1,5 @@
 // The search for a row among rows in list order, by its key. The definitions that the contracts cite are in specs/.
-#![tactic(auto)]
+#![tactic(auto, using(rows::proofs::Keys::key_lt, rows::proofs::Keys::key_ge, rows::proofs::Keys::key_eq), unfolding(rows::specs::Table::rows_of))]
 
 ghost use Rattle.std.specs.Prelude.{◌≡◌, true, ℕ, ◌+◌, ◌*◌, ◌<◌, ◌≤◌, length};
 ghost use Rattle.backoff.specs.Limits.{order_limit};
@@ -7,8 +7,7 @@ ghost use Rattle.backoff.specs.Words.{are_words, key};
 ghost use Rattle.rows.specs.Table.{rows_of, words_of};
 ghost use Rattle.rows.specs.Good.{GoodRow, Good};
 ghost use Rattle.rows.specs.Keys.{row_key, key_of};
-ghost use Rattle.row_search.specs.Search.{find_in, is_at, no_row, found_row};
-ghost use Rattle.row_search.specs.declared.Found.TheVariants.{At};
+ghost use Rattle.row_search.specs.Search.{Searchable, find_in, is_at, found_row};
 ghost use Rattle.row_search.specs.ByKey.{find_key, Bracket, Window};
 
 use rows::Key;
@@ -34,63 +33,31 @@ pub fn search_start(table: &[i32], k: Key, near: usize) -> usize
     if table.len() / 8 < near {
         return 0;
     }
-    if rows::key_less(rows::row_key(table, near - 1), k) {
+    if rows::row_key(table, near - 1) < k {
         return near;
     }
     0
 }
 
-// Where a row stands.
-#[derive(Drop)]
-pub enum Found {
-    At(usize),
-    Nothing,
-}
-
-// Whether a row was found.
-pub fn is_at(found: Found) -> bool
-    ensures { result ≡ is_at found }
-{
-    match found {
-        Found::At(_) => true,
-        Found::Nothing => false,
-    }
-}
-
-// A sequence as the table has it: `at` is where its row stands. That, p and b are 0 if it is unlisted.
-#[derive(Drop)]
+// A listed sequence as the table has it: `at` is where its row stands.
+#[derive(Clone, Copy)]
 pub struct Row {
-    pub listed: bool,
     pub at: usize,
     pub p: i32,
     pub b: i32,
 }
 
-pub fn unlisted() -> Row
-    ensures { result ≡ no_row }
-{
-    Row {
-        listed: false,
-        at: 0,
-        p: 0,
-        b: 0,
-    }
-}
-
 // The row that was found, if any.
-pub fn found_row(table: &[i32], found: Found) -> Row
-    requires { (i : ℕ) → found ≡ At i → i < rows_of table.now }
+pub fn found_row(table: &[i32], found: Option<usize>) -> Option<Row>
+    requires { (i : ℕ) → found ≡ Some i → i < rows_of table.now }
     ensures { result ≡ found_row table.now found }
 {
-    let Found::At(i) = found else {
-        return unlisted();
-    };
-    Row {
-        listed: true,
+    let i = found?;
+    Some(Row {
         at: i,
         p: rows::field(table, i, 6),
         b: rows::field(table, i, 7),
-    }
+    })
 }
 
 // Where to end a search for k: at `to` if that row is above k, else behind the last row.
@@ -102,14 +69,14 @@ fn search_end(table: &[i32], k: Key, to: usize) -> usize
     if rows <= to {
         return rows;
     }
-    if rows::key_less(k, rows::row_key(table, to)) {
+    if k < rows::row_key(table, to) {
         return to;
     }
     rows
 }
 
 // Rows `from` to `to` - 1.
-#[derive(Drop)]
+#[derive(Clone, Copy)]
 pub struct Span {
     pub from: usize,
     pub to: usize,
@@ -127,18 +94,17 @@ pub fn search_window(table: &[i32], k: Key, likely: Span) -> Span
     }
 }
 
-// The last of rows `first` to `end` - 1 whose key is not above k, `first` where there is none. Halving a number of rows needs no branch
-// that depends on a key.
-pub fn last_not_above(table: &[i32], k: Key, first: usize, end: usize) -> usize
-    requires { Good table.now (rows_of table.now) × Window table.now (key_of k.high k.low) first end × (first < end) }
+// The last of these rows whose key is not above k, the first where there is none. Halving a number of rows needs no branch that depends on a key.
+pub fn last_not_above(table: &[i32], k: Key, rows: Span) -> usize
+    requires { Good table.now (rows_of table.now) × Window table.now (key_of k.high k.low) rows.from rows.to × (rows.from < rows.to) }
     ensures { Window table.now (key_of k.high k.low) result (result + 1) }
 {
-    let mut from = first;
-    let mut size = end - first;
+    let Span { mut from, to } = rows;
+    let mut size = to - from;
     while 1 < size {
         let half = size / 2;
         let middle = from + half;
-        if !rows::key_less(k, rows::row_key(table, middle)) {
+        if k >= rows::row_key(table, middle) {
             from = middle;
         }
         size -= half;
@@ -147,36 +113,32 @@ pub fn last_not_above(table: &[i32], k: Key, first: usize, end: usize) -> usize
 }
 
 // The row with the key k, which is among these or nowhere.
-fn find_between(table: &[i32], k: Key, rows: Span) -> Found
+fn find_between(table: &[i32], k: Key, rows: Span) -> Option<usize>
     requires { Good table.now (rows_of table.now) × Window table.now (key_of k.high k.low) rows.from rows.to }
     ensures { result ≡ find_key table.now (key_of k.high k.low) (rows_of table.now) }
 {
-    let Span { from, to } = rows;
-    if to <= from {
-        return Found::Nothing;
+    if rows.to <= rows.from {
+        return None;
     }
-    let i = last_not_above(table, k, from, to);
-    if rows::key_equal(rows::row_key(table, i), k) {
-        return Found::At(i);
-    }
-    Found::Nothing
+    let i = last_not_above(table, k, rows);
+    (rows::row_key(table, i) == k).then_some(i)
 }
 
 // The row of the part that has these words. It may be anywhere; among the likely rows, it is found sooner.
-pub fn find_among(part: &[i32], words: &[i32], likely: Span) -> Found
-    requires { Good part.now (rows_of part.now) × (length words.now ≤ order_limit) × (are_words (words_of words.now) ≡ true) }
+pub fn find_among(part: &[i32], words: &[i32], likely: Span) -> Option<usize>
+    requires { Searchable part.now words.now }
     ensures { result ≡ find_in part.now (words_of words.now) }
 {
-    if words.len() == 0 {
-        return Found::Nothing;
+    if words.is_empty() {
+        return None;
     }
     let k = rows::key_of(words);
     find_between(part, k, search_window(part, k, likely))
 }
 
 // The row of the part that has these words, by binary search.
-pub fn find_row(part: &[i32], words: &[i32]) -> Found
-    requires { Good part.now (rows_of part.now) × (length words.now ≤ order_limit) × (are_words (words_of words.now) ≡ true) }
+pub fn find_row(part: &[i32], words: &[i32]) -> Option<usize>
+    requires { Searchable part.now words.now }
     ensures { result ≡ find_in part.now (words_of words.now) }
 {
     let rows = part.len() / 8;
@@ -184,34 +146,25 @@ pub fn find_row(part: &[i32], words: &[i32]) -> Found
 }
 
 // The row with the key k, if it is the first from `near` on that is not below k.
-fn found_near(part: &[i32], k: Key, near: usize) -> Found
+fn found_near(part: &[i32], k: Key, near: usize) -> Option<usize>
     requires { Good part.now (rows_of part.now) }
     ensures { is_at result ≡ true → result ≡ find_key part.now (key_of k.high k.low) (rows_of part.now) }
 {
-    let rows = part.len() / 8;
-    let mut row = near;
-    while row < rows {
+    for row in near..part.len() / 8 {
         let key = rows::row_key(part, row);
-        if !rows::key_less(key, k) {
-            if rows::key_equal(key, k) {
-                return Found::At(row);
-            }
-            return Found::Nothing;
+        if key >= k {
+            return (key == k).then_some(row);
         }
-        row += 1;
     }
-    Found::Nothing
+    None
 }
 
 // The row of the part that has these words, whose key is k. It may be anywhere; at `near` or soon after, it is found sooner.
-fn find_from(part: &[i32], words: &[i32], k: Key, near: usize) -> Found
-    requires { Good part.now (rows_of part.now) × (length words.now ≤ order_limit) × (are_words (words_of words.now) ≡ true) × (key_of k.high k.low ≡ key (words_of words.now)) }
+fn find_from(part: &[i32], words: &[i32], k: Key, near: usize) -> Option<usize>
+    requires { Searchable part.now words.now × (key_of k.high k.low ≡ key (words_of words.now)) }
     ensures { result ≡ find_in part.now (words_of words.now) }
 {
-    let Found::At(row) = found_near(part, k, near) else {
-        return find_row(part, words);
-    };
-    Found::At(row)
+    found_near(part, k, near).or_else(|| find_row(part, words))
 }
 
 // 1 where the first four words of row i are not above k, else 0.
@@ -219,7 +172,7 @@ fn one_not_above(part: &[i32], i: usize, k: u64) -> usize
     requires { Good part.now (rows_of part.now) × (i < rows_of part.now) }
     ensures { result ≤ 1 }
 {
-    (low_key(part, i) <= k) as usize
+    usize::from(low_key(part, i) <= k)
 }
 
 // How many of three rows, `apart` rows apart behind `from`, have first four words that are not above k.
@@ -232,26 +185,23 @@ fn three_not_above(part: &[i32], k: u64, from: usize, apart: usize) -> usize
     first + second + one_not_above(part, from + 3 * apart, k)
 }
 
-// The number of rows `first` to `end` - 1, 0 where the part has not all of them.
-fn span_size(part: &[i32], first: usize, end: usize) -> usize
-    ensures { 0 < result → first + result ≤ rows_of part.now }
+// The number of these rows, 0 where the part has not all of them.
+fn span_size(part: &[i32], rows: Span) -> usize
+    ensures { 0 < result → rows.from + result ≤ rows_of part.now }
 {
-    if part.len() / 8 < end {
+    if part.len() / 8 < rows.to {
         return 0;
     }
-    if end < first {
-        return 0;
-    }
-    end - first
+    rows.to.saturating_sub(rows.from)
 }
 
-// A row soon before the row of at most four words with the key k, among rows `first` to `end` - 1, which have as many. Quartering a number of rows needs
-// no branch that depends on a key.
-fn quartered(part: &[i32], k: u64, first: usize, end: usize) -> usize
+// A row soon before the row of at most four words with the key k, among these rows, which have as many. Quartering a number of rows needs no branch that
+// depends on a key.
+fn quartered(part: &[i32], k: u64, rows: Span) -> usize
     requires { Good part.now (rows_of part.now) }
 {
-    let mut from = first;
-    let mut size = span_size(part, first, end);
+    let mut from = rows.from;
+    let mut size = span_size(part, rows);
     while 3 < size {
         let quarter = size / 4;
         from += quarter * three_not_above(part, k, from, quarter);
@@ -261,20 +211,20 @@ fn quartered(part: &[i32], k: u64, first: usize, end: usize) -> usize
 }
 
 // The row of the part that has these words. It may be anywhere; at `near` or soon after, it is found sooner.
-pub fn find_near(part: &[i32], words: &[i32], near: usize) -> Found
-    requires { Good part.now (rows_of part.now) × (length words.now ≤ order_limit) × (are_words (words_of words.now) ≡ true) }
+pub fn find_near(part: &[i32], words: &[i32], near: usize) -> Option<usize>
+    requires { Searchable part.now words.now }
     ensures { result ≡ find_in part.now (words_of words.now) }
 {
     find_from(part, words, rows::key_of(words), near)
 }
 
-// The row of the part that has these words. It may be anywhere; among rows `from` to `to` - 1 of as many words, at most four, it is found sooner.
-pub fn find_of_length(part: &[i32], words: &[i32], from: usize, to: usize) -> Found
-    requires { Good part.now (rows_of part.now) × (length words.now ≤ order_limit) × (are_words (words_of words.now) ≡ true) }
+// The row of the part that has these words. It may be anywhere; among the likely rows, of as many words, at most four, it is found sooner.
+pub fn find_of_length(part: &[i32], words: &[i32], likely: Span) -> Option<usize>
+    requires { Searchable part.now words.now }
     ensures { result ≡ find_in part.now (words_of words.now) }
 {
     let k = rows::key_of(words);
-    find_from(part, words, k, quartered(part, k.low, from, to))
+    find_from(part, words, k, quartered(part, k.low, likely))
 }
 
 // Whether the part has a row i, and that row has the key k.
@@ -282,8 +232,5 @@ pub fn has_key(part: &[i32], i: usize, k: Key) -> bool
     requires { Good part.now (rows_of part.now) }
     ensures { result ≡ true → (i < rows_of part.now) × (row_key part.now i ≡ key_of k.high k.low) }
 {
-    if i < part.len() / 8 {
-        return rows::key_equal(rows::row_key(part, i), k);
-    }
-    false
+    i < part.len() / 8 && rows::row_key(part, i) == k
 }

@@ -1,10 +1,10 @@
 // The row of some words, looked for where rows of its length are likely. The definitions that the contracts cite are those of the crates below.
 #![tactic(auto)]
 
-ghost use Rattle.std.specs.Prelude.{◌≡◌, true, ◌≤◌, min, length};
+ghost use Rattle.std.specs.Prelude.{◌≡◌, true, ◌≤◌, length};
 ghost use Rattle.backoff.specs.Limits.{order_limit};
 ghost use Rattle.backoff.specs.Words.{are_words};
-ghost use Rattle.backoff.specs.declared.Verdict.TheVariants.{Accepted};
+ghost use Rattle.backoff.specs.Refusal.{Accepted};
 ghost use Rattle.rows.specs.Table.{words_of};
 ghost use Rattle.row_search.specs.Search.{find_in, found_row};
 ghost use Rattle.list.specs.Check.{verdict};
@@ -13,90 +13,74 @@ use row_search::{Row, Span};
 
 const LONGEST_ROW: usize = backoff::ORDER_LIMIT as usize;
 
-// The smaller of the two.
-pub fn smaller(a: usize, b: usize) -> usize
-    ensures { result ≡ min a b }
-{
-    if a < b {
-        return a;
-    }
-    b
-}
-
 // How many words up to the largest have no one-word row, where `count` have one.
 fn count_missing(table: &[i32], count: usize) -> usize {
-    if count == 0 {
-        return 0;
-    }
-    if table.len() / 8 < count {
+    if count == 0 || table.len() / 8 < count {
         return 0;
     }
     let largest = rows::field(table, count - 1, 1);
-    if largest < 0 {
-        return 0;
-    }
-    let words = largest as usize;
-    if words < count {
-        return 0;
-    }
-    words - count
+    usize::try_from(largest).unwrap_or(0).saturating_sub(count)
 }
 
-// Where rows are likely, on which no answer depends: item m, from 1 on, is the first row of m words or more, and item 0 how many words below the
-// largest have no one-word row.
-pub fn find_starts(table: &[i32]) -> [usize; 8] {
-    let rows = table.len() / 8;
-    let mut starts = [rows; 8];
-    starts[1] = 0;
-    for i in 0..rows {
-        let m = rows::length_of(table, i);
-        starts[m + 1] = i + 1;
-    }
-    let count = starts[2];
-    starts[0] = count_missing(table, count);
-    starts
+// Where rows are likely, on which no answer depends.
+#[derive(Clone, Copy)]
+pub struct RowStarts {
+    // Item m is the first row of m words or more.
+    first: [usize; 8],
+    // How many words below the largest have no one-word row.
+    missing: usize,
 }
 
-// The rows of m words, at most six.
-pub fn rows_of(starts: &[usize; 8], m: usize) -> Span
-    requires { m ≤ 6 }
-{
-    Span {
-        from: starts[m],
-        to: starts[m + 1],
+impl RowStarts {
+    pub fn find(table: &[i32]) -> RowStarts {
+        let rows = table.len() / 8;
+        let mut first = [rows; 8];
+        first[0] = 0;
+        first[1] = 0;
+        for i in 0..rows {
+            first[rows::length_of(table, i) + 1] = i + 1;
+        }
+        let missing = count_missing(table, first[2]);
+        RowStarts { first, missing }
     }
-}
 
-// Where the row of one word is likely, among `count` such rows: behind those of the smaller words, which are all listed but `missing` of them.
-fn rows_near(missing: usize, count: usize, word: usize) -> Span {
-    let to = smaller(word, count);
-    if word <= missing {
-        return Span { from: 0, to };
+    // The rows of m words, at most six.
+    pub fn rows_of(&self, m: usize) -> Span
+        requires { m ≤ 6 }
+    {
+        Span {
+            from: self.first[m],
+            to: self.first[m + 1],
+        }
     }
-    Span {
-        from: word - missing - 1,
-        to,
-    }
-}
 
-// Where the row of these words is likely, of which there are at most five.
-fn likely_rows(starts: &[usize; 8], words: &[i32]) -> Span
-    requires { (length words.now ≤ order_limit) × (are_words (words_of words.now) ≡ true) }
-{
-    if words.len() == 1 {
-        return rows_near(starts[0], starts[2], words[0] as usize);
+    // Where the row of one word is likely: behind those of the smaller words, which are all listed but `missing` of them.
+    fn near(&self, word: usize) -> Span {
+        Span {
+            from: word.saturating_sub(self.missing).saturating_sub(1),
+            to: word.min(self.first[2]),
+        }
     }
-    rows_of(starts, words.len())
+
+    // Where the row of these words is likely, of which there are at most five.
+    fn likely(&self, words: &[i32]) -> Span
+        requires { length words.now ≤ order_limit }
+    {
+        if let [word] = words {
+            return self.near(usize::try_from(*word).unwrap_or(0));
+        }
+        self.rows_of(words.len())
+    }
 }
 
 // The row of these words, oldest first.
-pub fn row_of(table: &[i32], starts: &[usize; 8], words: &[i32]) -> Row
+pub fn row_of(table: &[i32], starts: &RowStarts, words: &[i32]) -> Option<Row>
     requires { (verdict table.now ≡ Accepted) × (are_words (words_of words.now) ≡ true) }
     ensures { result ≡ found_row table.now (find_in table.now (words_of words.now)) }
 {
     if LONGEST_ROW < words.len() {
-        return row_search::unlisted();
+        return None;
     }
-    let found = row_search::find_among(table, words, likely_rows(starts, words));
+    let found = row_search::find_among(table, words, starts.likely(words));
     row_search::found_row(table, found)
 }

@@ -1,11 +1,11 @@
 -- Laws of keys: for words the order of keys is the order of the rows, and equal keys are equal words. Assumes nothing.
 use mathlib.Core.Path.{◌≡◌, refl, sym, ap, ap₂, ◌∙◌}
-use mathlib.Core.Bool.{Bool, true, false, ◌&&◌, ◌||◌}
+use mathlib.Core.Bool.{Bool, true, false, not, cond, ◌&&◌, ◌||◌}
 use mathlib.Core.List.{List, [], ◌∷◌}
 use Prim.Native.Nat.{ℕ, ◌+◌, ◌*◌, ◌<◌, ◌≤◌}
 use native.Mathlib.Nat.{not-suc-le-zero}
 use native.Mathlib.Omega.{arith}
-use lib.Dec.{ltb, eqb}
+use lib.Dec.{ltb, leb, eqb}
 use lib.IntN.{ℤ, pos}
 use lib.ListN.{length, get_or}
 use borrow.Author.Tests.{eq-eqb, ne_eqb, eqb-true, eqb-false, ltb-true, ltb-false, lt-ltb, le-ltb}
@@ -15,6 +15,13 @@ use Rattle.backoff.specs.Words.{same_words, are_words, radix, key}
 use Rattle.rows.specs.Table.{word_of, words_of}
 use Rattle.rows.specs.Order.{last_less, precedes}
 use Rattle.rows.specs.Keys.{low_limit, key_of}
+use Rattle.std.specs.declared.cmp.Ordering.TheVariants.{Less, Equal, Greater}
+use Rattle.std.specs.declared.option.Option.TheVariants.{Some}
+use Rattle.std.specs.Ordering.{partial_lt, partial_ge, is_lt, is_ge, is_some_and, partial_ordering_then}
+use Rattle.rows.specs.declared.Key.{Key}
+use Rattle.rows.specs.contracts.KeyPartialOrd.TheImpl as KeyPartialOrd
+use Rattle.rows.specs.contracts.KeyPartialEq.TheImpl as KeyPartialEq
+use Rattle.std.proofs.lemmas.Bool.Decides.{nat_tests}
 use Rattle.backoff.proofs.Words.{first_some, first_limit, words-rest, same_eq}
 
 -- a digit over a number
@@ -106,7 +113,7 @@ key_limit a b c d e p q r s t = omega arith
 
 -- how the code's two parts of a key decide
 module _ (a b c d : ℕ) (l : b < low_limit) (m : d < low_limit) where
-  pub parts_less : (ltb a c || (eqb a c && ltb b d)) ≡ ltb (key_of a b) (key_of c d)
+  parts_less : (ltb a c || (eqb a c && ltb b d)) ≡ ltb (key_of a b) (key_of c d)
   parts_less = go (ltb a c) (eqb a c) (ltb b d) refl refl refl
     where
       go : (s t r : Bool) → ltb a c ≡ s → eqb a c ≡ t → ltb b d ≡ r → (s || (t && r)) ≡ ltb (key_of a b) (key_of c d)
@@ -118,10 +125,44 @@ module _ (a b c d : ℕ) (l : b < low_limit) (m : d < low_limit) where
       go false false r e f g =
           sym (le-ltb (key_of a b) (key_of c d) (let u = ltb-false a c e in let v = eqb-false a c f in omega arith))
 
-  pub parts_equal : (eqb a c && eqb b d) ≡ eqb (key_of a b) (key_of c d)
+  parts_equal : (eqb a c && eqb b d) ≡ eqb (key_of a b) (key_of c d)
   parts_equal = go (eqb a c) (eqb b d) refl refl
     where
       go : (s t : Bool) → eqb a c ≡ s → eqb b d ≡ t → (s && t) ≡ eqb (key_of a b) (key_of c d)
       go true true e f = sym (eq-eqb (key_of a b) (key_of c d) (let u = eqb-true a c e in let v = eqb-true b d f in omega arith))
       go true false e f = sym (ne_eqb (key_of a b) (key_of c d) (λ z. eqb-false b d f (let u = eqb-true a c e in omega arith)))
       go false t e f = sym (ne_eqb (key_of a b) (key_of c d) (λ z. eqb-false a c e (omega arith)))
+
+-- an order by parts, by the tests of each
+parts_tested : (s t r q : Bool) → is_some_and is_lt (partial_ordering_then (Some (cond s Less (cond t Equal Greater))) (Some (cond r Less (cond q Equal Greater)))) ≡ (s || (t && r))
+parts_tested true t r q = refl
+parts_tested false true true q = refl
+parts_tested false true false true = refl
+parts_tested false true false false = refl
+parts_tested false false r q = refl
+
+parts_not : (s t r q : Bool) → is_some_and is_ge (partial_ordering_then (Some (cond s Less (cond t Equal Greater))) (Some (cond r Less (cond q Equal Greater)))) ≡ not (s || (t && r))
+parts_not true t r q = refl
+parts_not false true true q = refl
+parts_not false true false true = refl
+parts_not false true false false = refl
+parts_not false false r q = refl
+
+not_less : (x y : ℕ) → not (ltb x y) ≡ leb y x
+not_less x y = grind (arith, nat_tests)
+
+-- the derived comparisons of keys compare them as numbers
+module _ (a b : Key) (l : a.low < low_limit) (m : b.low < low_limit) where
+  pub key_lt : partial_lt (KeyPartialOrd.partial_cmp-value).it a b ≡ ltb (key_of a.high a.low) (key_of b.high b.low)
+  key_lt =
+      parts_tested (ltb a.high b.high) (eqb a.high b.high) (ltb a.low b.low) (eqb a.low b.low)
+      ∙ parts_less a.high a.low b.high b.low l m
+
+  pub key_ge : partial_ge (KeyPartialOrd.partial_cmp-value).it a b ≡ leb (key_of b.high b.low) (key_of a.high a.low)
+  key_ge =
+      parts_not (ltb a.high b.high) (eqb a.high b.high) (ltb a.low b.low) (eqb a.low b.low)
+      ∙ ap not (parts_less a.high a.low b.high b.low l m)
+      ∙ not_less (key_of a.high a.low) (key_of b.high b.low)
+
+  pub key_eq : (KeyPartialEq.eq-value).it a b ≡ eqb (key_of a.high a.low) (key_of b.high b.low)
+  key_eq = parts_equal a.high a.low b.high b.low l m

@@ -9,7 +9,7 @@ use native.Mathlib.Nat.{not-suc-le-zero}
 use native.Mathlib.Omega.{arith}
 use lib.Dec.{leb}
 use lib.IntN.{ℤ, pos}
-use lib.ListN.{length, get_or, set, take, drop, length-map, length-take, length-drop}
+use lib.ListN.{length, get_or, get_or-eq_default, set, take, drop, length-map, length-take, length-drop}
 use lib.Seq.{get_or-set_same, get_or-set_other, drop-cons, take-suc, get_or-drop, get_or-take, length-take-le}
 use borrow.Author.Tests.{le-leb, lt-leb}
 use Rattle.integer.specs.Integer.{eq_z, between, up_to}
@@ -38,6 +38,11 @@ word_range (z ∷ zs) zero a l = go (between (pos 0) (pos word_limit) z) refl
     go true e = refl
     go false e = absurd (omega (arith, up_to_out (pos word_limit) z e, first_some (word_of z) (words_of zs) a))
 word_range (z ∷ zs) (suc j) a l = word_range zs j (words-rest (word_of z) (words_of zs) a) (omega arith)
+
+-- the same at any place: past the last number it is 0
+pub word_range_or : (zs : List ℤ) (j : ℕ) → are_words (words_of zs) ≡ true → between (pos 0) (pos word_limit) (get_or zs j (pos 0)) ≡ true
+word_range_or zs j a =
+    ⊎_elim (λ l. word_range zs j a l) (λ h. let e : get_or zs j (pos 0) ≡ pos 0 = get_or-eq_default zs (pos 0) h in rw e (unfold between in refl)) (lt_or_ge j (length zs))
 
 -- a part of words is words
 pub are_words-drop : (j : ℕ) (zs : List ℤ) → are_words (words_of zs) ≡ true → are_words (words_of (drop j zs)) ≡ true

@@ -1,8 +1,7 @@
 // Rows of eight numbers: their fields, lengths and words, and keys that compare as the words do. The definitions that the contracts cite are in specs/.
 #![tactic(auto)]
 
-ghost use Rattle.std.specs.Prelude.{◌≡◌, true, [], ◌∷◌, ◌+◌, ◌*◌, ◌<◌, ◌≤◌, eqb, ltb, pos, length, get_or};
-ghost use Rattle.integer.specs.Integer.{between};
+ghost use Rattle.std.specs.Prelude.{◌≡◌, true, [], ◌∷◌, ◌+◌, ◌*◌, ◌<◌, ◌≤◌, pos, length, get_or};
 ghost use Rattle.backoff.specs.Limits.{order_limit};
 ghost use Rattle.backoff.specs.Words.{are_words, radix, key};
 ghost use Rattle.rows.specs.Table.{field, length_of, word_of, words_of};
@@ -12,6 +11,7 @@ ghost use Rattle.rows.specs.Keys.{row_key, key_of};
 use backoff::ORDER_LIMIT;
 
 // Number j of row i.
+#[tactic(auto, using(std::proofs::lemmas::Int::ints), unfolding(crate::specs::Table::field))]
 pub fn field(table: &[i32], i: usize, j: usize) -> i32
     requires { (8 * i + 8 ≤ length table.now) × (j < 8) }
     ensures { result ≡ field table.now i j }
@@ -19,49 +19,29 @@ pub fn field(table: &[i32], i: usize, j: usize) -> i32
     table[8 * i + j]
 }
 
-// Whether z lies in low..high.
-pub fn in_range(z: i32, low: i32, high: i32) -> bool
-    ensures { result ≡ between low high z }
-{
-    if z < low {
-        return false;
-    }
-    z <= high
-}
-
-// m of row i where it lies in 1..5, else 0.
+// m of row i where it lies in 1..5, else 0: no `None`, since all but check 3 ask it of rows that have a length.
+#[tactic(auto, using(std::proofs::lemmas::Int::ints), unfolding(crate::specs::Table::length_of, integer::specs::Integer::between, integer::specs::Integer::up_to))]
 pub fn length_of(table: &[i32], i: usize) -> usize
     requires { 8 * i + 8 ≤ length table.now }
     ensures { (result ≡ length_of table.now i) × (result ≤ order_limit) }
 {
     let m = field(table, i, 0);
-    if in_range(m, 0, ORDER_LIMIT) {
-        return m as usize;
+    if (0..=ORDER_LIMIT).contains(&m) {
+        m as usize
+    } else {
+        0
     }
-    0
 }
 
 // Words as one number, the last word the highest digit: the first four in `low`, the fifth in `high`.
-#[derive(Clone, Copy)]
+#[derive(Clone, Copy, PartialEq, Eq, PartialOrd, Ord)]
 pub struct Key {
     pub high: u64,
     pub low: u64,
 }
 
-// Whether the key a is below the key b.
-pub fn key_less(a: Key, b: Key) -> bool
-    ensures { result ≡ ltb (key_of a.high a.low) (key_of b.high b.low) }
-{
-    (a.high < b.high) | ((a.high == b.high) & (a.low < b.low))
-}
-
-pub fn key_equal(a: Key, b: Key) -> bool
-    ensures { result ≡ eqb (key_of a.high a.low) (key_of b.high b.low) }
-{
-    (a.high == b.high) & (a.low == b.low)
-}
-
 // The key of five digits.
+#[tactic(auto, unfolding(backoff::specs::Words::key))]
 fn packed(a: u64, b: u64, c: u64, d: u64, e: u64) -> Key
     requires { (a < radix) × (b < radix) × (c < radix) × (d < radix) }
     ensures { key_of result.high result.low ≡ key (a ∷ b ∷ c ∷ d ∷ e ∷ []) }
@@ -72,15 +52,12 @@ fn packed(a: u64, b: u64, c: u64, d: u64, e: u64) -> Key
     }
 }
 
-// The word at index j, 0 past the last.
+// The word at index j, 0 past the last, as the key has it.
 fn word_at(words: &[i32], j: usize) -> u64
     requires { are_words (words_of words.now) ≡ true }
     ensures { (result ≡ word_of (get_or words.now j (pos 0))) × (result < radix) }
 {
-    if j < words.len() {
-        return words[j] as u64;
-    }
-    0
+    words.get(j).copied().unwrap_or(0) as u64
 }
 
 // The key of at most five words.

@@ -48,10 +48,6 @@ after-key t zero h g r = absurd (h refl)
 after-key t (suc i) h g r = let e : suc i - 1 ≡ i = omega arith in rw e (precedes-row-key t i (suc i) (g.row i (omega arith)) r)
 
 module _ (filling : Bool) (t : List ℤ) (i : ℕ) where
-  pub fault_order : is_after t i ≡ false → order_fault filling t i ≡ row_order
-  unfolding order_fault
-  fault_order a = rw a
-
   pub fault_shorter : is_after t i ≡ true → 2 ≤ length_of t i → order_fault filling t i ≡ cond (not (shorter_listed filling t i)) shorter_row 0
   unfolding order_fault
   fault_shorter a m = rw (a, le-leb 2 (length_of t i) m)
@@ -59,10 +55,6 @@ module _ (filling : Bool) (t : List ℤ) (i : ℕ) where
   pub fault_none : is_after t i ≡ true → length_of t i < 2 → order_fault filling t i ≡ 0
   unfolding order_fault
   fault_none a m = rw (a, lt-leb 2 (length_of t i) m)
-
-pub or_left : (a b : ℕ) → (a ≡ 0 → ⊥) → or_else a b ≡ a
-or_left zero b h = absurd (h refl)
-or_left (suc a) b h = refl
 
 pub or_right : (a b : ℕ) → a ≡ 0 → or_else a b ≡ b
 or_right a b e = rw e

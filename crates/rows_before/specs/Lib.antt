@@ -1,3 +1,3 @@
--- What must be believed of a row's checks. How the code names a row before another is in Before.
+-- What must be believed of a row's checks. What its searches ask for, and how the code's answer names a fault, is in Before.
 pub mod Faults
 pub mod Before

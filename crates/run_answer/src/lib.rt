@@ -1,23 +1,22 @@
 // What a run answers, and what it leaves in its slices.
 #![tactic(auto)]
 
-ghost use Rattle.std.specs.Prelude.{◌≡◌, List, ℕ, ◌+◌, ◌≤◌, ◌<◌, length, set, replicate, ℤ, pos};
+ghost use Rattle.std.specs.Prelude.{◌≡◌, ◌+◌, ◌≤◌, ◌<◌, length, set, replicate, pos};
 ghost use Rattle.backoff.specs.Limits.{run_limit};
-ghost use Rattle.backoff.specs.Refusal.{broken_node};
+ghost use Rattle.backoff.specs.declared.Reason.TheVariants.{BrokenNode};
 ghost use Rattle.backoff.specs.Run.{written};
 ghost use Rattle.backoff.specs.NineNumbers.{nine};
+ghost use Rattle.carried_state.specs.Numbers.{numbers_of};
 ghost use Rattle.carried_state.specs.Packed.{held_in};
 ghost use Rattle.word_step.specs.Answers.{kind_byte, byte_of};
-ghost use Rattle.run_answer.specs.Answers.{answer_of};
 
+use backoff::{Reason, Refusal};
 use carried_state::{Packed, State};
 use word_step::{Kind, Score};
 
-// What a run returns.
-#[derive(Drop)]
+// What an accepted run returns: the sum of its words' points, and the state that they leave.
+#[derive(Clone, Copy)]
 pub struct Ran {
-    pub number: u32,
-    pub place: u32,
     pub total: i64,
     pub end: State,
 }
@@ -58,8 +57,7 @@ pub fn write_word(points: &mut [i32], lengths: &mut [u8], i: usize, score: Score
     ensures lengths { lengths.new ≡ set lengths.old i (byte_of score.kind score.extended) }
 {
     write_points(points, i, score.points);
-    let kind = score.kind;
-    lengths[i] = length_byte(kind, score.extended);
+    lengths[i] = length_byte(score.kind, score.extended);
 }
 
 // The first `count` points and lengths after refusal 12.
@@ -68,47 +66,33 @@ pub fn clear(points: &mut [i32], lengths: &mut [u8], count: usize)
     ensures points { points.new ≡ written (replicate count (pos 0)) points.old }
     ensures lengths { lengths.new ≡ written (replicate count 0) lengths.old }
 {
-    let mut i = 0;
-    while i < count {
-        points[i] = 0;
-        lengths[i] = 0;
-        i += 1;
-    }
+    points[..count].fill(0);
+    lengths[..count].fill(0);
 }
 
-// What a run of `count` words from this state returns where 12 meets word i, or start behind it.
-pub fn refuse_word(
-    points: &mut [i32],
-    lengths: &mut [u8],
-    count: usize,
-    i: usize,
-    state: State,
-) -> Ran
+// Why a run of `count` words is refused where 12 meets word i, or start behind it.
+pub fn refuse_word(points: &mut [i32], lengths: &mut [u8], count: usize, i: usize) -> Refusal
     requires count_in_bounds { (count ≤ length points.old) × (count ≤ length lengths.old) }
     requires i_lt_run_limit { i < run_limit }
-    ensures answer { result ≡ record { number = broken_node; place = i + 1; total = pos 0; end = state } }
+    ensures answer { result ≡ record { reason = BrokenNode; place = i + 1 } }
     ensures points { points.new ≡ written (replicate count (pos 0)) points.old }
     ensures lengths { lengths.new ≡ written (replicate count 0) lengths.old }
 {
     clear(points, lengths, count);
-    Ran {
-        number: backoff::BROKEN_NODE,
+    Refusal {
+        reason: Reason::BrokenNode,
         place: i as u32 + 1,
-        total: 0,
-        end: state,
     }
 }
 
 // What a run returns whose words are all scored.
 pub fn all_scored(total: i64, carried: Packed, backoffs: [i32; 5]) -> Ran
     requires { carried.count ≤ 4 }
-    ensures { (ps : List ℤ) (bs : List ℕ) → answer_of result ps bs ≡ record { number = 0; place = 0; total = total; end = nine (held_in carried backoffs); points = ps; lengths = bs } }
+    ensures total { result.total ≡ total }
+    ensures end { numbers_of result.end ≡ nine (held_in carried backoffs) }
 {
-    let end = carried_state::unpack(carried, backoffs);
     Ran {
-        number: 0,
-        place: 0,
         total,
-        end,
+        end: carried.unpack(backoffs),
     }
 }

@@ -1,9 +1,10 @@
 -- A word's step, and the words of a run as the code's loop has them: those before the i-th are scored, and what is left is the run of the others from
 -- the state that is carried. Assumes nothing.
+use Rattle.std.specs.declared.option.Option.{Option}
+use Rattle.std.specs.declared.option.Option.TheVariants.{Some, None}
 use mathlib.Core.Path.{◌≡◌, refl, sym, ap, ap₂, ◌∙◌}
 use mathlib.Core.Bool.{Bool, true, false, cond}
 use mathlib.Core.List.{List, [], ◌∷◌, ◌++◌, append_assoc, append-nil}
-use mathlib.Core.Option.{Option, none, some}
 use Prim.Native.Nat.{ℕ, suc, ◌+◌, ◌*◌, ◌≤◌, ◌<◌}
 use native.Mathlib.Numerals.{add-one}
 use native.Mathlib.Omega.{arith}
@@ -41,8 +42,8 @@ before-one ps bs x y (refused_at k) = refl
 
 -- its points and its byte, and the state that the next word is scored from
 abbrev pub step_to : ℤ → ℕ → Option Carried → Step
-step_to x y (some next) = scored x y next
-step_to x y none = stuck
+step_to x y (Some next) = scored x y next
+step_to x y None = stuck
 
 module _ (S : Store) (s : Carried) (w : ℕ) where
   pub step-refused : word_step S s w ≡ stuck → step S s w ≡ stuck
@@ -57,7 +58,7 @@ module _ (S : Store) (s : Carried) (w : ℕ) where
   unfolding step
   step-next x y left e = rw e (go (eqb w end_word) (word_step S empty start_word))
     where
-      go : (t : Bool) (first : Step) → cond t (restarted (scored x y left) first) (scored x y left) ≡ step_to x y (cond t (left_by first) (some left))
+      go : (t : Bool) (first : Step) → cond t (restarted (scored x y left) first) (scored x y left) ≡ step_to x y (cond t (left_by first) (Some left))
       go true (scored p b begun) = refl
       go true stuck = refl
       go false first = refl

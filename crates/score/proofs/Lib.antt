@@ -2,4 +2,5 @@
 pub mod Refusals
 pub mod Sizes
 pub mod Outcomes
+pub mod Converted
 pub mod Sentence

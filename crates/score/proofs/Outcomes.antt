@@ -1,9 +1,10 @@
 -- The outcomes of start and run mean what specs/Meaning.antt says, over any lent arrays. Assumes nothing.
+use Rattle.std.specs.declared.option.Option.{Option}
+use Rattle.std.specs.declared.option.Option.TheVariants.{Some, None}
 use mathlib.Core.Path.{◌≡◌, refl, ap, ◌∙◌}
 use mathlib.Core.Logic.{◌⊎◌, inl, inr}
 use mathlib.Core.Bool.{Bool, true, false, cond, ◌||◌}
 use mathlib.Core.List.{List}
-use mathlib.Core.Option.{Option, none, some}
 use Prim.Native.Nat.{ℕ, suc, ◌<◌}
 use native.Mathlib.Numerals.{one-add}
 use native.Mathlib.Omega.{arith}
@@ -38,8 +39,8 @@ module _ (l : List ℤ) (nine-long : length l ≡ 9) (r : Run) where
 
   pub refused_early : (o : Option Store) (number : ℕ) → number ≡ early_refusal o l (size_refusal (length r.words) (length r.points) (length r.lengths)) → (number ≡ 0 → ⊥) → run_outcome o l r ≡ refused_run number 0 l r
   unfolding run_outcome
-  refused_early none number e n = rw (eq-eqb (length l) 9 nine-long, e)
-  refused_early (some S) number e n = rw (eq-eqb (length l) 9 nine-long) (go (state_ok S.order l) (accepted r) refl (e ∙ ap (λ (k : ℕ). cond (state_ok S.order l) k bad_state) sizes-refuse))
+  refused_early None number e n = rw (eq-eqb (length l) 9 nine-long, e)
+  refused_early (Some S) number e n = rw (eq-eqb (length l) 9 nine-long) (go (state_ok S.order l) (accepted r) refl (e ∙ ap (λ (k : ℕ). cond (state_ok S.order l) k bad_state) sizes-refuse))
     where
       go : (t u : Bool) → accepted r ≡ u → number ≡ cond t (refusal r) bad_state → cond t (cond u (ran_answer l r (run_over S r.words (state_in l) 1)) (refused_run (refusal r) 0 l r)) (refused_run bad_state 0 l r) ≡ refused_run number 0 l r
       go true true q k = absurd (n (k ∙ eqb-true (refusal r) 0 (unfold accepted in q)))

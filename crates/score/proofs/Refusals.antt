@@ -1,10 +1,11 @@
 -- Over a double array 12 refuses a word exactly where its walk meets one of the conditions of document 01's table, and a run at the first such word.
 -- Assumes nothing.
+use Rattle.std.specs.declared.option.Option.{Option}
+use Rattle.std.specs.declared.option.Option.TheVariants.{Some, None}
 use mathlib.Core.Path.{◌≡◌, refl, sym, ap, ◌∙◌}
 use mathlib.Core.Logic.{◌⊎◌, inl, inr}
 use mathlib.Core.Bool.{Bool, true, false, not, cond, ◌&&◌, ◌||◌, or-true, true≢false, false≢true}
 use mathlib.Core.List.{List, [], ◌∷◌, ◌++◌}
-use mathlib.Core.Option.{none}
 use Prim.Native.Nat.{ℕ, zero, suc, ◌+◌, ◌<◌}
 use native.Mathlib.Nat.{add-zero}
 use native.Mathlib.Omega.{arith}
@@ -21,11 +22,8 @@ use Rattle.backoff.specs.Run.{run_end, run_points, run_bytes}
 use Rattle.backoff.specs.Store.{Look, absent, broken, here, Store, entry_of, is_broken, model_in, ends_broken, refused_at, before, onward, run_over}
 use Rattle.backoff.proofs.Climb.{climb-stopped}
 use Rattle.backoff.proofs.Store.{model_ran, word_stuck, stuck_at, step-stuck, onward-scored}
-use Rattle.markers.specs.declared.Marker.{Marker}
-use Rattle.markers.specs.declared.Marker.TheVariants.{Sound, Broken}
+use Rattle.markers.specs.Markers.{Marker, Sound, Broken}
 use Rattle.child_slots.specs.Children.{child_at}
-use Rattle.child_slots.specs.declared.Child.{Child}
-use Rattle.child_slots.specs.declared.Child.TheVariants.{At, Nothing}
 use Rattle.double_array.specs.DoubleArray.{marker_at, down_to, look_from, store_in}
 use Rattle.double_array.proofs.DoubleArray.{look-here, look-down, look-broken}
 use Rattle.score.specs.Meaning.{Unwalkable, broken-walk, broken-unknown, no-unknown, Stuck, at-the-word, at-start, StuckWord, StuckWords}
@@ -37,7 +35,7 @@ module _ (base check : List ℤ) where
   -- ---- the walk
 
   -- a walk that has come to no node, or to one without a sound marker, comes to the same with more words
-  from_stays : (k s : ℕ) (us vs : List ℕ) (x : Look) → entry_of x ≡ none → look_from base check k s us ≡ x → look_from base check k s (us ++ vs) ≡ x
+  from_stays : (k s : ℕ) (us vs : List ℕ) (x : Look) → entry_of x ≡ None → look_from base check k s us ≡ x → look_from base check k s (us ++ vs) ≡ x
   from_stays k s [] vs x n e = go (marker_at base check k s) refl
     where
       go : (m : Marker) → marker_at base check k s ≡ m → look_from base check k s vs ≡ x
@@ -45,15 +43,15 @@ module _ (base check : List ℤ) where
       go Broken m = look-broken base check k s vs m ∙ sym (look-broken base check k s [] m) ∙ e
   from_stays k s (w ∷ us) vs x n e = go (marker_at base check k s) refl (λ t. from_stays (suc k) t us vs x n)
     where
-      down : (c : Child) → ((t : ℕ) → look_from base check (suc k) t us ≡ x → look_from base check (suc k) t (us ++ vs) ≡ x) → down_to c (λ (t : ℕ). look_from base check (suc k) t us) ≡ x → down_to c (λ (t : ℕ). look_from base check (suc k) t (us ++ vs)) ≡ x
-      down (At t) ih h = ih t h
-      down Nothing ih h = h
+      down : (c : Option ℕ) → ((t : ℕ) → look_from base check (suc k) t us ≡ x → look_from base check (suc k) t (us ++ vs) ≡ x) → down_to c (λ (t : ℕ). look_from base check (suc k) t us) ≡ x → down_to c (λ (t : ℕ). look_from base check (suc k) t (us ++ vs)) ≡ x
+      down (Some t) ih h = ih t h
+      down None ih h = h
 
       go : (m : Marker) → marker_at base check k s ≡ m → ((t : ℕ) → look_from base check (suc k) t us ≡ x → look_from base check (suc k) t (us ++ vs) ≡ x) → look_from base check k s (w ∷ (us ++ vs)) ≡ x
       go (Sound p b c f) m ih = look-down base check k s p b c f w (us ++ vs) m ∙ down (child_at base check s w) ih (sym (look-down base check k s p b c f w us m) ∙ e)
       go Broken m ih = look-broken base check k s (w ∷ (us ++ vs)) m ∙ sym (look-broken base check k s (w ∷ us) m) ∙ e
 
-  look_stays : (v i : ℕ) (ws : List ℕ) (x : Look) → entry_of x ≡ none → S.look (v ∷ take i ws) ≡ x → S.look (v ∷ ws) ≡ x
+  look_stays : (v i : ℕ) (ws : List ℕ) (x : Look) → entry_of x ≡ None → S.look (v ∷ take i ws) ≡ x → S.look (v ∷ ws) ≡ x
   unfolding store_in
   look_stays v i ws x n e = ap (λ (l : List ℕ). S.look (v ∷ l)) (sym (take-append-drop i ws)) ∙ from_stays 0 0 (v ∷ take i ws) (drop i ws) x n e
 

@@ -1,9 +1,9 @@
 -- A sentence that is scored from `<s>`: check 16 lets every state pass that it comes to, so that 12 alone refuses its runs, exactly where their words meet it.
 -- Assumes nothing.
+use Rattle.std.specs.declared.option.Option.{Option}
 use mathlib.Core.Path.{◌≡◌, refl, sym, ap, ◌∙◌}
 use mathlib.Core.Bool.{Bool, true, false, cond}
 use mathlib.Core.List.{List, [], ◌∷◌}
-use mathlib.Core.Option.{Option}
 use Prim.Native.Nat.{ℕ, ◌≤◌}
 use lib.IntN.{ℤ}
 use borrow.Author.Tests.{eq-eqb}

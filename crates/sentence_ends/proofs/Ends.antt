@@ -1,4 +1,8 @@
 -- Laws of the ends of sentences, and of what refuses a sheet early. Assumes nothing.
+use Rattle.std.specs.declared.result.Result.{Result}
+use Rattle.std.specs.declared.result.Result.TheVariants.{Ok, Err}
+use Rattle.std.specs.Result.{IsErrAnd}
+use Rattle.backoff.specs.declared.Refusal.{Refusal as CallRefusal}
 use mathlib.Core.Path.{◌≡◌, refl, sym, ap, ◌∙◌}
 use mathlib.Core.Logic.{◌⊎◌, inl, inr}
 use mathlib.Core.Bool.{Bool, true, false, cond, ◌||◌}
@@ -10,12 +14,12 @@ use lib.ListN.{length, take, drop, get_or, drop_of_length-le}
 use lib.Seq.{take-suc, take_all, drop-cons}
 use lib.IntN.{ℤ}
 use lib.Dec.{ltb}
-use borrow.Author.Tests.{eq-eqb, ne_eqb, ltb-true, ltb-false}
+use borrow.Author.Tests.{ne_eqb, lt-ltb, le-ltb, ltb-true, ltb-false}
 use Rattle.backoff.specs.Limits.{run_limit}
-use Rattle.backoff.specs.Refusal.{array_head, word_count, short_slice, sentence_end}
+use Rattle.backoff.specs.Refusal.{word_count, short_slice, sentence_end}
 use Rattle.double_array.specs.DoubleArray.{is_array, opened}
-use Rattle.double_array.proofs.DoubleArray.{opened_some, opened-none}
-use Rattle.sentence_ends.specs.Ends.{last_end, bad_end, sheet_size, early_refusal}
+use Rattle.double_array.proofs.DoubleArray.{opened_some}
+use Rattle.sentence_ends.specs.Ends.{Refusal, met_by, last_end, bad_end, sheet_size, early_refusal}
 
 -- ---- the last end
 
@@ -40,9 +44,17 @@ last_end-is es n =
 -- ---- the first bad end
 
 -- the next sentence's end is looked at
-pub bad_end-next : (words k a : ℕ) (es : List ℕ) (i : ℕ) → i < length es → bad_end words k a (drop i es) ≡ cond (ltb (get_or es i 0) a || ltb words (get_or es i 0)) k (bad_end words (k + 1) (get_or es i 0) (drop (i + 1) es))
-unfolding bad_end
-bad_end-next words k a es i h = rw (add-one k, add-one i, drop-cons es i 0 h)
+module _ (words k a : ℕ) (es : List ℕ) (i : ℕ) (h : i < length es) where
+  next : bad_end words k a (drop i es) ≡ cond (ltb (get_or es i 0) a || ltb words (get_or es i 0)) k (bad_end words (k + 1) (get_or es i 0) (drop (i + 1) es))
+  unfolding bad_end
+  next = rw (add-one k, add-one i, drop-cons es i 0 h)
+
+  pub bad_end-here : (get_or es i 0 < a) ⊎ ((a ≤ get_or es i 0) × (words < get_or es i 0)) → bad_end words k a (drop i es) ≡ k
+  bad_end-here (inl l) = next ∙ rw (lt-ltb _ _ l)
+  bad_end-here (inr (m, l)) = next ∙ rw (le-ltb _ _ m, lt-ltb _ _ l)
+
+  pub bad_end-later : a ≤ get_or es i 0 → get_or es i 0 ≤ words → bad_end words k a (drop i es) ≡ bad_end words (k + 1) (get_or es i 0) (drop (i + 1) es)
+  bad_end-later l m = next ∙ rw (le-ltb _ _ l, le-ltb _ _ m)
 
 pub bad_end-none : (words k a : ℕ) (es : List ℕ) (i : ℕ) → length es ≤ i → bad_end words k a (drop i es) ≡ 0
 unfolding bad_end
@@ -84,6 +96,10 @@ module _ (words : ℕ) where
       go false p false q n ih =
           let f = ih n in
           record { i = suc f.i; is = rw (p, q) (omega (arith, f.is)); inside = omega (arith, f.inside); bad = f.bad; before = later p q f }
+
+  -- so it is one of the sentences
+  pub bad_end-inside : (es : List ℕ) (i : ℕ) → suc i ≡ bad_end words 1 0 es → i < length es
+  bad_end-inside es i e = let f = first_bad_lem 0 0 es (λ z. omega (arith, e)) in omega (arith, e, f.is, f.inside)
 
   good-from : (k a : ℕ) (es : List ℕ) → bad_end words (suc k) a es ≡ 0 → a ≤ last_end a es
   unfolding bad_end last_end
@@ -134,13 +150,14 @@ fits words ends last points lengths = go (ltb run_limit words) (ltb run_limit en
     go false false false true p q r s z = absurd (omega arith)
     go false false false false p q r s z = record { few_words = ltb-false _ _ p; few-ends = ltb-false _ _ q; points-reach = ltb-false _ _ r; lengths-reach = ltb-false _ _ s }
 
-module _ (base check : List ℤ) (words : ℕ) (ends : List ℕ) (points lengths : ℕ) where
-  pub array-refused : is_array base check ≡ false → record { number = array_head; place = 0 } ≡ early_refusal (opened base check) words ends points lengths
-  array-refused e = rw (opened-none base check e)
+module _ (base check : List ℤ) (words : ℕ) (ends : List ℕ) (points lengths : ℕ) (h : is_array base check ≡ true) where
+  pub end_refused : (i : ℕ) → suc i ≡ bad_end words 1 0 ends → record { number = sentence_end; place = suc i } ≡ early_refusal (opened base check) words ends points lengths
+  end_refused i e = rw (opened_some base check h, sym e, ne_eqb (suc i) 0 (λ z. omega arith))
 
-  module _ (h : is_array base check ≡ true) where
-    pub end_refused : (k : ℕ) → k ≡ bad_end words 1 0 ends → (k ≡ 0 → ⊥) → record { number = sentence_end; place = k } ≡ early_refusal (opened base check) words ends points lengths
-    end_refused k e n = rw (opened_some base check h, sym e, ne_eqb k 0 n)
+  pub sizes-refused : 0 ≡ bad_end words 1 0 ends → (last : ℕ) → last ≡ last_end 0 ends → (m : Refusal) → m ≡ record { number = sheet_size words (length ends) last points lengths; place = 0 } → m ≡ early_refusal (opened base check) words ends points lengths
+  sizes-refused e last l m f = rw (opened_some base check h, sym e, sym l) f
 
-    pub sizes-refused : (k : ℕ) → k ≡ bad_end words 1 0 ends → k ≡ 0 → (number : ℕ) → number ≡ sheet_size words (length ends) (last_end 0 ends) points lengths → record { number = number; place = 0 } ≡ early_refusal (opened base check) words ends points lengths
-    sizes-refused k e z number f = rw (opened_some base check h, sym e, eq-eqb k 0 z, f)
+-- a refusal whose place is made wide
+pub met-wide : (r : Result Unit (CallRefusal ℕ)) (refusal : CallRefusal ℕ) → IsErrAnd r (λ w. w ≡ record { reason = refusal.reason; place = refusal.place }) → met_by r ≡ met_by (Err refusal)
+met-wide (Ok u) refusal h = absurd h
+met-wide (Err w) refusal h = rw h

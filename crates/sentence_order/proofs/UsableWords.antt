@@ -1,4 +1,6 @@
 -- The usable words of an array are those for which the root has a child: what the code looks at. Assumes nothing.
+use Rattle.std.specs.declared.option.Option.{Option}
+use Rattle.std.specs.declared.option.Option.TheVariants.{Some, None}
 use mathlib.Core.Path.{◌≡◌, refl, sym, ap, ◌∙◌}
 use mathlib.Core.Bool.{Bool, true, false, cond, ◌&&◌, ◌||◌, true≢false}
 use mathlib.Core.List.{List, [], ◌∷◌, ◌++◌}
@@ -13,11 +15,7 @@ use borrow.Author.Tests.{le-ltb}
 use Rattle.integer.proofs.Arithmetic.{and_no}
 use Rattle.backoff.specs.Limits.{word_limit, usable_limit, start_word, end_word}
 use Rattle.backoff.specs.Words.{is_word}
-use Rattle.markers.specs.declared.Marker.{Marker}
-use Rattle.markers.specs.declared.Marker.TheVariants.{Sound, Broken}
-use Rattle.markers.specs.Markers.{look_marker}
-use Rattle.child_slots.specs.declared.Child.{Child}
-use Rattle.child_slots.specs.declared.Child.TheVariants.{At, Nothing}
+use Rattle.markers.specs.Markers.{Marker, Sound, Broken, look_marker}
 use Rattle.child_slots.specs.Children.{child_slot, root_child, is_child}
 use Rattle.double_array.specs.DoubleArray.{marker_at, down_to, look_from, is_array, store_in}
 use Rattle.double_array.proofs.DoubleArray.{root-sound, root-child}
@@ -31,17 +29,13 @@ pub reserved_unusable : (check : List ℤ) (w : ℕ) → (eqb w start_word || eq
 unfolding usable_child
 reserved_unusable check w e = and_no (is_child (root_child check w)) (is_other w) (rw e)
 
-pub other-usable : (check : List ℤ) (w : ℕ) → (eqb w start_word || eqb w end_word) ≡ false → (c : Child) → root_child check w ≡ c → usable_child check w ≡ is_child c
-unfolding usable_child
-other-usable check w n c e = rw (e, n) (elim c as (λ c. (is_child c && true) ≡ is_child c) [ At t ↦ refl | Nothing ↦ refl ])
-
 pub usable-not-end : (check : List ℤ) (w : ℕ) → usable_child check w ≡ true → w ≡ end_word → ⊥
 usable-not-end check w u e = true≢false (sym u ∙ reserved_unusable check w (rw e))
 
 -- a word without a slot
 slotless_unusable : (check : List ℤ) (w : ℕ) → length check ≤ w → usable_child check w ≡ false
 unfolding usable_child
-slotless_unusable check w h = rw (le-ltb (child_slot false 1 w) (length check) (omega arith)) (elim (is_word w) as (λ b. (is_child (cond b Nothing Nothing) && is_other w) ≡ false) [ true ↦ refl | false ↦ refl ])
+slotless_unusable check w h = rw (le-ltb (child_slot false 1 w) (length check) (omega arith)) (elim (is_word w) as (λ b. (is_child (cond b None None) && is_other w) ≡ false) [ true ↦ refl | false ↦ refl ])
 
 pub all-looked_for : (check : List ℤ) (w : ℕ) → w ≤ word_limit → min (length check) word_limit ≤ w → passing (usable_child check) word_limit ≡ passing (usable_child check) w
 all-looked_for check w h l = passing_stops (usable_child check) w word_limit h (λ v m n. slotless_unusable check v (omega arith))
@@ -86,10 +80,10 @@ marker_there (Sound p b e f) = refl
 marker_there Broken = refl
 
 module _ (base check : List ℤ) (array : is_array base check ≡ true) where
-  child_there : (c : Child) → is_there (down_to c (λ (t : ℕ). look_from base check 1 t [])) ≡ is_child c
+  child_there : (c : Option ℕ) → is_there (down_to c (λ (t : ℕ). look_from base check 1 t [])) ≡ is_child c
   unfolding look_from
-  child_there (At t) = marker_there (marker_at base check 1 t)
-  child_there Nothing = refl
+  child_there (Some t) = marker_there (marker_at base check 1 t)
+  child_there None = refl
 
   usable-is-child : (w : ℕ) → usable (store_in base check) w ≡ usable_child check w
   unfolding usable usable_child store_in look_from

@@ -1,18 +1,11 @@
 -- What the functions of the sentences in their order are held to. Assumes nothing.
-use Rattle.std.specs.Prelude.{◌≡◌, Bool, true, ◌&&◌, List, [], ◌∷◌, ◌++◌, ℕ, zero, suc, ◌/◌, ◌%◌, ◌≤◌, ◌<◌, length, take, get_or, ℤ}
-use Rattle.backoff.specs.Limits.{usable_limit}
+use Rattle.std.specs.Prelude.{◌≡◌, Bool, true, ◌&&◌, List, [], ◌∷◌, ◌++◌, ℕ, zero, suc, ◌/◌, ◌%◌, ◌<◌, length, get_or, ℤ}
 use Rattle.child_slots.specs.Children.{is_child, root_child}
-use Rattle.sentence_order.specs.declared.Usable.{Usable}
 use Rattle.sentence_order.specs.Sentences.{is_other}
 
 -- the root has a child for w, which is neither 2 nor 3
 unfoldable pub usable_child : List ℤ → ℕ → Bool
 usable_child check w = is_child (root_child check w) && is_other w
-
--- the words us in an array that holds sixteen, or a count of more than that
-pub record Holds (us : List ℕ) (r : Usable) : Type 0 where
-  pub few : r.count ≤ usable_limit → us ≡ take r.count r.words
-  pub many : usable_limit < r.count → usable_limit < length us
 
 -- the sentence of k words with the number i, counted from 0: the digits of i, the last the lowest
 unfoldable pub sentence_at : List ℕ → ℕ → ℕ → List ℕ

@@ -2,3 +2,4 @@
 pub mod Sentences
 pub mod ListsAll
 pub mod Inner
+pub mod Usable

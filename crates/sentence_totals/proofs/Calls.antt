@@ -1,10 +1,11 @@
 -- What the calls for one sentence come to: start, the words that it shares with others, its last word and its 3; and the same by a run over its words and a
 -- run of its 3, over any lent arrays. Assumes nothing.
+use Rattle.std.specs.declared.option.Option.{Option}
+use Rattle.std.specs.declared.option.Option.TheVariants.{Some, None}
 use mathlib.Core.Path.{◌≡◌, refl, sym, ap, ap₂, ◌∙◌}
 use mathlib.Core.Logic.{◌⊎◌, inl, inr}
 use mathlib.Core.Bool.{Bool, true, false, cond, ◌&&◌, false≢true}
 use mathlib.Core.List.{List, [], ◌∷◌, ◌++◌, append_assoc}
-use mathlib.Core.Option.{Option, some}
 use Prim.Native.Nat.{ℕ, ◌≤◌, ◌<◌}
 use native.Mathlib.Omega.{arith}
 use lib.Dec.{eqb}
@@ -16,7 +17,7 @@ use Rattle.integer.specs.Integer.{sum}
 use Rattle.integer.proofs.Arithmetic.{zarith, abs}
 use borrow.Author.Tests.{eq-eqb, ne_eqb, le-ltb, eqb-true}
 use Rattle.backoff.specs.Limits.{start_word, end_word, sentence_limit, order_limit, run_limit}
-use Rattle.backoff.specs.Refusal.{broken_node, array_head}
+use Rattle.backoff.specs.Refusal.{number_in, broken_node, array_head}
 use Rattle.backoff.specs.Model.{Model}
 use Rattle.backoff.specs.State.{State as Carried, empty}
 use Rattle.backoff.specs.Run.{refusal, accepted, accepted_run, run_end, Answer, run_points, run_bytes}
@@ -24,8 +25,6 @@ use Rattle.backoff.specs.NineNumbers.{nine, state_in, state_ok}
 use Rattle.backoff.specs.Store.{Store, Step, scored, stuck, word_step, Ran, ran, refused_at, run_over, model_in, broken_run, ran_answer, run_outcome, Started, start_step}
 use Rattle.backoff.proofs.NineNumbers.{length-nine, run_end_ok, state_in-run_end}
 use Rattle.backoff.proofs.Store.{model_ran, run_over_cases}
-use Rattle.child_slots.specs.declared.Child.{Child}
-use Rattle.child_slots.specs.declared.Child.TheVariants.{At, Nothing}
 use Rattle.child_slots.specs.Children.{root_child}
 use Rattle.double_array.specs.DoubleArray.{is_array, order_in, store_in, opened}
 use Rattle.double_array.proofs.DoubleArray.{opened_some, opened-order}
@@ -36,12 +35,16 @@ use Rattle.word_walk.specs.Rows.{array_model}
 use Rattle.word_walk.proofs.Rows.{rows-in_backoff, rows-in_words}
 use Rattle.word_step.specs.Inner.{replaced}
 use Rattle.run_answer.specs.declared.Ran.{Ran as Sum}
+use Rattle.run_answer.specs.Answers.{total_in, end_in}
+use Rattle.std.specs.declared.result.Result.{Result}
+use Rattle.std.specs.declared.result.Result.TheVariants.{Ok, Err}
+use Rattle.std.specs.Result.{result_ok}
+use Rattle.run_answer.proofs.Refused.{some-number}
+use Rattle.backoff.specs.declared.Refusal.{Refusal}
 use Rattle.score.specs.Answers.{started_over}
 use Rattle.score.proofs.Sizes.{run_total, run-total_small}
 use Rattle.score.proofs.Sentence.{start-state, begun_ok}
 use Rattle.score.proofs.Outcomes.{start_steps, start-refused}
-use Rattle.sums.specs.declared.Closed.{Closed}
-use Rattle.sums.specs.declared.Closed.TheVariants.{Points, Refused}
 use Rattle.sums.specs.Sums.{Summed, summed_of, summed}
 use Rattle.sums.specs.Closing.{plus, points_over}
 use Rattle.sums.proofs.Closing.{closed_of, closed-is-run, closed-behind, none-behind}
@@ -49,22 +52,31 @@ use Rattle.sentence_order.specs.Inner.{usable_child}
 use Rattle.sentence_totals.specs.Totals.{own_run, run_from_start, runs_through, closed, sentence_total, is_scored, words_run, three_run, InRuns}
 use Rattle.sentence_totals.specs.Inner.{Begins}
 
+-- a call that is accepted, and one that is not
+pub is_ok_of : {A : Type 0} (r : Result A (Refusal ℕ)) (a : A) → Some a ≡ result_ok r → r ≡ Ok a
+is_ok_of (Ok b) a e = cc
+is_ok_of {A} (Err refusal) a e = let z : ◌≡◌ {A = ℕ} 0 1 = cc in absurd (omega arith)
+
+pub refused : {A : Type 0} (r : Result A (Refusal ℕ)) → None ≡ result_ok r → number_in r ≡ 0 → ⊥
+refused (Ok b) e z = let z : ◌≡◌ {A = ℕ} 0 1 = cc in omega arith
+refused (Err refusal) e z = some-number refusal.reason z
+
 -- what a run over the words ws from start's state comes to
-abbrev total_of : Option Store → List ℕ → Closed
-total_of o ws = cond (runs_through o ws) (Points (run_from_start o ws).total) Refused
+abbrev total_of : Option Store → List ℕ → Option ℤ
+total_of o ws = cond (runs_through o ws) (Some (run_from_start o ws).total) None
 
 module _ (o : Option Store) (ws : List ℕ) where
-  told_scored : (t : ℤ) → total_of o ws ≡ Points t → (runs_through o ws ≡ true) × (t ≡ (run_from_start o ws).total)
+  told_scored : (t : ℤ) → total_of o ws ≡ Some t → (runs_through o ws ≡ true) × (t ≡ (run_from_start o ws).total)
   told_scored t e = go (runs_through o ws) e
     where
-      go : (b : Bool) → cond b (Points (run_from_start o ws).total) Refused ≡ Points t → (b ≡ true) × (t ≡ (run_from_start o ws).total)
+      go : (b : Bool) → cond b (Some (run_from_start o ws).total) None ≡ Some t → (b ≡ true) × (t ≡ (run_from_start o ws).total)
       go true q = (refl, cc)
       go false q = let z : ◌≡◌ {A = ℕ} 0 1 = cc in absurd (omega arith)
 
-  told_refused : total_of o ws ≡ Refused → runs_through o ws ≡ false
+  told_refused : total_of o ws ≡ None → runs_through o ws ≡ false
   told_refused e = go (runs_through o ws) e
     where
-      go : (b : Bool) → cond b (Points (run_from_start o ws).total) Refused ≡ Refused → b ≡ false
+      go : (b : Bool) → cond b (Some (run_from_start o ws).total) None ≡ None → b ≡ false
       go true q = let z : ◌≡◌ {A = ℕ} 0 1 = cc in absurd (omega arith)
       go false q = refl
 
@@ -73,9 +85,9 @@ pub usable-replaced : (check : List ℤ) (w : ℕ) → usable_child check w ≡ 
 unfolding usable_child
 usable-replaced check w u = go (root_child check w) refl
   where
-    go : (c : Child) → root_child check w ≡ c → w ≡ replaced check w
-    go (At t) e = rw e
-    go Nothing e = absurd (false≢true (rw e at u))
+    go : (c : Option ℕ) → root_child check w ≡ c → w ≡ replaced check w
+    go (Some t) e = rw e
+    go None e = absurd (false≢true (rw e at u))
 
 -- without start no sentence is scored
 pub start_unscored : (o : Option Store) (s : Started) → s ≡ started_over o → (s.number ≡ 0 → ⊥) → (ws : List ℕ) → is_scored o ws ≡ false
@@ -97,7 +109,7 @@ module _ (base check : List ℤ) (state : State) (b : Begins base check state) w
   abbrev l : List ℤ
   l = numbers_of state
 
-  opens : o ≡ some S
+  opens : o ≡ Some S
   opens = opened_some base check b.array
 
   order-high : M.order ≤ order_limit
@@ -116,8 +128,8 @@ module _ (base check : List ℤ) (state : State) (b : Begins base check state) w
   end_ok : (ws : List ℕ) → state_ok M.order (nine (run_end M (state_in l) ws)) ≡ true
   end_ok = run_end_ok M (rows-in_backoff base check) (rows-in_words base check) order-high l nine-long start_ok
 
-  end_in : (ws : List ℕ) → state_in (nine (run_end M (state_in l) ws)) ≡ run_end M (state_in l) ws
-  end_in = state_in-run_end M (rows-in_backoff base check) (rows-in_words base check) order-high l nine-long start_ok
+  left_in : (ws : List ℕ) → state_in (nine (run_end M (state_in l) ws)) ≡ run_end M (state_in l) ws
+  left_in = state_in-run_end M (rows-in_backoff base check) (rows-in_words base check) order-high l nine-long start_ok
 
   -- start's own step
   start_steps_to : (A : Type 0) → ((x : ℤ) (y : ℕ) (t : Carried) → word_step S empty start_word ≡ scored x y t → A) → A
@@ -143,22 +155,22 @@ module _ (base check : List ℤ) (state : State) (b : Begins base check state) w
     unfolding runs_through
     total_over = rw (eq-eqb (started_over o).number 0 b.started, run_is) (go (run_over S ws (state_in l) 1))
       where
-        go : (r : Ran) → cond (eqb (ran_answer l (own_run ws) r).number 0) (Points (ran_answer l (own_run ws) r).total) Refused ≡ closed_of r
+        go : (r : Ran) → cond (eqb (ran_answer l (own_run ws) r).number 0) (Some (ran_answer l (own_run ws) r).total) None ≡ closed_of r
         go (ran ps bs t) = unfold accepted_run in refl
         go (refused_at k) = unfold broken_run in refl
 
   -- ---- the words that sentences share
 
-  module _ (front : List ℕ) (x : Sum) (is : summed_of x ≡ summed l (run_over S front (state_in l) 1)) where
+  module _ (front : List ℕ) (x : Result Sum (Refusal ℕ)) (is : summed_of l x ≡ summed l (run_over S front (state_in l) 1)) where
     -- where they are refused
-    front-stuck : (x.number ≡ 0 → ⊥) → (vs : List ℕ) → closed_of (run_over S (front ++ vs) (state_in l) 1) ≡ Refused
+    front-stuck : (number_in x ≡ 0 → ⊥) → (vs : List ℕ) → closed_of (run_over S (front ++ vs) (state_in l) 1) ≡ None
     front-stuck n vs = go (run_over S front (state_in l) 1) refl
       where
-        go : (r : Ran) → run_over S front (state_in l) 1 ≡ r → closed_of (run_over S (front ++ vs) (state_in l) 1) ≡ Refused
+        go : (r : Ran) → run_over S front (state_in l) 1 ≡ r → closed_of (run_over S (front ++ vs) (state_in l) 1) ≡ None
         go (ran ps bs t) e = absurd (n (ap (λ (s : Summed). s.number) (is ∙ ap (summed l) e)))
         go (refused_at j) e = none-behind S front vs (state_in l) 1 j e
 
-    module _ (z : x.number ≡ 0) where
+    module _ (z : number_in x ≡ 0) where
       ran_on : run_over S front (state_in l) 1 ≡ model_ran M (state_in l) front
       ran_on = go (run_over_cases S front (state_in l) 1)
         where
@@ -166,24 +178,24 @@ module _ (base check : List ℤ) (state : State) (b : Begins base check state) w
           go (inl (j, e)) = let q : broken_node ≡ 0 = sym (ap (λ (s : Summed). s.number) (is ∙ ap (summed l) e)) ∙ z in absurd (omega arith)
           go (inr e) = e
 
-      is-scored : summed_of x ≡ summed l (model_ran M (state_in l) front)
+      is-scored : summed_of l x ≡ summed l (model_ran M (state_in l) front)
       is-scored = is ∙ ap (summed l) ran_on
 
-      end_is : numbers_of x.end ≡ nine (run_end M (state_in l) front)
+      end_is : end_in l x ≡ nine (run_end M (state_in l) front)
       end_is = ap (λ (s : Summed). s.end) is-scored
 
-      pub front_ok : state_ok (order_in check) (numbers_of x.end) ≡ true
+      pub front_ok : state_ok (order_in check) (end_in l x) ≡ true
       unfolding model_in store_in
       front_ok = ap (state_ok (order_in check)) end_is ∙ end_ok front
 
       -- a last word behind them, and the 3
-      front_on : (w : ℕ) → (w ≡ end_word → ⊥) → (c : Closed) → c ≡ points_over S (w ∷ end_word ∷ []) (state_in (numbers_of x.end)) → closed_of (run_over S (front ++ (w ∷ end_word ∷ [])) (state_in l) 1) ≡ plus x.total c
+      front_on : (w : ℕ) → (w ≡ end_word → ⊥) → (c : Option ℤ) → c ≡ points_over S (w ∷ end_word ∷ []) (state_in (end_in l x)) → closed_of (run_over S (front ++ (w ∷ end_word ∷ [])) (state_in l) 1) ≡ plus (total_in x) c
       front_on w n c e =
           closed-behind S front (w ∷ end_word ∷ []) (state_in l) 1 _ _ _ ran_on
           ∙ ap₂ plus (ap (λ (s : Summed). s.total) (sym is-scored)) (sym (e ∙ ap (points_over S (w ∷ end_word ∷ [])) left ∙ as_run))
         where
-          left : state_in (numbers_of x.end) ≡ run_end M (state_in l) front
-          left = ap state_in end_is ∙ end_in front
+          left : state_in (end_in l x) ≡ run_end M (state_in l) front
+          left = ap state_in end_is ∙ left_in front
 
           as_run : points_over S (w ∷ end_word ∷ []) (run_end M (state_in l) front) ≡ closed_of (run_over S (w ∷ end_word ∷ []) (run_end M (state_in l) front) 1)
           as_run = start_steps_to _ (λ p q t f. closed-is-run S (run_end M (state_in l) front) w 1 n p q t f)
@@ -197,21 +209,21 @@ module _ (base check : List ℤ) (state : State) (b : Begins base check state) w
       regrouped : closed s ≡ front ++ (w ∷ end_word ∷ [])
       regrouped = append_assoc front (w ∷ []) (end_word ∷ [])
 
-      comes_to : (c : Closed) → closed_of (run_over S (front ++ (w ∷ end_word ∷ [])) (state_in l) 1) ≡ c → total_of o (closed s) ≡ c
+      comes_to : (c : Option ℤ) → closed_of (run_over S (front ++ (w ∷ end_word ∷ [])) (state_in l) 1) ≡ c → total_of o (closed s) ≡ c
       comes_to c e = total_over (closed s) (omega (arith, length-append s (end_word ∷ []), length-append front (w ∷ []))) ∙ ap (λ (ws : List ℕ). closed_of (run_over S ws (state_in l) 1)) regrouped ∙ e
 
-      pub front_unscored : (x.number ≡ 0 → ⊥) → is_scored o s ≡ false
+      pub front_unscored : (number_in x ≡ 0 → ⊥) → is_scored o s ≡ false
       unfolding is_scored
-      front_unscored n = told_refused o (closed s) (comes_to Refused (front-stuck n (w ∷ end_word ∷ [])))
+      front_unscored n = told_refused o (closed s) (comes_to None (front-stuck n (w ∷ end_word ∷ [])))
 
-      module _ (z : x.number ≡ 0) (n : w ≡ end_word → ⊥) where
-        pub last_unscored : Refused ≡ points_over S (w ∷ end_word ∷ []) (state_in (numbers_of x.end)) → is_scored o s ≡ false
+      module _ (z : number_in x ≡ 0) (n : w ≡ end_word → ⊥) where
+        pub last_unscored : None ≡ points_over S (w ∷ end_word ∷ []) (state_in (end_in l x)) → is_scored o s ≡ false
         unfolding is_scored
-        last_unscored e = told_refused o (closed s) (comes_to Refused (front_on z w n Refused e))
+        last_unscored e = told_refused o (closed s) (comes_to None (front_on z w n None e))
 
-        pub last-scored : (y : ℤ) → Points y ≡ points_over S (w ∷ end_word ∷ []) (state_in (numbers_of x.end)) → (is_scored o s ≡ true) × (x.total +ℤ y ≡ sentence_total o s)
+        pub last-scored : (y : ℤ) → Some y ≡ points_over S (w ∷ end_word ∷ []) (state_in (end_in l x)) → (is_scored o s ≡ true) × (total_in x +ℤ y ≡ sentence_total o s)
         unfolding is_scored sentence_total
-        last-scored y e = told_scored o (closed s) (x.total +ℤ y) (comes_to (Points (x.total +ℤ y)) (front_on z w n (Points y) e))
+        last-scored y e = told_scored o (closed s) (total_in x +ℤ y) (comes_to (Some (total_in x +ℤ y)) (front_on z w n (Some y) e))
 
   -- ---- a run over a sentence's words, and a run of its 3
 
@@ -260,7 +272,7 @@ module _ (base check : List ℤ) (state : State) (b : Begins base check state) w
       three_over =
           ap (λ (m : List ℤ). run_outcome o m (own_run (end_word ∷ []))) words-end
           ∙ run_over_lem (end_word ∷ []) (omega arith) (nine left) (length-nine left) (end_ok s)
-          ∙ ap (λ (t : Carried). ran_answer (nine left) (own_run (end_word ∷ [])) (run_over S (end_word ∷ []) t 1)) (end_in s)
+          ∙ ap (λ (t : Carried). ran_answer (nine left) (own_run (end_word ∷ [])) (run_over S (end_word ∷ []) t 1)) (left_in s)
 
       both : total_of o (closed s) ≡ plus points (closed_of (run_over S (end_word ∷ []) left 1))
       both = whole ∙ closed-behind S s (end_word ∷ []) (state_in l) 1 _ _ _ e

@@ -1,8 +1,8 @@
 -- The listing group by group: the sentences of a group begin with the same words, and the last of them is each usable word in turn. Assumes nothing.
+use Rattle.std.specs.declared.option.Option.{Option}
 use mathlib.Core.Path.{◌≡◌, sym, ap, ◌∙◌, subst}
-use mathlib.Core.Bool.{Bool, true, false, false≢true}
+use mathlib.Core.Bool.{true, false}
 use mathlib.Core.List.{List, [], ◌∷◌, ◌++◌, map, append_assoc}
-use mathlib.Core.Option.{Option}
 use Prim.Native.Nat.{ℕ, zero, suc, ◌+◌, ◌*◌, ◌-◌, ◌^◌, ◌≤◌, ◌<◌}
 use native.Mathlib.Nat.{pow-suc, one-le-pow, mul-add, mul-le-mul_left, mul-le-mul_right}
 use native.Mathlib.Numerals.{add-one}
@@ -18,7 +18,7 @@ use Rattle.sentence_order.specs.Sentences.{ended_by, sentences_of}
 use Rattle.sentence_order.specs.Inner.{sentence_at}
 use Rattle.sentence_order.proofs.Sentences.{flat-take-suc, length-flat-take, get_or-map_in, length-sentences, sentence_nth, each_long}
 use Rattle.sentence_totals.specs.Totals.{sentence_total, is_scored, all_scored}
-use Rattle.sentence_totals.specs.Inner.{AllWritten, OneRefused, WrittenOver}
+use Rattle.sentence_totals.specs.Inner.{AllWritten, OneRefused}
 use Rattle.sentence_totals.proofs.Written.{rest-lent, rest_back, one_unscored, some_unscored, written_none, written-more, written_one, words_long, totals-long, refused-here, refused_there}
 
 -- ---- the words p, ended by each of the words us
@@ -187,13 +187,11 @@ module _ (o : Option Store) (us : List ℕ) (k : ℕ) (some : 1 ≤ k) (words₀
           totals-back : put_mid (g * length us) (length totals - g * length us) totals t ≡ take (length (done g)) totals ++ t
           totals-back = rest_back (g * length us) totals t ∙ ap (λ (a : ℕ). take a totals ++ t) (sym sentences-done)
 
-          pub all-next : (r : Bool) → r ≡ true → WrittenOver o next words-rest totals-rest r w t → AllWritten o (done (g + 1)) words₀ totals₀ (put_mid (k * (g * length us)) (length words - k * (g * length us)) words w) (put_mid (g * length us) (length totals - g * length us) totals t)
-          all-next false e r = absurd (false≢true e)
-          all-next true e r = rw (words_back, totals-back, one_more) (written-more o words₀ totals₀ (done g) words totals f next w t (rw (words-lent, totals-lent) at r))
+          pub all-next : AllWritten o next words-rest totals-rest w t → AllWritten o (done (g + 1)) words₀ totals₀ (put_mid (k * (g * length us)) (length words - k * (g * length us)) words w) (put_mid (g * length us) (length totals - g * length us) totals t)
+          all-next r = rw (words_back, totals-back, one_more) (written-more o words₀ totals₀ (done g) words totals f next w t (rw (words-lent, totals-lent) at r))
 
-          pub all-refused : (r : Bool) → r ≡ false → WrittenOver o next words-rest totals-rest r w t → OneRefused o ss words₀ totals₀ (put_mid (k * (g * length us)) (length words - k * (g * length us)) words w) (put_mid (g * length us) (length totals - g * length us) totals t)
-          all-refused true e r = absurd (false≢true (sym e))
-          all-refused false e r =
+          pub all-refused : OneRefused o next words-rest totals-rest w t → OneRefused o ss words₀ totals₀ (put_mid (k * (g * length us)) (length words - k * (g * length us)) words w) (put_mid (g * length us) (length totals - g * length us) totals t)
+          all-refused r =
               rw (words_back, totals-back)
               (refused_there o words₀ totals₀ (done g) words totals f done-fits.0 done-fits.1 ss (ap (all_scored o) parted ∙ some_unscored o (done g) next (flat (drop (suc g) gs)) r.refused) next w t (rw (words-lent, totals-lent) at r) (omega (arith, all-items, length-append (flat next) (flat (flat (drop (suc g) gs))))) (omega (arith, all-sentences, length-append next (flat (drop (suc g) gs)))))
             where

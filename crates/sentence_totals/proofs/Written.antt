@@ -1,12 +1,13 @@
 -- The listing as it is written, stretch by stretch: some sentences, and then those of a further stretch of the slices. Assumes nothing.
+use Rattle.std.specs.declared.option.Option.{Option}
 use mathlib.Core.Path.{◌≡◌, refl, sym, ap, ap₂, ◌∙◌}
 use mathlib.Core.Bool.{Bool, true, false, ◌&&◌, and_assoc}
 use mathlib.Core.List.{List, [], ◌∷◌, ◌++◌, map, append_assoc, append-nil, map-append}
-use mathlib.Core.Option.{Option}
 use Prim.Native.Nat.{ℕ, suc, ◌+◌, ◌-◌, ◌≤◌, ◌<◌}
 use native.Mathlib.Omega.{arith}
-use lib.ListN.{length, take, drop, set, length-append, length-map, length-drop, drop_of_length-le}
-use lib.Seq.{take_all, take_at, drop_at, drop-drop, drop-append-add, set_split, length-take-le}
+use native.Mathlib.Numerals.{add-one}
+use lib.ListN.{length, take, drop, get_or, set, length-append, length-map, length-drop, drop_of_length-le}
+use lib.Seq.{paste, length_paste_head, drop-cons, set_at, append_snoc, take_all, take_at, drop_at, drop-drop, drop-append-add, set_split, length-take-le}
 use lib.IntN.{ℤ}
 use borrow.Rule.Slice.PartMut.{mid_of, put_mid}
 use Rattle.integer.proofs.Arithmetic.{and_no}
@@ -159,3 +160,20 @@ module _ (o : Option Store) (words₀ : List ℕ) (totals₀ : List ℤ) where
           words-past = past_part at (length (flat more)) (length (flat ss)) words₀ words w (past-written (flat done) words₀ words f.words_are at words_fit (omega arith)) r.words-past words_fit h;
           totals-past = past_part i (length more) (length ss) totals₀ totals t (past-written (map (sentence_total o) done) totals₀ totals f.totals_are i (omega (arith, counted)) (omega (arith, counted))) r.totals-past totals_fit l;
         }
+
+-- ---- a sentence's words, as they are written
+
+-- the last word behind the others
+last-behind : (d : List ℕ) (at : ℕ) (s : List ℕ) (n x : ℕ) → at + n < length d → n ≤ length s → set (paste d at s n) (at + n) x ≡ (take at d ++ (take n s ++ (x ∷ []))) ++ drop (at + n + 1) d
+last-behind d at s n x h l =
+    rw (drop-cons d (at + n) 0 h, add-one)
+    (set_at (take at d ++ take n s) (get_or d (at + n) 0) _ x (at + n) (length_paste_head d at s n (omega arith) l)
+    ∙ sym (append_snoc (take at d ++ take n s) x _)
+    ∙ ap (λ (r : List ℕ). r ++ drop (suc (at + n)) d) (append_assoc (take at d) (take n s) (x ∷ [])))
+
+-- a part of a list in front of another, written at once
+put-paste : (d : List ℕ) (at k : ℕ) (s new : List ℕ) (n : ℕ) → k ≡ n → new ≡ take n s → put_mid at k d new ≡ paste d at s n
+put-paste d at k s new n e f = rw (e, f) (ap (λ (r : List ℕ). take at d ++ (take n s ++ r)) (drop-drop n at d) ∙ sym (append_assoc (take at d) (take n s) (drop (at + n) d)))
+
+pub sentence-written : (d : List ℕ) (at k : ℕ) (s new : List ℕ) (n x : ℕ) → at + n < length d → n ≤ length s → k ≡ n → new ≡ take n s → set (put_mid at k d new) (at + n) x ≡ (take at d ++ (take n s ++ (x ∷ []))) ++ drop (at + n + 1) d
+sentence-written d at k s new n x h l e f = ap (λ (w : List ℕ). set w (at + n) x) (put-paste d at k s new n e f) ∙ last-behind d at s n x h l

@@ -1,6 +1,7 @@
 -- What the functions of the totals are held to: the sentences in front of two slices, or one of them refused. Assumes nothing.
-use Rattle.std.specs.Prelude.{◌≡◌, Bool, true, false, List, map, ℕ, length, drop, ℤ}
-use Rattle.std.proofs.Math.Option.{Option}
+use Rattle.std.specs.declared.option.Option.{Option}
+use Rattle.std.specs.declared.option.Option.TheVariants.{Some, None}
+use Rattle.std.specs.Prelude.{◌≡◌, true, false, List, map, ℕ, length, drop, ℤ}
 use Rattle.backoff.specs.Run.{written}
 use Rattle.backoff.specs.Runs.{flat}
 use Rattle.backoff.specs.Store.{Store}
@@ -33,6 +34,6 @@ pub record OneRefused (o : Option Store) (ss : List (List ℕ)) (words₀ : List
   pub words-past : Past (length (flat ss)) words₀ words
   pub totals-past : Past (length ss) totals₀ totals
 
-abbrev pub WrittenOver : Option Store → List (List ℕ) → List ℕ → List ℤ → Bool → List ℕ → List ℤ → Type 0
-WrittenOver o ss words₀ totals₀ true words totals = AllWritten o ss words₀ totals₀ words totals
-WrittenOver o ss words₀ totals₀ false words totals = OneRefused o ss words₀ totals₀ words totals
+abbrev pub WrittenOver : Option Store → List (List ℕ) → List ℕ → List ℤ → Option Unit → List ℕ → List ℤ → Type 0
+WrittenOver o ss words₀ totals₀ (Some _) words totals = AllWritten o ss words₀ totals₀ words totals
+WrittenOver o ss words₀ totals₀ None words totals = OneRefused o ss words₀ totals₀ words totals

@@ -1,7 +1,7 @@
 -- The total of a sentence, over any store as start and run are lent one: by one run over its words and its 3, and by a run of the 3 apart. The sentence quoted is
 -- that of document 02, T-12. Assumes nothing.
+use Rattle.std.specs.declared.option.Option.{Option}
 use Rattle.std.specs.Prelude.{◌≡◌, Bool, true, ◌&&◌, List, [], ◌∷◌, ◌++◌, map, ℕ, replicate, ℤ, pos, ◌+ℤ◌, eqb}
-use Rattle.std.proofs.Math.Option.{Option}
 use Rattle.backoff.specs.Limits.{end_word}
 use Rattle.backoff.specs.Run.{Run, Answer}
 use Rattle.backoff.specs.NineNumbers.{all}

@@ -1,128 +1,87 @@
 // The totals of small sentences over any lent double array: the sentences and their totals in two slices, written group by group, or cleared.
 #![tactic(auto)]
 
-ghost use Rattle.std.specs.Prelude.{◌≡◌, true, [], ◌∷◌, ◌++◌, ◌+◌, ◌-◌, ◌*◌, ◌^◌, ◌≤◌, ◌<◌, length, take, drop, replicate, pos};
-ghost use Rattle.backoff.specs.Limits.{sentence_limit, usable_limit};
-ghost use Rattle.double_array.specs.DoubleArray.{is_array, opened};
+ghost use Rattle.std.specs.Prelude.{◌≡◌, [], ◌∷◌, ◌++◌, ◌+◌, ◌-◌, ◌*◌, ◌^◌, ◌≤◌, ◌<◌, length, take, drop, replicate, pos};
+ghost use Rattle.backoff.specs.Limits.{sentence_limit};
+ghost use Rattle.double_array.specs.DoubleArray.{opened};
 ghost use Rattle.sentence_order.specs.Sentences.{ended_by, sentences_of};
 ghost use Rattle.sentence_order.specs.Inner.{sentence_at, AllUsable};
+ghost use Rattle.sentence_order.specs.Usable.{listed};
 ghost use Rattle.sentence_totals.specs.Inner.{Begins, WrittenOver};
 
 use carried_state::State;
-use sums::Closed;
+use double_array::Array;
+use sentence_order::Usable;
 
 // A sentence's words, from `at` on: the first `count` of these, and its last one.
 fn write_sentence(words: &mut [u32], at: usize, first: [u32; 4], count: usize, last: u32)
     requires { (at + count < length words.old) × (count < sentence_limit) }
     ensures { words.new ≡ take at words.old ++ (take count first ++ (last ∷ [])) ++ drop (at + count + 1) words.old }
 {
-    let mut j = 0;
-    while j < count {
-        words[at + j] = first[j];
-        j += 1;
-    }
+    words[at..at + count].copy_from_slice(&first[..count]);
     words[at + count] = last;
 }
 
-// The sentences whose first k - 1 words are those of number g, each with its total; whether none of them is refused. What they share is scored once.
+// The sentences whose first k - 1 words are those of number g, each with its total; nothing if one of them is refused. What they share is scored once.
 fn write_group(
-    base: &[i32],
-    check: &[i32],
+    array: Array,
     state: State,
-    usable: [u32; 16],
-    count: usize,
+    usable: &Usable,
     k: usize,
     g: usize,
     words: &mut [u32],
     totals: &mut [i64],
-) -> bool
-    requires begins { Begins base.now check.now state }
-    requires count_nonzero { ((0 < count) × (count ≤ usable_limit)) × AllUsable check.now (take count usable) }
+) -> Option<()>
+    requires begins { Begins array.base.now array.check.now state }
+    requires count_nonzero { (0 < usable.now.count) × AllUsable array.check.now (listed usable.now) }
     requires le_k { (1 ≤ k) × (k ≤ sentence_limit) }
-    requires count_in_bounds { (k * count ≤ length words.old) × (count ≤ length totals.old) }
-    ensures { WrittenOver (opened base.now check.now) (ended_by (take count usable) (sentence_at (take count usable) (k - 1) g)) words.old totals.old result words.new totals.new }
+    requires count_in_bounds { (k * usable.now.count ≤ length words.old) × (usable.now.count ≤ length totals.old) }
+    ensures { WrittenOver (opened array.entry.base.now array.entry.check.now) (ended_by (listed usable.now) (sentence_at (listed usable.now) (k - 1) g)) words.old totals.old result words.new totals.new }
 {
-    let order = double_array::order_of(check);
     let shared = k - 1;
-    let first = sentence_order::nth_sentence(usable, count, shared, g);
-    let before = sums::sum_words(base, check, order, state, &first[..shared]);
-    if before.number != 0 {
-        return false;
-    }
-    let end = before.end;
-    let carried = carried_state::pack(end);
-    let backoffs = carried_state::lent(end);
-    let closing = word_step::replaced(check, backoff::END_WORD);
-    let mut j = 0;
-    while j < count {
-        let last = usable[j];
-        let closed = sums::sum_closed(base, check, order, carried, backoffs, last, closing);
-        let Closed::Points(points) = closed else {
-            return false;
-        };
-        write_sentence(words, k * j, first, shared, last);
+    let first = usable.nth_sentence(shared, g);
+    let before = sums::sum_words(array, state, &first[..shared]).ok()?;
+    let carried = before.end.pack();
+    let backoffs = before.end.lent();
+    let closing = word_step::replaced(array.check, backoff::END_WORD);
+    for (j, last) in usable.words().iter().enumerate() {
+        let points = sums::sum_closed(array, carried, backoffs, *last, closing)?;
+        write_sentence(words, k * j, first, shared, *last);
         totals[j] = before.total + points;
-        j += 1;
     }
-    true
+    Some(())
 }
 
-// Each sentence in turn, with its total; whether none of them is refused.
+// Each sentence in turn, with its total; nothing if one of them is refused.
 pub fn write_all(
-    base: &[i32],
-    check: &[i32],
-    usable: [u32; 16],
-    count: usize,
+    array: Array,
+    usable: &Usable,
     k: usize,
     words: &mut [u32],
     totals: &mut [i64],
-) -> bool
-    requires check_value { is_array base.now check.now ≡ true }
-    requires count_le_usable_limit { (count ≤ usable_limit) × AllUsable check.now (take count usable) }
+) -> Option<()>
+    requires all_usable { AllUsable array.check.now (listed usable.now) }
     requires le_k { (1 ≤ k) × (k ≤ sentence_limit) }
-    requires k_in_bounds { (k * count ^ k ≤ length words.old) × (count ^ k ≤ length totals.old) }
-    ensures { WrittenOver (opened base.now check.now) (sentences_of k (take count usable)) words.old totals.old result words.new totals.new }
+    requires k_in_bounds { (k * usable.now.count ^ k ≤ length words.old) × (usable.now.count ^ k ≤ length totals.old) }
+    ensures { WrittenOver (opened array.entry.base.now array.entry.check.now) (sentences_of k (listed usable.now)) words.old totals.old result words.new totals.new }
 {
-    if count == 0 {
-        return true;
+    if usable.count == 0 {
+        return Some(());
     }
-    let started = score::start(base, check);
-    if started.number != 0 {
-        return false;
-    }
-    let state = started.state;
-    let groups = sentence_order::power(count, k - 1);
-    let mut g = 0;
-    while g < groups {
-        let from = g * count;
-        let at = k * from;
-        if !write_group(
-            base,
-            check,
+    let state = score::start(array.base, array.check).ok()?;
+    for g in 0..usable.power(k - 1) {
+        let from = g * usable.count;
+        write_group(
+            array,
             state,
             usable,
-            count,
             k,
             g,
-            &mut words[at..],
+            &mut words[k * from..],
             &mut totals[from..],
-        ) {
-            return false;
-        }
-        g += 1;
+        )?;
     }
-    true
-}
-
-// Writes 0 everywhere.
-fn zero_totals(totals: &mut [i64])
-    ensures { totals.new ≡ replicate (length totals.old) (pos 0) }
-{
-    let mut i = 0;
-    while i < totals.len() {
-        totals[i] = 0;
-        i += 1;
-    }
+    Some(())
 }
 
 // Writes 0 over the listing's items, as refusal 12 leaves them.
@@ -131,6 +90,6 @@ pub fn clear(words: &mut [u32], totals: &mut [i64], items: usize, sentences: usi
     ensures words { words.new ≡ replicate items 0 ++ drop items words.old }
     ensures totals { totals.new ≡ replicate sentences (pos 0) ++ drop sentences totals.old }
 {
-    double_array::zero(&mut words[..items]);
-    zero_totals(&mut totals[..sentences]);
+    words[..items].fill(0);
+    totals[..sentences].fill(0);
 }

@@ -1,9 +1,10 @@
 -- What the outcome of the listing means. Assumes nothing.
+use Rattle.std.specs.declared.option.Option.{Option}
+use Rattle.std.specs.declared.option.Option.TheVariants.{Some}
 use mathlib.Core.Path.{◌≡◌, refl, sym, ap, ◌∙◌}
 use mathlib.Core.Logic.{◌⊎◌, inl, inr}
 use mathlib.Core.Bool.{Bool, true, false, cond, ◌||◌, true≢false}
 use mathlib.Core.List.{List, [], ◌∷◌, ◌++◌, map, append_assoc}
-use mathlib.Core.Option.{Option, some}
 use Prim.Native.Nat.{ℕ, zero, suc, ◌+◌, ◌*◌, ◌^◌, ◌≤◌, ◌<◌}
 use native.Mathlib.Omega.{arith}
 use lib.Dec.{eqb, ltb}
@@ -67,21 +68,21 @@ part_of k (x ∷ xs) f rest (suc i) h = rw (more, append_assoc x (flat xs) rest,
 
 -- ---- an accepted listing
 
-module _ (S : Store) (k : ℕ) (words : List ℕ) (totals : List ℤ) (scored : all_scored (some S) (sentences_over (some S) k) ≡ true) where
+module _ (S : Store) (k : ℕ) (words : List ℕ) (totals : List ℤ) (scored : all_scored (Some S) (sentences_over (Some S) k) ≡ true) where
   abbrev ss : List (List ℕ)
-  ss = sentences_over (some S) k
+  ss = sentences_over (Some S) k
 
-  full_means : Listed S k words totals (full_listing (some S) ss words totals)
+  full_means : Listed S k words totals (full_listing (Some S) ss words totals)
   unfolding full_listing written
   full_means = record {
     lists_all = listed_exactly_once S k;
     sentences = refl;
     count = length-sentences (usable_words S) k;
     words_of = λ i h. part_of k ss (each_long (usable_words S) k) _ i h;
-    scored = λ i h. unfold all_scored in all_passes (is_scored (some S)) [] ss scored i h;
-    total_of = λ i h. get_or-append (map (sentence_total (some S)) ss) _ (pos 0) i (omega (arith, length-map ss (sentence_total (some S)))) ∙ get_or-map_in (sentence_total (some S)) ss i [] (pos 0) h;
+    scored = λ i h. unfold all_scored in all_passes (is_scored (Some S)) [] ss scored i h;
+    total_of = λ i h. get_or-append (map (sentence_total (Some S)) ss) _ (pos 0) i (omega (arith, length-map ss (sentence_total (Some S)))) ∙ get_or-map_in (sentence_total (Some S)) ss i [] (pos 0) h;
     words-past = rw (items, drop_at (flat ss) _ (length (flat ss)) refl);
-    totals-past = rw (sym (length-map ss (sentence_total (some S))), drop_at (map (sentence_total (some S)) ss) _ (length (map (sentence_total (some S)) ss)) refl);
+    totals-past = rw (sym (length-map ss (sentence_total (Some S))), drop_at (map (sentence_total (Some S)) ss) _ (length (map (sentence_total (Some S)) ss)) refl);
   }
     where
       items : k * length ss ≡ length (flat ss)
@@ -135,7 +136,7 @@ module _ (base check : List ℤ) (k : ℕ) (words : List ℕ) (totals : List ℤ
   us = usable_words S
 
   abbrev sentences : List (List ℕ)
-  sentences = sentences_over (some S) k
+  sentences = sentences_over (Some S) k
 
   abbrev number : ℕ
   number = size_refusal k (length us) (length words) (length totals)
@@ -208,7 +209,7 @@ module _ (base check : List ℤ) (k : ℕ) (words : List ℕ) (totals : List ℤ
           go (scored q n) = n
           go (unscored q t) = absurd (true≢false (sym e ∙ q))
 
-      module _ (opens : o ≡ some S) where
+      module _ (opens : o ≡ Some S) where
         -- the first that is not scored
         unscored_one : all_scored o sentences ≡ false → (i : ℕ) × ((i < length sentences) × (is_scored o (get_or sentences i []) ≡ false))
         unfolding all_scored
@@ -237,7 +238,7 @@ module _ (base check : List ℤ) (k : ℕ) (words : List ℕ) (totals : List ℤ
                 let i = (listed_exactly_once S k).every s f in
                 not_stuck s f (ap (is_scored o) (sym i.1.1) ∙ (unfold all_scored in all_passes (is_scored o) [] sentences e i.0 i.1.0)) t
 
-        full-listing : all_scored o sentences ≡ true → ListingMeans base check k words totals (full_listing (some S) sentences words totals)
+        full-listing : all_scored o sentences ≡ true → ListingMeans base check k words totals (full_listing (Some S) sentences words totals)
         full-listing e = record {
           verdict = unfold full_listing in none-met e;
           place = unfold full_listing in refl;
@@ -260,11 +261,11 @@ module _ (base check : List ℤ) (k : ℕ) (words : List ℕ) (totals : List ℤ
   pub listing_means : ListingMeans base check k words totals (listing_outcome o k words totals)
   listing_means = go (is_array base check) refl
     where
-      opened_means : (array : is_array base check ≡ true) (a : Bool) → eqb number 0 ≡ a → (b : Bool) → all_scored (some S) sentences ≡ b → ListingMeans base check k words totals (cond a (cond b (full_listing (some S) sentences words totals) (broken_listing sentences words totals)) (record { listing = refused_listing number; words = words; totals = totals }))
+      opened_means : (array : is_array base check ≡ true) (a : Bool) → eqb number 0 ≡ a → (b : Bool) → all_scored (Some S) sentences ≡ b → ListingMeans base check k words totals (cond a (cond b (full_listing (Some S) sentences words totals) (broken_listing sentences words totals)) (record { listing = refused_listing number; words = words; totals = totals }))
       opened_means array false e b f = let n = eqb-false number 0 e in early_means number n (size-numbers (length us)) (sizes-met array n)
       opened_means array true e false f = let p = opened_some base check array in broken_means array (eqb-true _ _ e) p (rw p f)
       opened_means array true e true f = let p = opened_some base check array in full-listing array (eqb-true _ _ e) p (rw p f)
 
       go : (t : Bool) → is_array base check ≡ t → ListingMeans base check k words totals (listing_outcome o k words totals)
       go false q = unfold listing_outcome in rw (opened-none base check q) (early_means array_head (λ z. omega arith) (λ z. omega arith) (inl (met_when q)))
-      go true q = unfold listing_outcome listed in rw (opened_some base check q) (opened_means q (eqb number 0) refl (all_scored (some S) sentences) refl)
+      go true q = unfold listing_outcome listed in rw (opened_some base check q) (opened_means q (eqb number 0) refl (all_scored (Some S) sentences) refl)

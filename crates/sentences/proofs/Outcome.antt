@@ -1,9 +1,15 @@
 -- The outcome of the listing, by what meets it first. Assumes nothing.
+use Rattle.std.specs.declared.option.Option.{Option}
+use Rattle.std.specs.declared.result.Result.{Result}
+use Rattle.std.specs.declared.result.Result.TheVariants.{Ok, Err}
+use Rattle.std.specs.Result.{IsErrAnd}
+use Rattle.backoff.specs.declared.Reason.{Reason}
+use Rattle.backoff.specs.Refusal.{reason_number}
+use Rattle.sentences.specs.declared.Counted.{Counted}
+use Rattle.sentences.specs.Inner.{listing_of}
 use mathlib.Core.Path.{◌≡◌, refl, sym, ap, ◌∙◌}
-use mathlib.Core.Logic.{◌⊎◌, inl, inr}
-use mathlib.Core.Bool.{Bool, true, false, cond, ◌||◌, false≢true}
+use mathlib.Core.Bool.{Bool, true, false, cond, ◌||◌}
 use mathlib.Core.List.{List, ◌++◌}
-use mathlib.Core.Option.{Option}
 use Prim.Native.Nat.{ℕ, ◌*◌, ◌^◌, ◌≤◌, ◌<◌}
 use native.Mathlib.Omega.{arith}
 use lib.Dec.{ltb}
@@ -11,7 +17,6 @@ use lib.ListN.{length, take, drop, replicate, length-replicate}
 use lib.Seq.{length-take-le}
 use lib.IntN.{ℤ, pos}
 use borrow.Author.Tests.{eq-eqb, ne_eqb, lt-ltb, ltb-false}
-use Rattle.integer.proofs.Ranges.{lt_or_ge}
 use Rattle.backoff.specs.Limits.{usable_limit, sentence_limit, word_limit}
 use Rattle.backoff.specs.Refusal.{array_head, broken_node, short_slice, listing_size}
 use Rattle.backoff.specs.Run.{written}
@@ -19,13 +24,13 @@ use Rattle.backoff.specs.Runs.{flat}
 use Rattle.backoff.specs.Store.{Store}
 use Rattle.double_array.specs.DoubleArray.{is_array, store_in, opened}
 use Rattle.double_array.proofs.DoubleArray.{opened_some, opened-none}
-use Rattle.sentence_order.specs.declared.Usable.{Usable}
 use Rattle.sentence_order.specs.Sentences.{passing, usable_words, sentences_of}
-use Rattle.sentence_order.specs.Inner.{usable_child, Holds, AllUsable}
+use Rattle.sentence_order.specs.declared.Usable.{Usable}
+use Rattle.sentence_order.specs.Inner.{usable_child, AllUsable}
 use Rattle.sentence_order.proofs.Passing.{passing-each}
 use Rattle.sentence_order.proofs.Sentences.{length-sentences, length-flat}
 use Rattle.sentence_order.proofs.UsableWords.{usable-words_are}
-use Rattle.sentence_totals.specs.Inner.{WrittenOver}
+use Rattle.sentence_totals.specs.Inner.{AllWritten, OneRefused}
 use Rattle.sentences.specs.Listing.{Outcome, size_refusal, refused_listing, full_listing, broken_listing, listed, usable_over, listing_outcome}
 
 -- ---- the sentences, all of them or none
@@ -34,10 +39,9 @@ module _ (o : Option Store) (us : List ℕ) (k : ℕ) (words₀ : List ℕ) (tot
   abbrev ss : List (List ℕ)
   ss = sentences_of k us
 
-  pub full_outcome : (b : Bool) → b ≡ true → WrittenOver o ss words₀ totals₀ b words totals → (n : ℕ) → n ≡ length us ^ k → record { listing = record { number = 0; place = 0; sentences = n }; words = words; totals = totals } ≡ listed o ss words₀ totals₀
+  pub full_outcome : AllWritten o ss words₀ totals₀ words totals → (n : ℕ) → n ≡ length us ^ k → record { listing = record { number = 0; place = 0; sentences = n }; words = words; totals = totals } ≡ listed o ss words₀ totals₀
   unfolding listed full_listing
-  full_outcome false e w n c = absurd (false≢true e)
-  full_outcome true e w n c =
+  full_outcome w n c =
       rw w.scored
       (λ i. record {
         listing = record { number = 0; place = 0; sentences = (c ∙ sym (length-sentences us k)) i };
@@ -45,14 +49,12 @@ module _ (o : Option Store) (us : List ℕ) (k : ℕ) (words₀ : List ℕ) (tot
         totals = w.totals_are i;
       })
 
-  pub clear_fits : (b : Bool) → b ≡ false → WrittenOver o ss words₀ totals₀ b words totals → (length words ≡ length words₀) × (length totals ≡ length totals₀)
-  clear_fits true e w = absurd (false≢true (sym e))
-  clear_fits false e w = (w.words-past.long, w.totals-past.long)
+  pub clear_fits : OneRefused o ss words₀ totals₀ words totals → (length words ≡ length words₀) × (length totals ≡ length totals₀)
+  clear_fits w = (w.words-past.long, w.totals-past.long)
 
-  pub broken_outcome : (b : Bool) → b ≡ false → WrittenOver o ss words₀ totals₀ b words totals → (items n : ℕ) → items ≡ k * length us ^ k → n ≡ length us ^ k → (words' : List ℕ) (totals' : List ℤ) → words' ≡ replicate items 0 ++ drop items words → totals' ≡ replicate n (pos 0) ++ drop n totals → record { listing = refused_listing broken_node; words = words'; totals = totals' } ≡ listed o ss words₀ totals₀
+  pub broken_outcome : OneRefused o ss words₀ totals₀ words totals → (items n : ℕ) → items ≡ k * length us ^ k → n ≡ length us ^ k → (words' : List ℕ) (totals' : List ℤ) → words' ≡ replicate items 0 ++ drop items words → totals' ≡ replicate n (pos 0) ++ drop n totals → record { listing = refused_listing broken_node; words = words'; totals = totals' } ≡ listed o ss words₀ totals₀
   unfolding listed broken_listing written
-  broken_outcome true e w items n f c words' totals' p q = absurd (false≢true (sym e))
-  broken_outcome false e w items n f c words' totals' p q =
+  broken_outcome w items n f c words' totals' p q =
       let g : items ≡ length (flat ss) = f ∙ sym (length-flat us k) in
       let h : n ≡ length ss = c ∙ sym (length-sentences us k) in
       rw w.refused
@@ -64,20 +66,14 @@ module _ (o : Option Store) (us : List ℕ) (k : ℕ) (words₀ : List ℕ) (tot
 
 -- ---- the sizes
 
--- a count of more than sixteen refuses as any larger number does
-size_same : (us : List ℕ) (r : Usable) → length r.words ≡ usable_limit → Holds us r → (k words totals : ℕ) → size_refusal k r.count words totals ≡ size_refusal k (length us) words totals
-size_same us r long h k words totals = go (lt_or_ge usable_limit r.count)
+-- more than sixteen words
+many : (k v words totals : ℕ) → usable_limit < v → size_refusal k v words totals ≡ listing_size
+unfolding size_refusal
+many k v words totals l = rw (lt-ltb usable_limit v l) (go (ltb k 1 || ltb sentence_limit k))
   where
-    many : (v : ℕ) → usable_limit < v → size_refusal k v words totals ≡ cond ((ltb k 1 || ltb sentence_limit k) || true) listing_size 0
-    many v l = unfold size_refusal in rw (lt-ltb usable_limit v l) (go (ltb k 1 || ltb sentence_limit k))
-      where
-        go : (b : Bool) → cond (b || true) listing_size (cond (ltb words (k * v ^ k) || ltb totals (v ^ k)) short_slice 0) ≡ cond (b || true) listing_size 0
-        go true = refl
-        go false = refl
-
-    go : (usable_limit < r.count) ⊎ (r.count ≤ usable_limit) → size_refusal k r.count words totals ≡ size_refusal k (length us) words totals
-    go (inl l) = many r.count l ∙ sym (many (length us) (h.many l))
-    go (inr l) = ap (λ (v : ℕ). size_refusal k v words totals) (sym (ap length (h.few l) ∙ length-take-le r.count r.words (omega arith)))
+    go : (b : Bool) → cond (b || true) listing_size (cond (ltb words (k * v ^ k) || ltb totals (v ^ k)) short_slice 0) ≡ listing_size
+    go true = refl
+    go false = refl
 
 -- what is known where neither 22 nor 15 refuses
 pub record Sized (k usable words totals : ℕ) : Type 0 where
@@ -110,28 +106,39 @@ module _ (base check : List ℤ) (k : ℕ) (words : List ℕ) (totals : List ℤ
     usable_over_lem : usable_over (opened base check) ≡ passing (usable_child check) word_limit
     usable_over_lem = rw (opened_some base check array) (usable-words_are base check array)
 
-    module _ (r : Usable) (long : length r.words ≡ usable_limit) (holds : Holds (passing (usable_child check) word_limit) r) (number : ℕ) (is : number ≡ size_refusal k r.count (length words) (length totals)) where
-      size_is : number ≡ size_refusal k (length (usable_words (store_in base check))) (length words) (length totals)
-      size_is = is ∙ size_same (passing (usable_child check) word_limit) r long holds k (length words) (length totals) ∙ ap (λ (us : List ℕ). size_refusal k (length us) (length words) (length totals)) (sym (usable-words_are base check array))
+    pub many_refused : usable_limit < length (passing (usable_child check) word_limit) → record { listing = refused_listing listing_size; words = words; totals = totals } ≡ listing_outcome (opened base check) k words totals
+    unfolding listing_outcome
+    many_refused l = rw (opened_some base check array, many k (length (usable_words (store_in base check))) (length words) (length totals) (omega (arith, l, ap length (usable-words_are base check array))))
 
-      pub refused_early : (number ≡ 0 → ⊥) → record { listing = refused_listing number; words = words; totals = totals } ≡ listing_outcome (opened base check) k words totals
-      unfolding listing_outcome
-      refused_early n = rw (opened_some base check array, sym size_is, ne_eqb number 0 n)
+    module _ (r : Usable) (holds : passing (usable_child check) word_limit ≡ take r.count r.words) where
+      words-held : usable_over (opened base check) ≡ take r.count r.words
+      words-held = usable_over_lem ∙ holds
 
-      pub sizes : number ≡ 0 → Sized k r.count (length words) (length totals)
-      sizes z = sized k r.count (length words) (length totals) (sym is ∙ z)
+      pub all-usable : AllUsable check (take r.count r.words)
+      all-usable = rw (← holds) (λ j h. (passing-each (usable_child check) word_limit j h).passes)
 
-      words-held : number ≡ 0 → usable_over (opened base check) ≡ take r.count r.words
-      words-held z = usable_over_lem ∙ holds.few (sizes z).few
+      pub count_held : r.count ≡ length (usable_over (opened base check))
+      count_held = sym (ap length words-held ∙ length-take-le r.count r.words (omega (arith, r.few, r.long)))
 
-      pub all-usable : number ≡ 0 → AllUsable check (take r.count r.words)
-      all-usable z = rw (← holds.few (sizes z).few) (λ j h. (passing-each (usable_child check) word_limit j h).passes)
+      module _ (number : ℕ) (is : number ≡ size_refusal k r.count (length words) (length totals)) where
+        size_is : number ≡ size_refusal k (length (usable_words (store_in base check))) (length words) (length totals)
+        size_is = is ∙ ap (λ (v : ℕ). size_refusal k v (length words) (length totals)) (sym (ap length (usable-words_are base check array ∙ holds) ∙ length-take-le r.count r.words (omega (arith, r.few, r.long))))
 
-      pub count_held : number ≡ 0 → r.count ≡ length (usable_over (opened base check))
-      count_held z = sym (ap length (words-held z) ∙ length-take-le r.count r.words (omega (arith, (sizes z).few)))
+        pub refused_early : (number ≡ 0 → ⊥) → record { listing = refused_listing number; words = words; totals = totals } ≡ listing_outcome (opened base check) k words totals
+        unfolding listing_outcome
+        refused_early n = rw (opened_some base check array, sym size_is, ne_eqb number 0 n)
 
-      pub listed_late : (z : number ≡ 0) (x : Outcome) → x ≡ listed (opened base check) (sentences_of k (take r.count r.words)) words totals → x ≡ listing_outcome (opened base check) k words totals
-      listed_late z x e = e ∙ ap (λ (us : List ℕ). listed (opened base check) (sentences_of k us) words totals) (sym (words-held z)) ∙ late
-        where
-          late : listed (opened base check) (sentences_of k (usable_over (opened base check))) words totals ≡ listing_outcome (opened base check) k words totals
-          late = unfold listing_outcome in rw (opened_some base check array, sym size_is, eq-eqb number 0 z)
+        pub sizes : number ≡ 0 → Sized k r.count (length words) (length totals)
+        sizes z = sized k r.count (length words) (length totals) (sym is ∙ z)
+
+        pub listed_late : (z : number ≡ 0) (x : Outcome) → x ≡ listed (opened base check) (sentences_of k (take r.count r.words)) words totals → x ≡ listing_outcome (opened base check) k words totals
+        listed_late z x e = e ∙ ap (λ (us : List ℕ). listed (opened base check) (sentences_of k us) words totals) (sym words-held) ∙ late
+          where
+            late : listed (opened base check) (sentences_of k (usable_over (opened base check))) words totals ≡ listing_outcome (opened base check) k words totals
+            late = unfold listing_outcome in rw (opened_some base check array, sym size_is, eq-eqb number 0 z)
+
+-- ---- a refusal that is passed on
+
+pub listing-refused : (r : Result Counted Reason) (x : Reason) → IsErrAnd r (λ y. y ≡ x) → listing_of r ≡ refused_listing (reason_number x)
+listing-refused (Ok c) x h = absurd h
+listing-refused (Err e) x h = rw h

@@ -1,7 +1,8 @@
 -- The outcome of the listing of all small sentences, over any store as start and run are lent one, and over any two slices. The sentences quoted are those of
 -- document 02, T-12. Assumes nothing.
+use Rattle.std.specs.declared.option.Option.{Option}
+use Rattle.std.specs.declared.option.Option.TheVariants.{Some, None}
 use Rattle.std.specs.Prelude.{cond, ◌||◌, List, [], map, ℕ, ◌*◌, ◌^◌, length, replicate, ℤ, pos, eqb, ltb}
-use Rattle.std.proofs.Math.Option.{Option, none, some}
 use Rattle.backoff.specs.Limits.{sentence_limit, usable_limit}
 use Rattle.backoff.specs.Refusal.{array_head, broken_node, short_slice, listing_size}
 use Rattle.backoff.specs.Run.{written}
@@ -22,8 +23,8 @@ size_refusal k usable words totals =
     (cond (ltb words (k * usable ^ k) || ltb totals (usable ^ k)) short_slice 0)
 
 abbrev pub early_refusal : Option Store → ℕ → ℕ → ℕ → ℕ
-early_refusal none k words totals = array_head
-early_refusal (some S) k words totals = size_refusal k (length (usable_words S)) words totals
+early_refusal None k words totals = array_head
+early_refusal (Some S) k words totals = size_refusal k (length (usable_words S)) words totals
 
 -- ---- the listing
 
@@ -62,8 +63,8 @@ module _ (o : Option Store) (ss : List (List ℕ)) (words : List ℕ) (totals : 
 
 -- the usable words of the array that is lent, none where 11 refuses it, and the sentences of k of them
 abbrev pub usable_over : Option Store → List ℕ
-usable_over none = []
-usable_over (some S) = usable_words S
+usable_over None = []
+usable_over (Some S) = usable_words S
 
 module _ (o : Option Store) (k : ℕ) where
   abbrev pub sentences_over : List (List ℕ)

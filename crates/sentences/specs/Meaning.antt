@@ -1,7 +1,7 @@
 -- What a listing means: every sentence of k usable words, each once and ascending, with its total; and when each number is returned. The sentences quoted
 -- are those of document 02, T-12. Assumes nothing.
+use Rattle.std.specs.declared.option.Option.TheVariants.{Some}
 use Rattle.std.specs.Prelude.{◌≡◌, ◌⊎◌, true, false, List, [], ◌∷◌, ℕ, ◌*◌, ◌^◌, ◌<◌, length, take, drop, get_or, ℤ, pos}
-use Rattle.std.proofs.Math.Option.{some}
 use Rattle.backoff.specs.Limits.{sentence_limit, usable_limit}
 use Rattle.backoff.specs.Refusal.{array_head, broken_node, short_slice, listing_size}
 use Rattle.backoff.specs.FirstMet.{Line, ◌when◌, FirstMet}
@@ -15,13 +15,13 @@ use Rattle.sentences.specs.Listing.{Outcome, usable_over, sentences_over}
 
 -- an accepted listing over a store
 pub record Listed (S : Store) (k : ℕ) (words : List ℕ) (totals : List ℤ) (r : Outcome) : Type 0 where
-  pub lists_all : ListsAll S k (sentences_over (some S) k)
-  pub sentences : r.listing.sentences ≡ length (sentences_over (some S) k)
-  pub count : length (sentences_over (some S) k) ≡ length (usable_over (some S)) ^ k
+  pub lists_all : ListsAll S k (sentences_over (Some S) k)
+  pub sentences : r.listing.sentences ≡ length (sentences_over (Some S) k)
+  pub count : length (sentences_over (Some S) k) ≡ length (usable_over (Some S)) ^ k
   -- the i-th sentence's words and its total
-  pub words_of : (i : ℕ) → i < r.listing.sentences → take k (drop (k * i) r.words) ≡ get_or (sentences_over (some S) k) i []
-  pub scored : (i : ℕ) → i < r.listing.sentences → is_scored (some S) (get_or (sentences_over (some S) k) i []) ≡ true
-  pub total_of : (i : ℕ) → i < r.listing.sentences → get_or r.totals i (pos 0) ≡ sentence_total (some S) (get_or (sentences_over (some S) k) i [])
+  pub words_of : (i : ℕ) → i < r.listing.sentences → take k (drop (k * i) r.words) ≡ get_or (sentences_over (Some S) k) i []
+  pub scored : (i : ℕ) → i < r.listing.sentences → is_scored (Some S) (get_or (sentences_over (Some S) k) i []) ≡ true
+  pub total_of : (i : ℕ) → i < r.listing.sentences → get_or r.totals i (pos 0) ≡ sentence_total (Some S) (get_or (sentences_over (Some S) k) i [])
   -- what lies past the listing is as it was
   pub words-past : drop (k * r.listing.sentences) r.words ≡ drop (k * r.listing.sentences) words
   pub totals-past : drop r.listing.sentences r.totals ≡ drop r.listing.sentences totals
@@ -44,9 +44,9 @@ listing_refusals base check k words totals =
 pub record ListingMeans (base check : List ℤ) (k : ℕ) (words : List ℕ) (totals : List ℤ) (r : Outcome) : Type 0 where
   pub verdict : FirstMet (listing_refusals base check k words totals) r.listing.number r.listing.place
   pub place : r.listing.place ≡ 0
-  pub accepted : r.listing.number ≡ 0 → (S : Store) × ((opened base check ≡ some S) × Listed S k words totals r)
+  pub accepted : r.listing.number ≡ 0 → (S : Store) × ((opened base check ≡ Some S) × Listed S k words totals r)
   pub refused : (r.listing.number ≡ 0 → ⊥) → r.listing.sentences ≡ 0
   -- but for 12, a refusal writes nothing
   pub untouched : (r.listing.number ≡ 0 → ⊥) → (r.listing.number ≡ broken_node → ⊥) → (r.words ≡ words) × (r.totals ≡ totals)
-  -- 12 is met by some sentence of the listing
+  -- 12 is met by Some sentence of the listing
   pub broken : r.listing.number ≡ broken_node → (i : ℕ) × ((i < length (sentences_over (opened base check) k)) × (is_scored (opened base check) (get_or (sentences_over (opened base check) k) i []) ≡ false))

@@ -1,9 +1,9 @@
 -- Sentence by sentence, as the code's loop has them: those before the i-th are scored, each on its own stretch, and the others are left. Assumes
 -- nothing.
+use Rattle.std.specs.declared.option.Option.{Option}
 use mathlib.Core.Path.{◌≡◌, refl, sym, ap, ap₂, ◌∙◌}
 use mathlib.Core.Bool.{true, false, cond}
 use mathlib.Core.List.{List, [], ◌∷◌, ◌++◌, map, append_assoc, map-append}
-use mathlib.Core.Option.{Option}
 use Prim.Native.Nat.{ℕ, suc, ◌+◌, ◌*◌, ◌-◌, ◌%◌, ◌≤◌, ◌<◌}
 use native.Mathlib.Numerals.{add-one}
 use native.Mathlib.Omega.{arith}
@@ -22,9 +22,10 @@ use Rattle.sentence_ends.specs.Ends.{last_end, bad_end}
 use Rattle.sentence_ends.proofs.Ends.{last_end-next, good-end, good-last}
 use Rattle.closed_sentence.specs.Sentence.{words_run, closed, is_scored, sentence_total}
 use Rattle.closed_sentence.proofs.Calls.{total_limit}
+use Rattle.stretches.specs.declared.Counts.{Counts}
 use Rattle.stretches.specs.Stretches.{sentence, sentences, word_points, word_bytes, closing_bytes, total_of, first_refused}
 use Rattle.stretches.specs.Inner.{counted, Tallied, AllScored, OneRefused}
-use Rattle.stretches.proofs.Counters.{tallied_small, tallied_closing, counted_small}
+use Rattle.stretches.proofs.Counters.{Small, tallied_small, tallied_closing, counted_small}
 
 -- ---- sentences in two parts
 
@@ -109,7 +110,7 @@ module _ (o : Option Store) (ends : List ℕ) (r : Run) where
   before i = sentences 0 (take i ends) r
 
   -- the sentences before the i-th are scored, and a words with them
-  pub record Batching (a i : ℕ) (total : ℤ) (points : List ℤ) (lengths counts : List ℕ) : Type 0 where
+  pub record Batching (a i : ℕ) (total : ℤ) (points : List ℤ) (lengths : List ℕ) (counts : Counts) : Type 0 where
     pub at : i ≤ length ends
     pub a_is : a ≡ last_end 0 (take i ends)
     pub rest : first_refused o 1 (sentences 0 ends r) ≡ first_refused o (suc i) (sentences a (drop i ends) r)
@@ -118,9 +119,9 @@ module _ (o : Option Store) (ends : List ℕ) (r : Run) where
     pub total-is : total ≡ total_of o (before i)
     pub total_small : nat_abs total ≤ i * total_limit
     pub tallied : Tallied (closing_bytes o (before i)) [] counts
-    pub counts_small : (k : ℕ) → get_or counts k 0 ≤ i
+    pub counts_small : Small counts i
 
-  pub batching_begins : (counts : List ℕ) → Tallied [] [] counts → Batching 0 0 (pos 0) r.points r.lengths counts
+  pub batching_begins : (counts : Counts) → Tallied [] [] counts → Batching 0 0 (pos 0) r.points r.lengths counts
   unfolding word_points word_bytes closing_bytes total_of sentences flat last_end
   batching_begins counts t = record {
     at = omega arith;
@@ -134,7 +135,7 @@ module _ (o : Option Store) (ends : List ℕ) (r : Run) where
     counts_small = tallied_small [] [] counts t;
   }
 
-  module _ (a i : ℕ) (total : ℤ) (points : List ℤ) (lengths counts : List ℕ) (b : Batching a i total points lengths counts) (h : i < length ends) (e : ℕ) (e-is : e ≡ get_or ends i 0) where
+  module _ (a i : ℕ) (total : ℤ) (points : List ℤ) (lengths : List ℕ) (counts : Counts) (b : Batching a i total points lengths counts) (h : i < length ends) (e : ℕ) (e-is : e ≡ get_or ends i 0) where
     abbrev next : Run
     next = sentence a e r
 
@@ -160,7 +161,7 @@ module _ (o : Option Store) (ends : List ℕ) (r : Run) where
       total-is = rw (next-before, total_of-one o (before i) next, sym b.total-is);
       total_small = omega (arith, add total (sentence_total o next), abs total, abs (sentence_total o next), abs (total +ℤ sentence_total o next), b.total_small);
       tallied = rw (next-before, closing_bytes-one o (before i) next, byte_is) (tallied_closing (closing_bytes o (before i)) counts b.tallied closing);
-      counts_small = counted_small (closing % 8) counts b.tallied.nine i b.counts_small;
+      counts_small = counted_small (closing % 8) counts b.tallied.eight i b.counts_small;
     }
 
     -- the next sentence is refused
@@ -180,7 +181,7 @@ module _ (o : Option Store) (ends : List ℕ) (r : Run) where
         }
 
   -- no sentence is left
-  pub batching_ends : (a i : ℕ) (total : ℤ) (points : List ℤ) (lengths counts : List ℕ) → Batching a i total points lengths counts → length ends ≤ i → AllScored o ends r total points lengths counts
+  pub batching_ends : (a i : ℕ) (total : ℤ) (points : List ℤ) (lengths : List ℕ) (counts : Counts) → Batching a i total points lengths counts → length ends ≤ i → AllScored o ends r (record { total = total; counts = counts }) points lengths
   batching_ends a i total points lengths counts b h = record {
     none-refused = b.rest ∙ (unfold first_refused sentences in rw (drop_of_length-le ends h));
     total-is = b.total-is ∙ ap (λ (es : List ℕ). total_of o (sentences 0 es r)) all;

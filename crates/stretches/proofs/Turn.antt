@@ -1,8 +1,9 @@
 -- One turn of the loop over the sentences: the next one is handed its stretch, from a to e, and is scored or refused. Assumes nothing.
-use mathlib.Core.Path.{◌≡◌, sym, ap, ap₂, subst, ◌∙◌}
+use Rattle.std.specs.declared.option.Option.{Option}
+use Rattle.std.specs.declared.option.Option.TheVariants.{Some, None}
+use mathlib.Core.Path.{◌≡◌, refl, sym, ap, ap₂, subst, ◌∙◌}
 use mathlib.Core.Bool.{true}
 use mathlib.Core.List.{List, [], ◌∷◌}
-use mathlib.Core.Option.{Option}
 use Prim.Native.Nat.{ℕ, ◌+◌, ◌-◌, ◌%◌, ◌≤◌, ◌<◌}
 use native.Mathlib.Omega.{arith}
 use lib.ListN.{length, get_or, take}
@@ -18,10 +19,10 @@ use Rattle.double_array.specs.DoubleArray.{opened}
 use Rattle.sentence_ends.specs.Ends.{last_end, bad_end}
 use Rattle.sentence_ends.proofs.Ends.{last_end-next, good-end, good-last}
 use Rattle.closed_sentence.specs.declared.Sentence.{Sentence}
-use Rattle.closed_sentence.specs.declared.Sentence.TheVariants.{Whole, Refused}
 use Rattle.closed_sentence.specs.Sentence.{closed, is_scored, sentence_total}
 use Rattle.closed_sentence.specs.Inner.{SentenceIs}
 use Rattle.closed_sentence.proofs.Calls.{closed-one, sentence-whole, sentence-refused, total_limit, sentence-total_small, total-back}
+use Rattle.stretches.specs.declared.Counts.{Counts}
 use Rattle.stretches.specs.Stretches.{stretch, sentence}
 use Rattle.stretches.specs.Inner.{counted, OneRefused}
 use Rattle.stretches.proofs.Stretches.{length-stretch}
@@ -35,7 +36,7 @@ pub record Within (a e words points lengths : ℕ) : Type 0 where
   pub in_lengths : e ≤ lengths
 
 -- the turn of the i-th sentence: those before it are scored, and nothing refuses the sheet early
-pub record Turn (base check : List ℤ) (ends : List ℕ) (r : Run) (a i : ℕ) (total : ℤ) (points : List ℤ) (lengths counts : List ℕ) (e : ℕ) : Type 0 where
+pub record Turn (base check : List ℤ) (ends : List ℕ) (r : Run) (a i : ℕ) (total : ℤ) (points : List ℤ) (lengths : List ℕ) (counts : Counts) (e : ℕ) : Type 0 where
   pub so_far : Batching (opened base check) ends r a i total points lengths counts
   pub inside : i < length ends
   pub end_is : e ≡ get_or ends i 0
@@ -45,13 +46,16 @@ pub record Turn (base check : List ℤ) (ends : List ℕ) (r : Run) (a i : ℕ) 
   pub in_points : last_end 0 ends ≤ length r.points
   pub in_lengths : last_end 0 ends ≤ length r.lengths
 
+pub turn-of : (base check : List ℤ) (ends : List ℕ) (r : Run) {a i : ℕ} {total : ℤ} {points : List ℤ} {lengths : List ℕ} {counts : Counts} → Batching (opened base check) ends r a i total points lengths counts → i < length ends → bad_end (length r.words) 1 0 ends ≡ 0 → length r.words ≤ run_limit → (length ends ≤ run_limit) × ((last_end 0 ends ≤ length r.points) × (last_end 0 ends ≤ length r.lengths)) → Turn base check ends r a i total points lengths counts (get_or ends i 0)
+turn-of base check ends r b h good few reach = record { so_far = b; inside = h; end_is = refl; good = good; few_words = few; few-ends = reach.0; in_points = reach.1.0; in_lengths = reach.1.1 }
+
 -- what the call over its stretch answered, and left there
-pub record Answered (base check : List ℤ) (words : List ℕ) (points : List ℤ) (lengths : List ℕ) (a e : ℕ) (answer : Sentence) (ps : List ℤ) (bs : List ℕ) : Type 0 where
+pub record Answered (base check : List ℤ) (words : List ℕ) (points : List ℤ) (lengths : List ℕ) (a e : ℕ) (answer : Option Sentence) (ps : List ℤ) (bs : List ℕ) : Type 0 where
   pub is : SentenceIs (opened base check) (record { words = stretch a e words; points = stretch a e points; lengths = stretch a e lengths }) answer ps bs
   pub points_kept : length ps ≡ length (stretch a e points)
   pub lengths-kept : length bs ≡ length (stretch a e lengths)
 
-module _ {base check : List ℤ} {ends : List ℕ} {r : Run} {a i : ℕ} {total : ℤ} {points : List ℤ} {lengths counts : List ℕ} {e : ℕ} (t : Turn base check ends r a i total points lengths counts e) where
+module _ {base check : List ℤ} {ends : List ℕ} {r : Run} {a i : ℕ} {total : ℤ} {points : List ℤ} {lengths : List ℕ} {counts : Counts} {e : ℕ} (t : Turn base check ends r a i total points lengths counts e) where
   abbrev o : Option Store
   o = opened base check
 
@@ -82,26 +86,32 @@ module _ {base check : List ℤ} {ends : List ℕ} {r : Run} {a i : ℕ} {total 
   next-room = (omega (arith, words_long, next-within.in_words, t.few_words), (omega (arith, words_long, points-long), omega (arith, words_long, lengths-long)))
 
   -- no counter is full
-  pub next-counts : (k : ℕ) → get_or counts k 0 < 4294967295
-  next-counts k = omega (arith, t.so_far.counts_small k, t.inside, t.few-ends)
+  pub next-counts : (k : ℕ) → (get_or counts.matched k 0 < 4294967295) × (counts.unknown < 4294967295)
+  next-counts k = (omega (arith, t.so_far.counts_small.matched k, t.inside, t.few-ends), omega (arith, t.so_far.counts_small.unknown, t.inside, t.few-ends))
 
   -- what it is lent is what stood there at first
   lent_is : record { words = stretch a e r.words; points = stretch a e points; lengths = stretch a e lengths } ≡ sentence a e r
   lent_is =
       ap₂ (λ (ps : List ℤ) (bs : List ℕ). record { words = stretch a e r.words; points = ps; lengths = bs }) (ap (take (e - a)) t.so_far.points-done.past) (ap (take (e - a)) t.so_far.lengths-done.past)
 
-  module _ {answer : Sentence} {ps : List ℤ} {bs : List ℕ} (w : Answered base check r.words points lengths a e answer ps bs) where
+  module _ {answer : Option Sentence} {ps : List ℤ} {bs : List ℕ} (w : Answered base check r.words points lengths a e answer ps bs) where
     next-is : SentenceIs o (sentence a e r) answer ps bs
     next-is = subst (λ (q : Run). SentenceIs o q answer ps bs) lent_is w.is
 
-    pub turn-refused : answer ≡ Refused → OneRefused o ends r i (put_back a e ps points) (put_back a e bs lengths)
+    pub turn-refused : answer ≡ None → OneRefused o ends r i (put_back a e ps points) (put_back a e bs lengths)
     turn-refused n =
         batching_refused o ends r a i total points lengths counts t.so_far t.inside e t.end_is t.good t.in_points t.in_lengths
         (sentence-refused o (sentence a e r) (sym n ∙ next-is.answer-is)) ps (w.points_kept ∙ points-long) bs (w.lengths-kept ∙ lengths-long)
 
-    module _ (y : ℤ) (c : ℕ) (whole : answer ≡ Whole y c) where
+    module _ (u : Sentence) (whole : answer ≡ Some u) where
+      abbrev y : ℤ
+      y = u.total
+
+      abbrev c : ℕ
+      c = u.closing
+
       scored : (is_scored o (sentence a e r) ≡ true) × ((y ≡ sentence_total o (sentence a e r)) × (c ≡ get_or (closed o (sentence a e r)).lengths 0 0))
-      scored = sentence-whole o (sentence a e r) y c (sym whole ∙ next-is.answer-is)
+      scored = let s = sentence-whole o (sentence a e r) u (sym whole ∙ next-is.answer-is) in (s.0, (ap (λ (v : Sentence). v.total) s.1, ap (λ (v : Sentence). v.closing) s.1))
 
       total_small : nat_abs y ≤ total_limit
       total_small = rw scored.1.0 (sentence-total_small base check (sentence a e r))
@@ -113,7 +123,7 @@ module _ {base check : List ℤ} {ends : List ℕ} {r : Run} {a i : ℕ} {total 
       next-added : to_z w64 (of_z w64 (total +ℤ to_z w64 (of_z w64 y))) ≡ total +ℤ y
       next-added = to_z-of_z next_fits ∙ ap (λ (v : ℤ). total +ℤ v) (total-back y total_small)
 
-      pub turn_on : (more : List ℕ) → more ≡ counted (c % 8) counts → Batching o ends r e (i + 1) (to_z w64 (of_z w64 (total +ℤ to_z w64 (of_z w64 y)))) (put_back a e ps points) (put_back a e bs lengths) more
+      pub turn_on : (more : Counts) → more ≡ counted (c % 8) counts → Batching o ends r e (i + 1) (to_z w64 (of_z w64 (total +ℤ to_z w64 (of_z w64 y)))) (put_back a e ps points) (put_back a e bs lengths) more
       turn_on more m =
           let q = sentence a e r in
           rw (next-added, m, scored.1.0)

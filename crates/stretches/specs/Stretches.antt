@@ -1,7 +1,7 @@
 -- Sentences cut from one slice of words by their ends, each on its own stretch, and what they come to over any store. The sentences quoted are document
 -- 02's, of T-04. Assumes nothing.
+use Rattle.std.specs.declared.option.Option.{Option}
 use Rattle.std.specs.Prelude.{cond, List, [], ◌∷◌, map, ℕ, suc, ◌-◌, take, drop, ℤ}
-use Rattle.std.proofs.Math.Option.{Option}
 use Rattle.integer.specs.Integer.{sum}
 use Rattle.backoff.specs.Run.{Run}
 use Rattle.backoff.specs.Runs.{flat}

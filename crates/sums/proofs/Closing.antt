@@ -1,4 +1,6 @@
 -- A sentence's last word and its 3, as the code's loop has them: what the words before the i-th came to, and what is left of the others. Assumes nothing.
+use Rattle.std.specs.declared.option.Option.{Option}
+use Rattle.std.specs.declared.option.Option.TheVariants.{Some, None}
 use mathlib.Core.Path.{◌≡◌, refl, sym, ap, ◌∙◌}
 use mathlib.Core.Bool.{true}
 use mathlib.Core.List.{List, [], ◌∷◌, ◌++◌}
@@ -25,18 +27,16 @@ use Rattle.carried_state.proofs.Carried.{carries_bounded}
 use Rattle.word_walk.proofs.Rows.{rows-in_probability}
 use Rattle.run_words.proofs.Sizes.{scored-sizes, SmallTotal}
 use Rattle.run_words.proofs.Running.{before_all}
-use Rattle.sums.specs.declared.Closed.{Closed}
-use Rattle.sums.specs.declared.Closed.TheVariants.{Points, Refused}
 use Rattle.sums.specs.Closing.{plus, plus_rest, points_over}
 use Rattle.sums.proofs.Pieces.{renumbered, run_renumbered, followed_by, run_append}
 
-plus_none : (r : Closed) → r ≡ plus (pos 0) r
-plus_none (Points y) = ap Points (sym (+ℤ_idl y))
-plus_none Refused = refl
+plus_none : (r : Option ℤ) → r ≡ plus (pos 0) r
+plus_none (Some y) = ap Some (sym (+ℤ_idl y))
+plus_none None = refl
 
-plus-plus : (x y : ℤ) (r : Closed) → plus x (plus y r) ≡ plus (x +ℤ y) r
-plus-plus x y (Points z) = ap Points (sym (+ℤ_assoc x y z))
-plus-plus x y Refused = refl
+plus-plus : (x y : ℤ) (r : Option ℤ) → plus x (plus y r) ≡ plus (x +ℤ y) r
+plus-plus x y (Some z) = ap Some (sym (+ℤ_assoc x y z))
+plus-plus x y None = refl
 
 -- the words before the i-th are scored: `total` is what they came to, and the others are left, from the state that is carried
 pub record Closing (S : Store) (s : Carried) (ws : List ℕ) (c : Packed) (backoffs : List ℤ) (total : ℤ) (i : ℕ) : Type 0 where
@@ -53,12 +53,12 @@ module _ (S : Store) (s : Carried) (ws : List ℕ) (c : Packed) (backoffs : List
   unfolding points_over
   next_word_lem h = rw (drop-cons ws i 0 h, add-one)
 
-  pub closing_refused : i < length ws → word_step S (held_in c backoffs) (get_or ws i 0) ≡ stuck → Refused ≡ points_over S ws s
+  pub closing_refused : i < length ws → word_step S (held_in c backoffs) (get_or ws i 0) ≡ stuck → None ≡ points_over S ws s
   closing_refused h e = sym (r.rest ∙ ap (plus total) (next_word_lem h ∙ ap (plus_rest (points_over S (drop (i + 1) ws))) e))
 
-  pub closing_ends : length ws ≤ i → Points total ≡ points_over S ws s
+  pub closing_ends : length ws ≤ i → Some total ≡ points_over S ws s
   unfolding points_over
-  closing_ends h = sym (r.rest ∙ rw (drop_of_length-le ws h) (ap Points (+ℤ_idr total)))
+  closing_ends h = sym (r.rest ∙ rw (drop_of_length-le ws h) (ap Some (+ℤ_idr total)))
 
 pub closing_carries : (base check : List ℤ) {s : Carried} {ws : List ℕ} {c : Packed} {backoffs : List ℤ} {total : ℤ} {i : ℕ} → Closing (store_in base check) s ws c backoffs total i → Carries (order_in check) c backoffs
 unfolding store_in
@@ -83,26 +83,23 @@ module _ (base check : List ℤ) (h : is_array base check ≡ true) (s : Carried
 pub total-fits : (total x : ℤ) {i : ℕ} → SmallTotal i total → nat_abs x ≤ order_limit * largest_backoff → i < 2 → SFits w64 (total +ℤ x)
 total-fits total x small h more = omega (zarith, abs total, abs x)
 
-pub four-at-most : {k n : ℕ} → k ≤ n - 1 → n ≤ order_limit → k ≤ 4
-four-at-most few h = omega arith
-
 -- ---- beside a run of the same words
 
 -- what the words of a run came to
-abbrev pub closed_of : Ran → Closed
-closed_of (ran ps bs t) = Points (sum ps)
-closed_of (refused_at k) = Refused
+abbrev pub closed_of : Ran → Option ℤ
+closed_of (ran ps bs t) = Some (sum ps)
+closed_of (refused_at k) = None
 
 -- Where start is sound, a word other than 3 and a 3 behind it come to what their run comes to.
 pub closed-is-run : (S : Store) (s : Carried) (w k : ℕ) → (w ≡ end_word → ⊥) → (x : ℤ) (y : ℕ) (begun : Carried) → word_step S empty start_word ≡ scored x y begun → points_over S (w ∷ end_word ∷ []) s ≡ closed_of (run_over S (w ∷ end_word ∷ []) s k)
 unfolding points_over run_over step
 closed-is-run S s w k n x y begun e = rw (ne_eqb w end_word n, e) (go (word_step S s w))
   where
-    three : (p : ℤ) (b : ℕ) (z : Step) → plus p (plus_rest (λ (t : Carried). Points (pos 0)) z) ≡ closed_of (before p b (onward (λ (t : Carried). ran [] [] t) (suc k) (restarted z (scored x y begun))))
+    three : (p : ℤ) (b : ℕ) (z : Step) → plus p (plus_rest (λ (t : Carried). Some (pos 0)) z) ≡ closed_of (before p b (onward (λ (t : Carried). ran [] [] t) (suc k) (restarted z (scored x y begun))))
     three p b (scored q c t) = refl
     three p b stuck = refl
 
-    go : (z : Step) → plus_rest (λ (t : Carried). plus_rest (λ (u : Carried). Points (pos 0)) (word_step S t end_word)) z ≡ closed_of (onward (λ (t : Carried). onward (λ (u : Carried). ran [] [] u) (suc k) (restarted (word_step S t end_word) (scored x y begun))) k z)
+    go : (z : Step) → plus_rest (λ (t : Carried). plus_rest (λ (u : Carried). Some (pos 0)) (word_step S t end_word)) z ≡ closed_of (onward (λ (t : Carried). onward (λ (u : Carried). ran [] [] u) (suc k) (restarted (word_step S t end_word) (scored x y begun))) k z)
     go (scored p b t) = three p b (word_step S t end_word)
     go stuck = refl
 
@@ -113,8 +110,8 @@ module _ (S : Store) (us vs : List ℕ) (s : Carried) (k : ℕ) where
       ap closed_of (run_append S us vs s k ∙ ap (λ (r : Ran). followed_by S r (λ (u : Carried). run_over S vs u (length us + k))) e ∙ ap (before_all ps bs) (run_renumbered S (length us) vs t k)) ∙ go (run_over S vs t k)
     where
       go : (r : Ran) → closed_of (before_all ps bs (renumbered (length us) r)) ≡ plus (sum ps) (closed_of r)
-      go (ran qs cs u) = ap Points (sum_append ps qs)
+      go (ran qs cs u) = ap Some (sum_append ps qs)
       go (refused_at j) = refl
 
-  pub none-behind : (j : ℕ) → run_over S us s k ≡ refused_at j → closed_of (run_over S (us ++ vs) s k) ≡ Refused
+  pub none-behind : (j : ℕ) → run_over S us s k ≡ refused_at j → closed_of (run_over S (us ++ vs) s k) ≡ None
   none-behind j e = ap closed_of (run_append S us vs s k ∙ ap (λ (r : Ran). followed_by S r (λ (u : Carried). run_over S vs u (length us + k))) e)

@@ -234,7 +234,3 @@ module _ (S : Store) (l : List ℤ) (ws : List ℕ) where
 -- the total of a piece is added to that of the words before it
 pub piece-fits : (total x : ℤ) {a e n : ℕ} → SmallTotal a total → SmallTotal (e - a) x → a ≤ e → e ≤ n → n ≤ run_limit → SFits w64 (total +ℤ x)
 piece-fits total x h k l m o = omega (zarith, abs total, abs x)
-
--- fewer words are left behind a piece
-pub fewer-left : {a e n : ℕ} → a < e → e ≤ n → n - e < n - a
-fewer-left h k = omega arith

@@ -1,11 +1,13 @@
 -- What a run returns, without its slices. Assumes nothing.
+use Rattle.std.specs.declared.result.Result.{Result}
 use Rattle.std.specs.Prelude.{List, ℕ, ℤ, pos}
 use Rattle.integer.specs.Integer.{sum}
-use Rattle.backoff.specs.Refusal.{broken_node}
+use Rattle.backoff.specs.declared.Refusal.{Refusal}
+use Rattle.backoff.specs.Refusal.{broken_node, number_in, place_in}
 use Rattle.backoff.specs.NineNumbers.{nine}
 use Rattle.backoff.specs.Store.{Ran as Words, ran, refused_at}
-use Rattle.carried_state.specs.Numbers.{numbers_of}
 use Rattle.run_answer.specs.declared.Ran.{Ran}
+use Rattle.run_answer.specs.Answers.{total_in, end_in}
 
 pub record Summed : Type 0 where
   pub number : ℕ
@@ -13,8 +15,9 @@ pub record Summed : Type 0 where
   pub total : ℤ
   pub end : List ℤ
 
-abbrev pub summed_of : Ran → Summed
-summed_of r = record { number = r.number; place = r.place; total = r.total; end = numbers_of r.end }
+-- what a run from the state in the nine numbers l returned
+abbrev pub summed_of : List ℤ → Result Ran (Refusal ℕ) → Summed
+summed_of l r = record { number = number_in r; place = place_in r; total = total_in r; end = end_in l r }
 
 -- of words that were scored from the state in the nine numbers l
 abbrev pub summed : List ℤ → Words → Summed

@@ -1,33 +1,24 @@
 -- Laws of the parts of a text, of the search for a byte, and that digits have no other byte among them. Assumes nothing.
 use mathlib.Core.Path.{◌≡◌, refl, sym, ap, ◌∙◌}
 use mathlib.Core.Logic.{◌⊎◌, inl, inr, ⊎_elim}
-use mathlib.Core.Bool.{Bool, true, false, cond}
+use mathlib.Core.Bool.{Bool, true, false, cond, ◌&&◌}
 use mathlib.Core.List.{List, [], ◌∷◌}
 use Prim.Native.Nat.{ℕ, suc, ◌+◌, ◌≤◌, ◌<◌}
 use native.Mathlib.Omega.{arith}
-use native.Mathlib.Numerals.{add-one}
-use lib.Dec.{eqb}
-use lib.ListN.{length, take, drop, drop_of_length-le, get_or}
-use lib.Seq.{take_all, drop-cons}
-use borrow.Author.Tests.{eq-eqb, ne_eqb}
+use native.Mathlib.Numerals.{add-one, one-add}
+use lib.Dec.{eqb, ltb}
+use lib.ListN.{length, take, drop}
+use lib.Seq.{take_all}
+use borrow.Author.Tests.{ne_eqb, ltb-true, ltb-false}
+use Rattle.std.specs.Prelude.{Option, Some, None, MatchOption}
+use Rattle.std.specs.List.{position, position_or_len}
+use Rattle.std.proofs.lemmas.List.Recursion.{is_position_or_len}
 use Rattle.integer.proofs.Ranges.{lt_or_ge}
+use Rattle.std.specs.Cmp.Lexicographic.{pointwise}
+use Rattle.backoff.specs.Words.{same_words}
 use Rattle.decimal.specs.Digits.{all_digits, digits_up_to}
 use Rattle.decimal.proofs.Digits.{digit_range, all_digits_lem}
 use Rattle.text_parts.specs.Parts.{in_front, parts, before}
-
--- what a search that stands at i sees
-pub before-here : (c : ℕ) (text : List ℕ) (i : ℕ) → i < length text → get_or text i 0 ≡ c → before c (drop i text) ≡ 0
-unfolding before
-before-here c text i h e = rw (drop-cons text i 0 h, eq-eqb _ _ e) refl
-
-pub before-further : (c : ℕ) (text : List ℕ) (i : ℕ) → i < length text → (get_or text i 0 ≡ c → ⊥)
-    → before c (drop i text) ≡ suc (before c (drop (i + 1) text))
-unfolding before
-before-further c text i h n = rw (drop-cons text i 0 h, ne_eqb _ _ n, add-one i) refl
-
-pub before-end : (c : ℕ) (text : List ℕ) (i : ℕ) → length text ≤ i → before c (drop i text) ≡ 0
-unfolding before
-before-end c text i h = rw (drop_of_length-le text h) refl
 
 -- a text without the byte is one part
 pub parts-one : (c : ℕ) (text : List ℕ) → before c text ≡ length text → parts c text ≡ text ∷ []
@@ -69,6 +60,20 @@ pub lacks_or_has : (c : ℕ) (text : List ℕ) → (before c text ≡ length tex
 lacks_or_has c text =
     ⊎_elim (λ h. inr h) (λ h. let l = before_le c text in inl (omega arith)) (lt_or_ge (before c text) (length text))
 
+-- a search for the byte
+before_position : (c : ℕ) (text : List ℕ) → before c text ≡ position_or_len (λ (x : ℕ). eqb x c) text
+unfolding before
+before_position c = is_position_or_len (before c) (λ (x : ℕ). eqb x c) refl (λ x text. rw (one-add (before c text)) refl)
+
+pub found : (c : ℕ) (text : List ℕ) (r : Option ℕ) → r ≡ position (λ (x : ℕ). eqb x c) text
+    → MatchOption r (before c text ≡ length text) (λ (place : ℕ). (place ≡ before c text) × (place < length text))
+found c text r e = rw (e, sym (before_position c text)) (go (ltb (before c text) (length text)) refl)
+  where
+    go : (t : Bool) → ltb (before c text) (length text) ≡ t
+        → MatchOption (cond t (Some (before c text)) None) (before c text ≡ length text) (λ (place : ℕ). (place ≡ before c text) × (place < length text))
+    go true h = (refl, ltb-true (before c text) (length text) h)
+    go false h = let l = before_le c text in let m = ltb-false (before c text) (length text) h in omega arith
+
 -- a byte of another kind in front
 pub before-other : (c x : ℕ) (text : List ℕ) → (x ≡ c → ⊥) → before c text ≡ length text → before c (x ∷ text) ≡ length (x ∷ text)
 unfolding before
@@ -103,6 +108,16 @@ one_part c (x ∷ text) part e = go (eqb x c) (parts c text) refl (λ q f. one_p
     go false [] f rest e = absurd (parts-some c text f)
     go false (p ∷ []) f rest e = let z : x ∷ p ≡ part = cc in ap (λ (l : List ℕ). x ∷ l) (rest p f) ∙ z
     go false (p ∷ q ∷ ps) f rest e = let z : ◌≡◌ {A = List (List ℕ)} (q ∷ ps) [] = cc in let y : ◌≡◌ {A = ℕ} 0 1 = cc in absurd (omega arith)
+
+-- ---- whether two texts are the same
+
+-- what `==` says of two texts
+pub same_words-pointwise : (us vs : List ℕ) → pointwise eqb us vs ≡ same_words us vs
+unfolding same_words
+same_words-pointwise [] [] = refl
+same_words-pointwise [] (v ∷ vs) = refl
+same_words-pointwise (u ∷ us) [] = refl
+same_words-pointwise (u ∷ us) (v ∷ vs) = ap (λ (b : Bool). eqb u v && b) (same_words-pointwise us vs)
 
 -- ---- digits
 

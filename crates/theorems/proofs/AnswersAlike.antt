@@ -1,14 +1,14 @@
 -- The arrays of all accepted builds of one list answer alike, however many slots were lent, and so does an array cut behind its last slot that is not free.
 -- Assumes nothing.
+use Rattle.std.specs.declared.option.Option.{Option}
 use mathlib.Core.Path.{◌≡◌, refl, sym, ap, ◌∙◌}
 use mathlib.Core.List.{List}
-use mathlib.Core.Option.{Option}
 use Prim.Native.Nat.{ℕ}
 use native.Mathlib.Omega.{arith}
 use lib.ListN.{replicate, length-replicate}
 use lib.IntN.{ℤ, pos}
 use Rattle.backoff.specs.Store.{Store, start_outcome, run_outcome}
-use Rattle.backoff.specs.declared.Verdict.TheVariants.{Accepted}
+use Rattle.backoff.specs.Refusal.{Accepted}
 use Rattle.double_array.proofs.DoubleArray.{sizes_shown}
 use Rattle.lookup.specs.Lookup.{lookup_in, lookup_outcome}
 use Rattle.placed_list.specs.Build.{Built}

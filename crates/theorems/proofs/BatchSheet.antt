@@ -1,8 +1,9 @@
 -- The batch sheet over the outcomes of build and batch is the rule's. Assumes nothing.
+use Rattle.std.specs.declared.option.Option.{Option}
+use Rattle.std.specs.declared.option.Option.TheVariants.{Some}
 use mathlib.Core.Path.{◌≡◌, refl, sym, ap, ap₂, ◌∙◌}
 use mathlib.Core.Bool.{Bool, true, false, cond}
 use mathlib.Core.List.{List, [], ◌∷◌, ◌++◌, map, append-nil}
-use mathlib.Core.Option.{Option, some}
 use Prim.Native.Nat.{ℕ, zero, suc, ◌+◌, ◌-◌, ◌≤◌, ◌<◌}
 use native.Mathlib.Omega.{arith}
 use lib.Dec.{eqb}
@@ -19,7 +20,7 @@ use Rattle.backoff.specs.Run.{Run, refusal, accepted, front}
 use Rattle.backoff.specs.Runs.{standing, flat, added, joined, answers, standing_points, standing_lengths, totals}
 use Rattle.backoff.specs.NineNumbers.{nine_zeros}
 use Rattle.backoff.specs.Store.{Store}
-use Rattle.backoff.specs.declared.Verdict.TheVariants.{Accepted}
+use Rattle.backoff.specs.Refusal.{Accepted}
 use Rattle.backoff.proofs.Counts.{count-both}
 use Rattle.list.specs.ListModel.{model_of}
 use Rattle.double_array.specs.DoubleArray.{store_in, opened}
@@ -116,7 +117,7 @@ module _ (table base check : List ℤ) (work : List ℕ) (built : (build_outcome
 
   -- ---- all of them
 
-  opens : array ≡ some (store_in left.base left.check)
+  opens : array ≡ Some (store_in left.base left.check)
   opens = opened_some left.base left.check (build_holds table base check work built).array
 
   module _ (ends : List ℕ) (r : Run) where
@@ -133,7 +134,7 @@ module _ (table base check : List ℤ) (work : List ℕ) (built : (build_outcome
     unfolding met
     met-number = rw opens (go (eqb bad 0) refl)
       where
-        go : (b : Bool) → eqb bad 0 ≡ b → (early_refusal (some (store_in left.base left.check)) (length r.words) ends (length r.points) (length r.lengths)).number ≡ cond b size sentence_end
+        go : (b : Bool) → eqb bad 0 ≡ b → (early_refusal (Some (store_in left.base left.check)) (length r.words) ends (length r.points) (length r.lengths)).number ≡ cond b size sentence_end
         go true e = rw e
         go false e = rw e
 
@@ -141,7 +142,7 @@ module _ (table base check : List ℤ) (work : List ℕ) (built : (build_outcome
     unfolding met
     met-place = rw opens (go (eqb bad 0) refl)
       where
-        go : (b : Bool) → eqb bad 0 ≡ b → (early_refusal (some (store_in left.base left.check)) (length r.words) ends (length r.points) (length r.lengths)).place ≡ bad
+        go : (b : Bool) → eqb bad 0 ≡ b → (early_refusal (Some (store_in left.base left.check)) (length r.words) ends (length r.points) (length r.lengths)).place ≡ bad
         go true e = rw e (sym (eqb-true bad 0 e))
         go false e = rw e
 

@@ -1,11 +1,11 @@
 -- Children on either side score as the list does. Assumes nothing.
+use Rattle.std.specs.declared.option.Option.{Option}
 use mathlib.Core.Path.{◌≡◌, ap}
 use mathlib.Core.List.{List}
-use mathlib.Core.Option.{Option}
 use Prim.Native.Nat.{ℕ}
 use lib.IntN.{ℤ}
 use Rattle.backoff.specs.Store.{Store, start_outcome, run_outcome}
-use Rattle.backoff.specs.declared.Verdict.TheVariants.{Accepted}
+use Rattle.backoff.specs.Refusal.{Accepted}
 use Rattle.build.specs.Build.{build_outcome}
 use Rattle.build.proofs.Built.{build_opened}
 use Rattle.build.proofs.Found.{found_exactly_if_listed}

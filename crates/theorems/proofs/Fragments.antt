@@ -1,9 +1,10 @@
 -- Fragments over the array that an accepted build left, by the outcomes of the calls: request T-06. Assumes nothing.
+use Rattle.std.specs.declared.option.Option.{Option}
+use Rattle.std.specs.declared.option.Option.TheVariants.{Some}
 use mathlib.Core.Path.{◌≡◌, refl, sym, ap, ◌∙◌}
 use mathlib.Core.Logic.{◌⊎◌}
 use mathlib.Core.Bool.{true}
 use mathlib.Core.List.{List, [], ◌++◌}
-use mathlib.Core.Option.{Option, some}
 use Prim.Native.Nat.{ℕ, ◌≤◌}
 use lib.ListN.{length, take}
 use lib.IntN.{ℤ}
@@ -16,7 +17,7 @@ use Rattle.backoff.specs.State.{after}
 use Rattle.backoff.specs.Run.{Run, accepted}
 use Rattle.backoff.specs.NineNumbers.{nine}
 use Rattle.backoff.specs.Store.{Store, Started, model_in, start_outcome, run_outcome}
-use Rattle.backoff.specs.declared.Verdict.TheVariants.{Accepted}
+use Rattle.backoff.specs.Refusal.{Accepted}
 use Rattle.backoff.proofs.Store.{Whole, start_outcome-is}
 use Rattle.list.specs.ListModel.{model_of}
 use Rattle.list.proofs.ListModel.{accepted-model}
@@ -48,7 +49,7 @@ module _ (table base check : List ℤ) (work : List ℕ) (built : (build_outcome
   abbrev S : Store
   S = store_in left.base left.check
 
-  opens : array ≡ some S
+  opens : array ≡ Some S
   unfolding array_of
   opens = opened_some left.base left.check (build_holds table base check work built).array
 

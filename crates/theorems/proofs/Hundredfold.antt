@@ -1,9 +1,9 @@
 -- A list in the older points, taken over: every score is 100 times the earlier one. Assumes nothing.
+use Rattle.std.specs.declared.option.Option.TheVariants.{Some}
 use mathlib.Core.Path.{◌≡◌, refl, sym, ap, subst, ◌∙◌}
 use mathlib.Core.Logic.{◌⊎◌, inl, inr}
 use mathlib.Core.Bool.{Bool, false}
 use mathlib.Core.List.{List, [], ◌∷◌, map}
-use mathlib.Core.Option.{some}
 use Prim.Native.Nat.{ℕ, ◌<◌, ◌≤◌}
 use native.Mathlib.Omega.{arith}
 use lib.ListN.{length}
@@ -20,7 +20,7 @@ use Rattle.backoff.specs.Runs.{answers, last_state, AllAlike}
 use Rattle.backoff.specs.NineNumbers.{padded, nine, nine_zeros}
 use Rattle.backoff.proofs.NineNumbers.{length-nine}
 use Rattle.backoff.specs.Store.{Store, model_in, run_outcome}
-use Rattle.backoff.specs.declared.Verdict.TheVariants.{Accepted}
+use Rattle.backoff.specs.Refusal.{Accepted}
 use Rattle.backoff.proofs.Store.{Whole, packed}
 use Rattle.list.specs.Check.{verdict}
 use Rattle.list.specs.ListModel.{model_of}
@@ -88,7 +88,7 @@ module _ (k : ℕ) (some-k : 0 < k) (S F : Store) (W : Whole S) (X : Whole F) (A
   abbrev new : List (Answer State)
   new = answers (run (model_in F)) (first (model_in F) started) qs
 
-  over_stores : ScoreTimes k (times_nine k) (run_outcome (some S)) (run_outcome (some F)) (first_state (some S) started lent) (first_state (some F) started lentF) rs qs
+  over_stores : ScoreTimes k (times_nine k) (run_outcome (Some S)) (run_outcome (Some F)) (first_state (Some S) started lent) (first_state (Some F) started lentF) rs qs
   over_stores =
       let o = over_models in
       let a = returned-is S W A started lent n rs in
@@ -132,10 +132,10 @@ fragment-times k some-k M ws =
     }
 
 fragments_over_stores : (k : ℕ) → 0 < k → (S F : Store) → Whole S → Whole F → AcceptedModel (model_in S) → AcceptedModel (model_in F) → model_in F ≡ times_model k (model_in S)
-    → (ws : List ℕ) → FragmentTimes k (fragment_outcome (some S) ws) (fragment_outcome (some F) ws)
+    → (ws : List ℕ) → FragmentTimes k (fragment_outcome (Some S) ws) (fragment_outcome (Some F) ws)
 fragments_over_stores k some-k S F W X A B multiplied ws = go (lt_or_ge run_limit (length ws))
   where
-    go : (run_limit < length ws) ⊎ (length ws ≤ run_limit) → FragmentTimes k (fragment_outcome (some S) ws) (fragment_outcome (some F) ws)
+    go : (run_limit < length ws) ⊎ (length ws ≤ run_limit) → FragmentTimes k (fragment_outcome (Some S) ws) (fragment_outcome (Some F) ws)
     go (inl many) = rw (fragment_outcome_too_many S W A ws many, fragment_outcome_too_many F X B ws many) (refused-fragment-times k)
     go (inr few) =
         rw (fragment_outcome-is S W A ws few, fragment_outcome-is F X B ws few)
@@ -145,7 +145,7 @@ fragments_over_stores k some-k S F W X A B multiplied ws = go (lt_or_ge run_limi
 
 record Left (table : List ℤ) (B : BuiltFrom table) : Type 0 where
   store : Store
-  opens : array_from table B ≡ some store
+  opens : array_from table B ≡ Some store
   whole : Whole store
   model : model_in store ≡ model_of table
   accepted-rows : AcceptedModel (model_in store)

@@ -1,9 +1,9 @@
 -- The largest move over the outcomes of build and listing is the rule's, and within the figures for one misheard word. Assumes nothing.
+use Rattle.std.specs.declared.option.Option.{Option}
 use mathlib.Core.Path.{◌≡◌, refl, sym, ap, ap₂, ◌∙◌}
 use mathlib.Core.Logic.{◌⊎◌, inl, inr}
 use mathlib.Core.Bool.{Bool, true, false}
 use mathlib.Core.List.{List, [], ◌∷◌, ◌++◌}
-use mathlib.Core.Option.{Option}
 use Prim.Native.Nat.{ℕ, ◌+◌, ◌-◌, ◌≤◌, ◌<◌}
 use native.Mathlib.Omega.{arith}
 use lib.Dec.{eqb}
@@ -16,7 +16,7 @@ use Rattle.backoff.specs.Limits.{end_word, sentence_limit}
 use Rattle.backoff.specs.Model.{Model, AcceptedModel}
 use Rattle.backoff.specs.Run.{front}
 use Rattle.backoff.specs.Store.{Store}
-use Rattle.backoff.specs.declared.Verdict.TheVariants.{Accepted}
+use Rattle.backoff.specs.Refusal.{Accepted}
 use Rattle.one_word.specs.OneWord.{DifferAt, distance, total_move, closer_move}
 use Rattle.one_word.proofs.OneWord.{one-word_by_the_rule}
 use Rattle.one_word.proofs.OneWordByTheRule.{one-word-closer}

@@ -8,7 +8,7 @@ use lib.IntN.{ℤ}
 use Rattle.backoff.specs.Rule.{LeftExtension}
 use Rattle.backoff.specs.Run.{Run}
 use Rattle.backoff.specs.Runs.{joined}
-use Rattle.backoff.specs.declared.Verdict.TheVariants.{Accepted}
+use Rattle.backoff.specs.Refusal.{Accepted}
 use Rattle.backoff.proofs.Rule.{left_extension}
 use Rattle.list.specs.ListModel.{model_of}
 use Rattle.list.proofs.ListModel.{accepted-model}

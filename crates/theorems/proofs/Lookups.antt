@@ -1,8 +1,8 @@
 -- Over an array that unload accepts, a lookup finds exactly the rows of the unloaded list, each with its own p and b. Assumes nothing.
+use Rattle.std.specs.declared.option.Option.TheVariants.{Some}
 use mathlib.Core.Path.{◌≡◌, refl, sym, ap, ◌∙◌}
 use mathlib.Core.Bool.{Bool, true, false, cond, ◌&&◌}
 use mathlib.Core.List.{List, reverse-reverse}
-use mathlib.Core.Option.{some}
 use Prim.Native.Nat.{ℕ}
 use borrow.Author.Tests.{leb-false}
 use lib.Dec.{leb}
@@ -11,13 +11,13 @@ use lib.ListN.{length}
 use Rattle.backoff.specs.Limits.{order_limit}
 use Rattle.backoff.specs.Refusal.{number_of, word_count}
 use Rattle.backoff.specs.Store.{look_entry, store_of}
-use Rattle.backoff.specs.declared.Verdict.TheVariants.{Accepted}
+use Rattle.backoff.specs.Refusal.{Accepted}
 use Rattle.rows.specs.Table.{order_of}
 use Rattle.row_search.specs.Search.{find_in}
 use Rattle.list.specs.Check.{verdict}
 use Rattle.list.specs.ListModel.{entry_at, model_of}
 use Rattle.lookup.specs.Lookup.{lookup_of, lookup_in, lookup_outcome}
-use Rattle.lookup.specs.declared.Lookup.TheVariants.{NotFound, Refused}
+use Rattle.lookup.specs.Lookup.{NotFound, Refused}
 use Rattle.build.specs.Listed.{answer_at, listed_answer}
 use Rattle.build.proofs.Found.{above-order, looked-up}
 use Rattle.unload.specs.Unload.{unload_outcome}
@@ -26,7 +26,7 @@ use Rattle.unload.proofs.Meaning.{unload_means, unloaded_says}
 
 module _ (t : List ℤ) (a : verdict t ≡ Accepted) (ws : List ℕ) where
   -- what the list's model says to a lookup is what the list says
-  said_lookup : lookup_in (some (store_of (model_of t))) ws ≡ listed_answer t ws
+  said_lookup : lookup_in (Some (store_of (model_of t))) ws ≡ listed_answer t ws
   unfolding store_of model_of listed_answer
   said_lookup = rw (reverse-reverse ws) (go (leb 1 (length ws) && leb (length ws) order_limit) (leb (length ws) (order_of t)) refl)
     where

@@ -1,8 +1,8 @@
 -- One misheard word over the outcomes of build, run and plain scoring. Assumes nothing.
+use Rattle.std.specs.declared.option.Option.TheVariants.{Some}
 use mathlib.Core.Path.{◌≡◌, refl, sym, ap, ◌∙◌}
 use mathlib.Core.Bool.{Bool, true, false}
 use mathlib.Core.List.{List, []}
-use mathlib.Core.Option.{some}
 use Prim.Native.Nat.{ℕ, ◌+◌, ◌≤◌}
 use native.Mathlib.Omega.{arith}
 use lib.ListN.{length}
@@ -18,7 +18,7 @@ use Rattle.backoff.specs.Run.{Run, Answer, refusal, accepted, refused_run, accep
 use Rattle.backoff.specs.NineNumbers.{nine, state_in, state_ok}
 use Rattle.backoff.specs.Runs.{SameRoom, joined, last_state}
 use Rattle.backoff.specs.Store.{Store, model_in, run_outcome}
-use Rattle.backoff.specs.declared.Verdict.TheVariants.{Accepted}
+use Rattle.backoff.specs.Refusal.{Accepted}
 use Rattle.backoff.proofs.Rule.{length-rule_points, length-rule_bytes}
 use Rattle.backoff.proofs.Run.{length-run_points, length-run_bytes, run_end-is-after}
 use Rattle.backoff.proofs.Runs.{standing-written, standing-refused, equal_states_score_alike as score-alike}
@@ -123,30 +123,30 @@ module _ (S : Store) (W : Whole S) (A : AcceptedModel (model_in S)) (l : List �
   order-high = unfold model_in in A.order-high
 
   -- what a run from nine numbers answers
-  run-answered : (r : Run) → Answered l (nine (run_end M (state_in l) r.words)) (run_points M (state_in l) r.words) (run_bytes M (state_in l) r.words) r (run_outcome (some S) l r)
+  run-answered : (r : Run) → Answered l (nine (run_end M (state_in l) r.words)) (run_points M (state_in l) r.words) (run_bytes M (state_in l) r.words) r (run_outcome (Some S) l r)
   run-answered r = go (eqb (length l) 9) refl (state_ok S.order l) refl (accepted r) refl
     where
-      go : (a : Bool) → eqb (length l) 9 ≡ a → (b : Bool) → state_ok S.order l ≡ b → (c : Bool) → accepted r ≡ c → Answered l (nine (run_end M (state_in l) r.words)) (run_points M (state_in l) r.words) (run_bytes M (state_in l) r.words) r (run_outcome (some S) l r)
+      go : (a : Bool) → eqb (length l) 9 ≡ a → (b : Bool) → state_ok S.order l ≡ b → (c : Bool) → accepted r ≡ c → Answered l (nine (run_end M (state_in l) r.words)) (run_points M (state_in l) r.words) (run_bytes M (state_in l) r.words) r (run_outcome (Some S) l r)
       go false e b f c g = deny l _ _ _ r _ bad_state (λ z. omega arith) (unfold run_outcome in rw e)
       go true e false f c g = deny l _ _ _ r _ bad_state (λ z. omega arith) (unfold run_outcome in rw (e, f))
       go true e true f false g = deny l _ _ _ r _ (refusal r) (eqb-false (refusal r) 0 (unfold accepted in g)) (unfold run_outcome in rw (e, f, g))
       go true e true f true g = grant l _ _ _ r _ (unfold run_outcome in rw (e, f, g, run_over-is S W r.words (state_in l) 1))
 
-  numbers-alike : (r q : Run) → refusal r ≡ refusal q → (run_outcome (some S) l r).number ≡ (run_outcome (some S) l q).number
+  numbers-alike : (r q : Run) → refusal r ≡ refusal q → (run_outcome (Some S) l r).number ≡ (run_outcome (Some S) l q).number
   numbers-alike r q e = go (eqb (length l) 9) refl (state_ok S.order l) refl (accepted r) refl
     where
       same : accepted q ≡ accepted r
       same = unfold accepted in ap (λ (n : ℕ). eqb n 0) (sym e)
 
-      go : (a : Bool) → eqb (length l) 9 ≡ a → (b : Bool) → state_ok S.order l ≡ b → (c : Bool) → accepted r ≡ c → (run_outcome (some S) l r).number ≡ (run_outcome (some S) l q).number
+      go : (a : Bool) → eqb (length l) 9 ≡ a → (b : Bool) → state_ok S.order l ≡ b → (c : Bool) → accepted r ≡ c → (run_outcome (Some S) l r).number ≡ (run_outcome (Some S) l q).number
       go false f b g c h = unfold run_outcome refused_run in rw f
       go true f false g c h = unfold run_outcome refused_run in rw (f, g)
       go true f true g false h = unfold run_outcome refused_run in rw (f, g, same, h) e
       go true f true g true h = unfold run_outcome accepted_run in rw (f, g, same, h, run_over-is S W r.words (state_in l) 1, run_over-is S W q.words (state_in l) 1)
 
-  module _ (r q : Run) (i : ℕ) (d : DifferAt i r.words q.words) (z : (run_outcome (some S) l r).number ≡ (run_outcome (some S) l q).number) where
+  module _ (r q : Run) (i : ℕ) (d : DifferAt i r.words q.words) (z : (run_outcome (Some S) l r).number ≡ (run_outcome (Some S) l q).number) where
     -- an accepted run's state passes check 16
-    bounded : (run_outcome (some S) l r).number ≡ 0 → Bounded (reach M) (state_in l)
+    bounded : (run_outcome (Some S) l r).number ≡ 0 → Bounded (reach M) (state_in l)
     bounded n = go (eqb (length l) 9) refl (state_ok S.order l) refl
       where
         go : (a : Bool) → eqb (length l) 9 ≡ a → (b : Bool) → state_ok S.order l ≡ b → Bounded (reach M) (state_in l)
@@ -154,10 +154,10 @@ module _ (S : Store) (W : Whole S) (A : AcceptedModel (model_in S)) (l : List �
         go true e false f = absurd (let k : bad_state ≡ 0 = unfold run_outcome refused_run in rw (e, f) at n in omega arith)
         go true e true f = unfold model_in reach in state_ok_bounded S.order l (eqb-true _ _ e) order-high f
 
-    run-moves : AnswersMove M.order i r q (run_outcome (some S) l r) (run_outcome (some S) l q)
+    run-moves : AnswersMove M.order i r q (run_outcome (Some S) l r) (run_outcome (Some S) l q)
     run-moves = go (run-answered r) (run-answered q)
       where
-        go : Answered l (nine (run_end M (state_in l) r.words)) (run_points M (state_in l) r.words) (run_bytes M (state_in l) r.words) r (run_outcome (some S) l r) → Answered l (nine (run_end M (state_in l) q.words)) (run_points M (state_in l) q.words) (run_bytes M (state_in l) q.words) q (run_outcome (some S) l q) → AnswersMove M.order i r q (run_outcome (some S) l r) (run_outcome (some S) l q)
+        go : Answered l (nine (run_end M (state_in l) r.words)) (run_points M (state_in l) r.words) (run_bytes M (state_in l) r.words) r (run_outcome (Some S) l r) → Answered l (nine (run_end M (state_in l) q.words)) (run_points M (state_in l) q.words) (run_bytes M (state_in l) q.words) q (run_outcome (Some S) l q) → AnswersMove M.order i r q (run_outcome (Some S) l r) (run_outcome (Some S) l q)
         go (granted e u) c =
             answers-move M.order i r q l _ _ _ _ _ _ _ _ (granted e u) c z (length-run_points M (state_in l) r.words) (length-run_points M (state_in l) q.words) (length-run_bytes M (state_in l) r.words) (length-run_bytes M (state_in l) q.words) (one-word-from_a_state M A (state_in l) (bounded u) i r.words q.words d)
         go (denied w o e u) (granted f v) = absurd (o (sym u ∙ z ∙ v))
@@ -165,10 +165,10 @@ module _ (S : Store) (W : Whole S) (A : AcceptedModel (model_in S)) (l : List �
             let g : w' ≡ w = sym v ∙ sym z ∙ u in
             rw (e, f, g) (refused-move M.order i w r q l l o)
 
-    run_ends : i + M.order ≤ length r.words → (run_outcome (some S) l r).end ≡ (run_outcome (some S) l q).end
+    run_ends : i + M.order ≤ length r.words → (run_outcome (Some S) l r).end ≡ (run_outcome (Some S) l q).end
     run_ends k = go (run-answered r) (run-answered q)
       where
-        go : Answered l (nine (run_end M (state_in l) r.words)) (run_points M (state_in l) r.words) (run_bytes M (state_in l) r.words) r (run_outcome (some S) l r) → Answered l (nine (run_end M (state_in l) q.words)) (run_points M (state_in l) q.words) (run_bytes M (state_in l) q.words) q (run_outcome (some S) l q) → (run_outcome (some S) l r).end ≡ (run_outcome (some S) l q).end
+        go : Answered l (nine (run_end M (state_in l) r.words)) (run_points M (state_in l) r.words) (run_bytes M (state_in l) r.words) r (run_outcome (Some S) l r) → Answered l (nine (run_end M (state_in l) q.words)) (run_points M (state_in l) q.words) (run_bytes M (state_in l) q.words) q (run_outcome (Some S) l q) → (run_outcome (Some S) l r).end ≡ (run_outcome (Some S) l q).end
         go (granted e u) (granted f v) = rw (e, f) (unfold accepted_run in ap nine (one-word-ends M A (state_in l) (bounded u) i r.words q.words d k))
         go (granted e u) (denied w o f v) = absurd (o (sym v ∙ sym z ∙ u))
         go (denied w o e u) (granted f v) = absurd (o (sym u ∙ z ∙ v))
@@ -199,7 +199,7 @@ module _ (table base check : List ℤ) (work : List ℕ) (built : (build_outcome
       let accepted-list = (build_accepted table base check work built).accepted in
       let A : AcceptedModel L = accepted-model table accepted-list in
       let S = store_in left.base left.check in
-      let opens : array_of left ≡ some S = unfold array_of in opened_some left.base left.check holds.array in
+      let opens : array_of left ≡ Some S = unfold array_of in opened_some left.base left.check holds.array in
       let AS : AcceptedModel (model_in S) = rw holds.model A in
       let same : S.order ≡ L.order = unfold model_in in ap (λ (N : Model). N.order) holds.model in
       record {

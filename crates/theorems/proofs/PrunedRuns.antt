@@ -9,7 +9,7 @@ use Rattle.integer.specs.Integer.{sum}
 use Rattle.backoff.specs.Rule.{rule}
 use Rattle.backoff.specs.Run.{Run, front}
 use Rattle.backoff.specs.Runs.{joined}
-use Rattle.backoff.specs.declared.Verdict.TheVariants.{Accepted}
+use Rattle.backoff.specs.Refusal.{Accepted}
 use Rattle.list.specs.ListModel.{model_of}
 use Rattle.build.specs.Build.{build_outcome}
 use Rattle.filled_list.proofs.Alike.{history-alike, rule_points-alike}

@@ -1,8 +1,9 @@
 -- Over the arrays that an accepted build leaves, unload gives the list back, row for row, with the slots that the build left in work. Assumes nothing.
+use Rattle.std.specs.declared.option.Option.{Option}
+use Rattle.std.specs.declared.option.Option.TheVariants.{Some, None}
 use mathlib.Core.Path.{◌≡◌, refl, sym, ap, ◌∙◌}
 use mathlib.Core.Bool.{Bool, true, false, ◌&&◌}
 use mathlib.Core.List.{List, [], ◌∷◌}
-use mathlib.Core.Option.{Option, none, some}
 use Prim.Native.Nat.{ℕ, ◌*◌, ◌≤◌, ◌<◌}
 use native.Mathlib.Omega.{arith}
 use borrow.Author.Tests.{leb-true}
@@ -15,11 +16,10 @@ use Rattle.backoff.specs.Limits.{slot_limit}
 use Rattle.backoff.specs.Refusal.{short_slice}
 use Rattle.backoff.specs.Model.{Model}
 use Rattle.backoff.specs.Run.{written}
-use Rattle.backoff.specs.declared.Verdict.TheVariants.{Accepted, Refused}
+use Rattle.backoff.specs.Refusal.{Accepted, Refused}
 use Rattle.rows.specs.Table.{rows_of, order_of, words}
 use Rattle.list.specs.Check.{verdict}
 use Rattle.list.proofs.Check.{accepted-size}
-use Rattle.child_slots.specs.declared.Child.TheVariants.{At}
 use Rattle.double_array.specs.DoubleArray.{order_in}
 use Rattle.placing.specs.Trie.{Node, find_node, Ready}
 use Rattle.placing.specs.Placing.{slots}
@@ -50,14 +50,14 @@ unfolding walk_to
 walk_laid_out R L [] = let r = root-found R in rw (r.1, L.root)
 walk_laid_out {order} {nodes} {slot} {base} {check} R L (w ∷ us) = go (find_node nodes us) refl (walk_laid_out R L us)
   where
-    orphan : find_node nodes us ≡ none → (o : Option Node) → find_node nodes (w ∷ us) ≡ o → o ≡ none
-    orphan q none e = refl
-    orphan q (some m) e = let k = parent-found R w us m e in absurd (let z : ◌≡◌ {A = ℕ} 0 1 = cc in omega arith)
+    orphan : find_node nodes us ≡ None → (o : Option Node) → find_node nodes (w ∷ us) ≡ o → o ≡ None
+    orphan q None e = refl
+    orphan q (Some m) e = let k = parent-found R w us m e in absurd (let z : ◌≡◌ {A = ℕ} 0 1 = cc in omega arith)
 
     go : (o : Option Node) → find_node nodes us ≡ o → walk_to base check us ≡ child_if (find_node nodes us) (slot us)
         → walk_to base check (w ∷ us) ≡ child_if (find_node nodes (w ∷ us)) (slot (w ∷ us))
-    go none q ih = rw (ih, q, orphan q (find_node nodes (w ∷ us)) refl)
-    go (some m) q ih = rw (ih, q) (L.child us m q w)
+    go None q ih = rw (ih, q, orphan q (find_node nodes (w ∷ us)) refl)
+    go (Some m) q ih = rw (ih, q) (L.child us m q w)
 
 -- slices in which the rows of t and their slots have room
 abbrev is_long : List ℤ → List ℤ → List ℕ → Bool
@@ -94,7 +94,7 @@ module _ (t : List ℤ) (a : verdict t ≡ Accepted) (N : ℕ) (low : 2 ≤ N) (
     sound = λ l h. (built-whole t a N low high room).sound l;
   }
 
-  row-walk : (i : ℕ) → i < rows_of t → walk_to B C (words t i) ≡ At ((placed_list t).slot (words t i))
+  row-walk : (i : ℕ) → i < rows_of t → walk_to B C (words t i) ≡ Some ((placed_list t).slot (words t i))
   unfolding placed_list
   row-walk i h = walk_laid_out (nodes_ready t a) (placing_laid_out (order_of t) (nodes_ready t a) N room) (words t i) ∙ rw (find_node-row t a i h)
 
@@ -105,7 +105,7 @@ module _ (t : List ℤ) (a : verdict t ≡ Accepted) (N : ℕ) (low : 2 ≤ N) (
       ext_get_or 0 (slots_of (reached B C (order_in C))) (slots_from t 0 (rows_of t)) (k ∙ sym (length-slots_from t 0 (rows_of t)))
       (λ i h.
       let l : i < rows_of t = omega arith in
-      let e : At (get_or (slots_of (reached B C (order_in C))) i 0) ≡ At ((placed_list t).slot (words t i)) = sym (held-slot B C t placed-holds i l) ∙ row-walk i l in
+      let e : Some (get_or (slots_of (reached B C (order_in C))) i 0) ≡ Some ((placed_list t).slot (words t i)) = sym (held-slot B C t placed-holds i l) ∙ row-walk i l in
       let f : get_or (slots_from t 0 (rows_of t)) i 0 ≡ (placed_list t).slot (words t i) = get_or-slots_from t 0 (rows_of t) i l ∙ ap (λ (n : ℕ). (placed_list t).slot (words t n)) (omega arith) in
       cc)
 

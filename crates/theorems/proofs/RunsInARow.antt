@@ -1,8 +1,9 @@
 -- Demand 3 over the outcomes of build, start, run and plain scoring. Assumes nothing.
+use Rattle.std.specs.declared.option.Option.{Option}
+use Rattle.std.specs.declared.option.Option.TheVariants.{Some}
 use mathlib.Core.Path.{◌≡◌, refl, sym, ap, ap₂, subst, ◌∙◌}
 use mathlib.Core.Bool.{Bool, true, false, cond}
 use mathlib.Core.List.{List, [], ◌∷◌, map}
-use mathlib.Core.Option.{Option, some}
 use Prim.Native.Nat.{ℕ}
 use lib.ListN.{length}
 use lib.IntN.{ℤ, ◌+ℤ◌}
@@ -13,7 +14,7 @@ use Rattle.backoff.specs.Run.{Run, Answer, refusal, accepted, refused_run, accep
 use Rattle.backoff.specs.Runs.{standing, answers, last_state, standing_points, standing_lengths, totals}
 use Rattle.backoff.specs.NineNumbers.{nine}
 use Rattle.backoff.specs.Store.{Store, Started, model_in, run_outcome}
-use Rattle.backoff.specs.declared.Verdict.TheVariants.{Accepted}
+use Rattle.backoff.specs.Refusal.{Accepted}
 use Rattle.backoff.proofs.NineNumbers.{first-nine}
 use Rattle.backoff.proofs.Runs.{in_a_row, equal_ends_score_alike}
 use Rattle.backoff.proofs.Store.{Whole, packed, answers_over_a_store, last_state_over_a_store, standing_points_over_a_store, standing_lengths_over_a_store, start_outcome-is, run_outcome_blind}
@@ -75,30 +76,30 @@ module _ (S : Store) (W : Whole S) (A : AcceptedModel (model_in S)) (started : B
   abbrev M : Model
   M = model_in S
 
-  first-state : first_state (some S) started lent ≡ nine (first M started)
+  first-state : first_state (Some S) started lent ≡ nine (first M started)
   first-state = go started
     where
-      go : (b : Bool) → first_state (some S) b lent ≡ nine (first M b)
+      go : (b : Bool) → first_state (Some S) b lent ≡ nine (first M b)
       go true = unfold first_state first in ap (λ (s : Started). s.state) (start_outcome-is S W lent nine-long)
       go false = unfold first_state in sym (first-nine M)
 
   -- what the runs return and leave is what they do over the model
-  pub returned-is : answers (run_outcome (some S)) (first_state (some S) started lent) rs ≡ map packed (answers (run M) (first M started) rs)
-  returned-is = ap (λ (l : List ℤ). answers (run_outcome (some S)) l rs) first-state ∙ answers_over_a_store S W A started rs
+  pub returned-is : answers (run_outcome (Some S)) (first_state (Some S) started lent) rs ≡ map packed (answers (run M) (first M started) rs)
+  returned-is = ap (λ (l : List ℤ). answers (run_outcome (Some S)) l rs) first-state ∙ answers_over_a_store S W A started rs
 
-  pub points_are : standing_points (run_outcome (some S)) (first_state (some S) started lent) rs ≡ standing_points (run M) (first M started) rs
-  points_are = ap (λ (l : List ℤ). standing_points (run_outcome (some S)) l rs) first-state ∙ standing_points_over_a_store S W A started rs
+  pub points_are : standing_points (run_outcome (Some S)) (first_state (Some S) started lent) rs ≡ standing_points (run M) (first M started) rs
+  points_are = ap (λ (l : List ℤ). standing_points (run_outcome (Some S)) l rs) first-state ∙ standing_points_over_a_store S W A started rs
 
-  pub lengths_are : standing_lengths (run_outcome (some S)) (first_state (some S) started lent) rs ≡ standing_lengths (run M) (first M started) rs
-  lengths_are = ap (λ (l : List ℤ). standing_lengths (run_outcome (some S)) l rs) first-state ∙ standing_lengths_over_a_store S W A started rs
+  pub lengths_are : standing_lengths (run_outcome (Some S)) (first_state (Some S) started lent) rs ≡ standing_lengths (run M) (first M started) rs
+  lengths_are = ap (λ (l : List ℤ). standing_lengths (run_outcome (Some S)) l rs) first-state ∙ standing_lengths_over_a_store S W A started rs
 
-  pub last-is : last_state (run_outcome (some S)) (first_state (some S) started lent) rs ≡ nine (last_state (run M) (first M started) rs)
-  last-is = ap (λ (l : List ℤ). last_state (run_outcome (some S)) l rs) first-state ∙ last_state_over_a_store S W A started rs
+  pub last-is : last_state (run_outcome (Some S)) (first_state (Some S) started lent) rs ≡ nine (last_state (run M) (first M started) rs)
+  last-is = ap (λ (l : List ℤ). last_state (run_outcome (Some S)) l rs) first-state ∙ last_state_over_a_store S W A started rs
 
   standing-plain : {X : Type 0} (r : Run) (slice : List X) → refusal r ≡ 0 → standing 0 r slice ≡ standing (plain M started r).number r slice
   standing-plain r slice e = ap (λ (n : ℕ). standing n r slice) (sym (plain-number M started r ∙ e))
 
-  store_in_a_row : RunsInARow (some S) M started lent rs (plain M started)
+  store_in_a_row : RunsInARow (Some S) M started lent rs (plain M started)
   store_in_a_row =
       let row = in_a_row M A started rs in
       record {
@@ -139,11 +140,11 @@ module _ (table base check : List ℤ) (work : List ℕ) (built : (build_outcome
       let holds = build_holds table base check work built in
       let accepted-list = (build_accepted table base check work built).accepted in
       let S = store_in left.base left.check in
-      let opens : array_of left ≡ some S = unfold array_of in opened_some left.base left.check holds.array in
+      let opens : array_of left ≡ Some S = unfold array_of in opened_some left.base left.check holds.array in
       let A : AcceptedModel (model_in S) = rw holds.model (accepted-model table accepted-list) in
       rw opens
-      (subst (λ (M : Model). RunsInARow (some S) M started lent rs (plain_outcome table started)) holds.model
-      (subst (λ (p : Run → Answer (Unit {0})). RunsInARow (some S) (model_in S) started lent rs p) (plain-accepted table started (model_in S) accepted-list holds.model)
+      (subst (λ (M : Model). RunsInARow (Some S) M started lent rs (plain_outcome table started)) holds.model
+      (subst (λ (p : Run → Answer (Unit {0})). RunsInARow (Some S) (model_in S) started lent rs p) (plain-accepted table started (model_in S) accepted-list holds.model)
       (store_in_a_row S holds.whole A started lent nine-long rs)))
 
 -- over any array at all

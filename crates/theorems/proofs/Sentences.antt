@@ -1,8 +1,9 @@
 -- All small sentences over the outcomes of build and listing are scored by the rule. Assumes nothing.
+use Rattle.std.specs.declared.option.Option.{Option}
+use Rattle.std.specs.declared.option.Option.TheVariants.{Some}
 use mathlib.Core.Path.{◌≡◌, refl, sym, ap, ap₂, ◌∙◌}
 use mathlib.Core.Bool.{Bool, true, false, ◌&&◌, true≢false}
 use mathlib.Core.List.{List, [], ◌∷◌, ◌++◌, map, append-nil}
-use mathlib.Core.Option.{Option, some}
 use Prim.Native.Nat.{ℕ, suc, ◌^◌, ◌≤◌, ◌<◌}
 use native.Mathlib.Omega.{arith}
 use lib.Dec.{eqb}
@@ -18,7 +19,7 @@ use Rattle.backoff.specs.Run.{Run, refusal, accepted, front, written}
 use Rattle.backoff.specs.Runs.{flat, added, joined, answers, totals}
 use Rattle.backoff.specs.NineNumbers.{nine_zeros, all}
 use Rattle.backoff.specs.Store.{Look, absent, broken, here, Store, entry_of, is_broken, model_in}
-use Rattle.backoff.specs.declared.Verdict.TheVariants.{Accepted}
+use Rattle.backoff.specs.Refusal.{Accepted}
 use Rattle.backoff.proofs.Store.{Whole}
 use Rattle.list.specs.ListModel.{model_of}
 use Rattle.double_array.specs.DoubleArray.{store_in, opened}
@@ -75,7 +76,7 @@ module _ (table base check : List ℤ) (work : List ℕ) (built : (build_outcome
   abbrev M : Model
   M = model_of table
 
-  opens : array ≡ some S
+  opens : array ≡ Some S
   opens = opened_some left.base left.check (build_holds table base check work built).array
 
   pub words_same : usable_over array ≡ listed_words M

@@ -1,8 +1,8 @@
 -- One run over a text with 3s in it gives what its sentences give apart, over the array that an accepted build left. Assumes nothing.
+use Rattle.std.specs.declared.option.Option.{Option}
 use mathlib.Core.Path.{◌≡◌, refl, sym, ap, ap₂, ◌∙◌}
 use mathlib.Core.Bool.{true}
 use mathlib.Core.List.{List, [], ◌∷◌, ◌++◌, map, append-nil}
-use mathlib.Core.Option.{Option}
 use Prim.Native.Nat.{ℕ}
 use lib.ListN.{length}
 use lib.IntN.{ℤ, +ℤ_idr}
@@ -15,7 +15,7 @@ use Rattle.backoff.specs.Run.{Run, Answer, refusal, accepted, front}
 use Rattle.backoff.specs.Runs.{standing, flat, added, joined, answers, last_state, standing_points, standing_lengths, totals}
 use Rattle.backoff.specs.NineNumbers.{nine}
 use Rattle.backoff.specs.Store.{Store, run_outcome, start_outcome}
-use Rattle.backoff.specs.declared.Verdict.TheVariants.{Accepted}
+use Rattle.backoff.specs.Refusal.{Accepted}
 use Rattle.backoff.proofs.Rule.{history-ended}
 use Rattle.list.specs.ListModel.{model_of}
 use Rattle.build.specs.Build.{build_outcome}

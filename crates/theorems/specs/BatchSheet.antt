@@ -1,7 +1,7 @@
 -- The batch sheet over the array that an accepted build left, as one statement: everything in it is the back-off rule's over the published list. The sentences
 -- quoted are document 02's, of T-04. Assumes nothing.
+use Rattle.std.specs.declared.option.Option.{Option}
 use Rattle.std.specs.Prelude.{◌≡◌, true, cond, List, [], ◌∷◌, ◌++◌, map, ℕ, suc, ◌<◌, eqb, length, drop, get_or, ℤ}
-use Rattle.std.proofs.Math.Option.{Option}
 use Rattle.integer.specs.Integer.{sum}
 use Rattle.backoff.specs.Limits.{end_word}
 use Rattle.backoff.specs.Refusal.{sentence_end}

@@ -1,7 +1,8 @@
 -- Document 02, T-09: "Which sequences are found, and every point scored, must be what the forward arrays gave". Whichever side a node's children lie on, the array that a
 -- build left opens to the list's own store, in which there are no slots; so every call answers as the list alone says. Assumes nothing.
+use Rattle.std.specs.declared.option.Option.{Option}
+use Rattle.std.specs.declared.option.Option.TheVariants.{Some}
 use Rattle.std.specs.Prelude.{◌≡◌, List, ℕ, ℤ}
-use Rattle.std.proofs.Math.Option.{Option, some}
 use Rattle.backoff.specs.Run.{Run}
 use Rattle.backoff.specs.Store.{Store, store_of, start_outcome, run_outcome}
 use Rattle.list.specs.ListModel.{model_of}
@@ -16,7 +17,7 @@ use Rattle.theorems.specs.RunsInARow.{array_of}
 
 -- the list's own rows as a store, none of them broken
 abbrev pub list_store : List ℤ → Option Store
-list_store table = some (store_of (model_of table))
+list_store table = Some (store_of (model_of table))
 
 -- what the array B answers, for any words, state, fragments and lent slices: what the list says
 pub record ScoresAsTheList (table : List ℤ) (B : Built) : Type 0 where

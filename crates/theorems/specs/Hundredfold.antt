@@ -1,16 +1,16 @@
 -- Document 02, T-08: "A list in the older points is taken over by multiplying p and b by 100, and every score of it is then exactly 100 times the earlier one."
 -- Stated over the outcomes that the contracts of check, build, lookup, start, run, plain scoring and the scoring of a fragment cite. Assumes nothing.
+use Rattle.std.specs.declared.option.Option.{Option}
 use Rattle.std.specs.Prelude.{◌≡◌, Bool, List, ℕ, length, ℤ, pos, ◌*ℤ◌}
-use Rattle.std.proofs.Math.Option.{Option}
 use Rattle.backoff.specs.Rule.{rule, rule_byte}
 use Rattle.backoff.specs.Run.{Run}
 use Rattle.backoff.specs.Runs.{Alike, AllAlike}
 use Rattle.backoff.specs.Store.{Store, run_outcome}
-use Rattle.backoff.specs.declared.Verdict.TheVariants.{Accepted}
+use Rattle.backoff.specs.Refusal.{Accepted}
 use Rattle.list.specs.Check.{verdict}
 use Rattle.list.specs.ListModel.{model_of}
 use Rattle.lookup.specs.Lookup.{lookup_outcome}
-use Rattle.lookup.specs.declared.Lookup.{Lookup}
+use Rattle.lookup.specs.Lookup.{Lookup}
 use Rattle.build.specs.Build.{build_outcome}
 use Rattle.carried_state.specs.Numbers.{numbers_of}
 use Rattle.fragments.specs.declared.Joined.{Joined}

@@ -1,7 +1,7 @@
 -- The largest move over what a build wrote: by the back-off rule over the list, and within the figure for one misheard word. The sentence quoted is
 -- document 02's, of T-13. Assumes nothing.
+use Rattle.std.specs.declared.option.Option.{Option}
 use Rattle.std.specs.Prelude.{◌≡◌, List, ℕ, ◌≤◌, length, ℤ, nat_abs}
-use Rattle.std.proofs.Math.Option.{Option}
 use Rattle.backoff.specs.Model.{Model}
 use Rattle.backoff.specs.Store.{Store}
 use Rattle.one_word.specs.OneWord.{total_move, closer_move}

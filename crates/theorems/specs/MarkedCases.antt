@@ -1,16 +1,16 @@
 -- Document 01's marked cases K1 to K9 on the sample list, over the outcomes that the contracts cite. Assumes nothing.
+use Rattle.std.specs.declared.option.Option.{Option}
 use Rattle.std.specs.Prelude.{◌≡◌, true, false, List, [], ◌∷◌, ℕ, ℤ, pos, neg_ℤ, length, get_or, replicate}
-use Rattle.std.proofs.Math.Option.{Option}
 use Rattle.backoff.specs.Refusal.{row_probability, no_room}
 use Rattle.backoff.specs.Run.{Run}
 use Rattle.backoff.specs.NineNumbers.{nine_zeros}
 use Rattle.backoff.specs.Store.{Store, start_outcome, run_outcome}
-use Rattle.backoff.specs.declared.Verdict.TheVariants.{Accepted, Refused}
+use Rattle.backoff.specs.Refusal.{Accepted, Refused}
 use Rattle.list.specs.Check.{verdict}
 use Rattle.list.specs.Sample.{sample, sample_with}
 use Rattle.child_slots.specs.Children.{free_check}
 use Rattle.lookup.specs.Lookup.{lookup_outcome}
-use Rattle.lookup.specs.declared.Lookup.TheVariants.{Found, NotFound}
+use Rattle.lookup.specs.Lookup.{Found, NotFound}
 use Rattle.placed_list.specs.Build.{Built}
 use Rattle.build.specs.Build.{build_outcome}
 use Rattle.plain.specs.Plain.{plain_outcome}

@@ -1,7 +1,7 @@
 -- One misheard word, over the outcomes that the contracts of build, start, run and plain scoring cite. The sentences quoted are document 02's, of T-11.
 -- Assumes nothing.
+use Rattle.std.specs.declared.option.Option.{Option}
 use Rattle.std.specs.Prelude.{◌≡◌, Bool, List, ℕ, ◌+◌, ◌≤◌, length, ℤ, pos}
-use Rattle.std.proofs.Math.Option.{Option}
 use Rattle.backoff.specs.Run.{Run, Answer}
 use Rattle.backoff.specs.Runs.{standing, flat, joined, answers, last_state, standing_points, standing_lengths, totals, SameRoom, AllAlike, ScoreAlike}
 use Rattle.backoff.specs.Store.{Store, run_outcome}

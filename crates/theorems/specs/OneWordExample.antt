@@ -5,7 +5,7 @@ use Rattle.integer.specs.Integer.{sum}
 use Rattle.backoff.specs.Limits.{largest_backoff}
 use Rattle.backoff.specs.Rule.{rule_points}
 use Rattle.backoff.specs.Run.{front}
-use Rattle.backoff.specs.declared.Verdict.TheVariants.{Accepted}
+use Rattle.backoff.specs.Refusal.{Accepted}
 use Rattle.one_word.specs.OneWord.{distance}
 use Rattle.list.specs.Check.{verdict}
 use Rattle.list.specs.ListModel.{model_of}

@@ -1,7 +1,7 @@
 -- Runs over the array that a build of the filled list left, against the pruned list, over the outcomes that the contracts of fill, build, start and run cite.
 -- Assumes nothing.
+use Rattle.std.specs.declared.option.Option.{Option}
 use Rattle.std.specs.Prelude.{Bool, List, ◌*◌, take, ℤ}
-use Rattle.std.proofs.Math.Option.{Option}
 use Rattle.backoff.specs.Model.{Model}
 use Rattle.backoff.specs.Run.{Run}
 use Rattle.backoff.specs.Store.{Store}

@@ -1,6 +1,6 @@
 -- What an unload over the arrays of a build must give back. Assumes nothing.
 use Rattle.std.specs.Prelude.{◌≡◌, List, ℕ, length, take, drop, ℤ}
-use Rattle.backoff.specs.declared.Verdict.TheVariants.{Accepted}
+use Rattle.backoff.specs.Refusal.{Accepted}
 use Rattle.rows.specs.Table.{rows_of}
 use Rattle.placed_list.specs.Build.{Built}
 use Rattle.build.specs.Build.{build_outcome}

@@ -1,7 +1,7 @@
 -- Demand 3 as one statement, over the outcomes that the contracts of build, start, run and plain scoring cite. The sentences quoted are document 01's, of
 -- "Runs in a row". Assumes nothing.
+use Rattle.std.specs.declared.option.Option.{Option}
 use Rattle.std.specs.Prelude.{◌≡◌, Bool, true, false, List, map, ℕ, ◌<◌, length, take, get_or, ℤ, pos}
-use Rattle.std.proofs.Math.Option.{Option}
 use Rattle.integer.specs.Integer.{sum}
 use Rattle.backoff.specs.Model.{Model}
 use Rattle.backoff.specs.Rule.{rule, rule_byte, rule_points, rule_bytes, history}

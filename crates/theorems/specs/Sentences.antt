@@ -1,6 +1,6 @@
 -- All small sentences over what a build wrote: by the back-off rule over the list. The sentences quoted are document 02's, of T-12. Assumes nothing.
+use Rattle.std.specs.declared.option.Option.{Option}
 use Rattle.std.specs.Prelude.{◌≡◌, Bool, true, ◌&&◌, List, [], ◌∷◌, ◌++◌, map, ℕ, ◌^◌, length, ℤ}
-use Rattle.std.proofs.Math.Option.{Option}
 use Rattle.integer.specs.Integer.{sum}
 use Rattle.backoff.specs.Limits.{word_limit, end_word}
 use Rattle.backoff.specs.Model.{Model, listed}

@@ -1,7 +1,7 @@
 -- A text of many sentences scored in one run, and the same sentences each in a run of its own, over the outcomes that the contracts of start and run cite.
 -- Assumes nothing.
+use Rattle.std.specs.declared.option.Option.{Option}
 use Rattle.std.specs.Prelude.{◌≡◌, List, [], ◌∷◌, ◌++◌, map, ℕ, ℤ}
-use Rattle.std.proofs.Math.Option.{Option}
 use Rattle.backoff.specs.Limits.{end_word}
 use Rattle.backoff.specs.Run.{Run, Answer, refusal}
 use Rattle.backoff.specs.Runs.{standing, flat, totals}

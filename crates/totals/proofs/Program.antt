@@ -8,7 +8,7 @@ use lib.ListN.{take}
 use Rattle.backoff.specs.Refusal.{text_line}
 use Rattle.backoff.specs.Model.{Model}
 use Rattle.backoff.specs.Runs.{flat}
-use Rattle.backoff.specs.declared.Verdict.TheVariants.{Refused}
+use Rattle.backoff.specs.Refusal.{Refused}
 use Rattle.word_walk.specs.Rows.{array_model}
 use Rattle.totals_text.specs.Lines.{refused_line}
 use Rattle.totals_list.specs.List.{lines_of, ListText, rows, not_in_form, read_list}

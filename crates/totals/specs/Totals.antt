@@ -1,8 +1,8 @@
 -- What the totals program prints for the bytes of LIST and TEXT. A file that cannot be opened counts as one with no bytes. Assumes nothing.
 use Rattle.std.specs.Prelude.{◌≡◌, List, ℕ, ℤ, pos, replicate}
 use Rattle.backoff.specs.Refusal.{text_line}
-use Rattle.backoff.specs.declared.Verdict.{Verdict}
-use Rattle.backoff.specs.declared.Verdict.TheVariants.{Accepted, Refused}
+use Rattle.backoff.specs.Refusal.{Verdict}
+use Rattle.backoff.specs.Refusal.{Accepted, Refused}
 use Rattle.list.specs.ListModel.{model_of}
 use Rattle.placed_list.specs.Build.{Built}
 use Rattle.build.specs.Build.{build_outcome}

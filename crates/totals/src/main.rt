@@ -8,16 +8,15 @@ ghost use Rattle.totals_sentence.specs.Steps.{Ready};
 ghost use Rattle.totals_lines.specs.Steps.{Begun};
 ghost use Rattle.totals.specs.Totals.{HoldsBuilt};
 
-use backoff::Verdict;
+use backoff::{Reason, Refusal};
 use carried_state::State;
 use std::fs;
 use std::io::Read;
 use std::rt::Files;
 use totals_lines::Progress;
-use totals_list::ListText;
 
 // The most pieces of TEXT that are read: 2^53, of up to 1,024 bytes.
-const MOST_PIECES: u64 = 9007199254740992;
+const MOST_PIECES: u64 = 1 << 53;
 
 // Tells on standard error what standard output does not show: that a file counts as empty since it cannot be opened or read, and an output that is not taken.
 fn tell(rt: &impl Eprint, text: &str) {
@@ -33,9 +32,9 @@ fn print(rt: &(impl Print + Eprint), text: &[u8]) -> bool {
     taken
 }
 
-fn print_refusal(rt: &(impl Print + Eprint), number: u32, place: u64) {
+fn print_refusal(rt: &(impl Print + Eprint), refusal: Refusal<u64>) {
     let mut out = [0u8; 64];
-    let length = totals_text::refused_line(number, place, &mut out);
+    let length = totals_text::refused_line(u32::from(refusal.reason), refusal.place, &mut out);
     print(rt, &out[..length]);
 }
 
@@ -128,8 +127,7 @@ fn print_file(rt: &(impl Files + Print + Eprint), base: &[i32], check: &[i32], s
 fn print_totals(rt: &(impl Files + Print + Eprint), base: &[i32], check: &[i32])
     requires { HoldsBuilt base.now check.now }
 {
-    let started = score::start(base, check);
-    let start = started.state;
+    let start = score::start(base, check).unwrap_or_default();
     print_file(rt, base, check, start);
 }
 
@@ -139,8 +137,8 @@ fn build_list(rt: &(impl Files + Print + Eprint), table: &[i32]) {
     let mut check = [0i32; 4096];
     let mut work = [0u32; 512];
     match build::build(table, &mut base, &mut check, &mut work) {
-        Verdict::Refused { number, place } => print_refusal(rt, number, place as u64),
-        Verdict::Accepted => print_totals(rt, &base, &check),
+        Err(refusal) => print_refusal(rt, refusal.into()),
+        Ok(()) => print_totals(rt, &base, &check),
     }
 }
 
@@ -188,8 +186,14 @@ fn main(rt: HostRuntime) {
     let count = load_list(&rt, &mut text);
     let mut table = [0i32; 4096];
     match totals_list::read_list(&text[..count], &mut table) {
-        ListText::NotInForm(line) => print_refusal(&rt, backoff::TEXT_LINE, line),
-        ListText::Rows(rows) => {
+        Err(line) => {
+            let refusal = Refusal {
+                reason: Reason::TextLine,
+                place: line,
+            };
+            print_refusal(&rt, refusal);
+        }
+        Ok(rows) => {
             let end = 8 * rows;
             build_list(&rt, &table[..end]);
         }

@@ -50,21 +50,6 @@ module _ {M : Model} {piece : List ℕ} {number₀ count₀ : ℕ} {line₀ line
   long : length begun ≡ count
   long = length-take-le count line (omega (arith, F.buffer, F.room))
 
-  -- the buffer has room for what up to 1,024 characters print
-  module _ (short : length piece ≤ 1024) where
-    pub feeding_fits : written ≤ length out
-    feeding_fits = omega (arith, F.few, F.size, F.within)
-
-    pub feeding_room : i < length piece → written + 64 ≤ length out
-    feeding_room more = omega (arith, F.few, F.size)
-
-    -- a line ends within a buffer that has kept its length
-    pub feeding_within : i < length piece → {size : ℕ} → size ≡ length out → (end : ℕ) → end ≤ written + 64 → end ≤ size
-    feeding_within more e end h = omega (arith, feeding_room more)
-
-    pub feeding_line_within : i < length piece → {size : ℕ} → size ≡ length out → (n : ℕ) → n ≤ 64 → written + n ≤ size
-    feeding_line_within more e n h = feeding_within more e (written + n) (omega arith)
-
   closes : line_end begun ≡ length begun
   closes = F.no_end ∙ sym long
 

@@ -1,7 +1,7 @@
 // TEXT of the totals program, read piece by piece, and the line of each sentence put behind what was printed.
 #![tactic(auto)]
 
-ghost use Rattle.std.specs.Prelude.{◌≡◌, true, ◌++◌, ◌+◌, ◌<◌, ◌≤◌, ◌^◌, length, take};
+ghost use Rattle.std.specs.Prelude.{◌≡◌, ◌++◌, ◌+◌, ◌<◌, ◌≤◌, ◌^◌, length, take};
 ghost use Rattle.std.proofs.Math.Seq.{paste};
 ghost use Rattle.backoff.specs.Refusal.{text_line};
 ghost use Rattle.carried_state.specs.Numbers.{numbers_of};
@@ -10,6 +10,7 @@ ghost use Rattle.totals_text.specs.Lines.{refused_line};
 ghost use Rattle.totals_sentence.specs.Steps.{Ready};
 ghost use Rattle.totals_lines.specs.Steps.{PrintedAs, Begun, Fed, finished};
 
+use backoff::Reason;
 use carried_state::State;
 use totals_sentence::Printed;
 
@@ -19,7 +20,7 @@ const LF: u8 = b'\n';
 const TEXT_LINE: usize = 512;
 
 // How far TEXT is read: the number of the line that has begun, how many characters of it are known, whether the output has ended, as a refusal ends it,
-// and how many characters the last piece of TEXT printed.
+// and how many characters the last piece of TEXT printed. A refusal is printed too, so that `ended` stands beside them.
 #[derive(Drop)]
 pub struct Progress {
     pub number: u64,
@@ -28,18 +29,16 @@ pub struct Progress {
     pub written: usize,
 }
 
-// Puts the first characters of a line behind what was written, and answers the place behind them.
-fn append(line: &[u8], count: usize, out: &mut [u8], at: usize) -> usize
-    requires { (count ≤ length line.now) × (at + count ≤ length out.old) }
-    ensures place { result ≡ at + count }
-    ensures text { out.new ≡ paste out.old at line.now count }
+// Puts a text behind what was written, and answers the place behind it. Buffer and place stay two arguments: a struct of them would only lend the buffer once
+// more at each call.
+fn append(text: &[u8], out: &mut [u8], at: usize) -> usize
+    requires { at + length text.now ≤ length out.old }
+    ensures place { result ≡ at + length text.now }
+    ensures text { out.new ≡ paste out.old at text.now (length text.now) }
 {
-    let mut i = 0;
-    while i < count {
-        out[at + i] = line[i];
-        i += 1;
-    }
-    at + count
+    let end = at + text.len();
+    out[at..end].copy_from_slice(text);
+    end
 }
 
 // Puts the refusal of a line of TEXT behind what was written, and answers the place behind it.
@@ -49,8 +48,8 @@ fn append_refusal(number: u64, out: &mut [u8], at: usize) -> usize
     ensures text { take result out.new ≡ take at out.old ++ refused_line text_line number }
 {
     let mut line = [0u8; 64];
-    let length = totals_text::refused_line(backoff::TEXT_LINE, number, &mut line);
-    append(&line, length, out, at)
+    let length = totals_text::refused_line(u32::from(Reason::TextLine), number, &mut line);
+    append(&line[..length], out, at)
 }
 
 // Puts the line that is printed for a line of TEXT behind what was written.
@@ -69,20 +68,8 @@ fn append_sentence(
 {
     let mut text = [0u8; 64];
     let printed = totals_sentence::print_sentence(base, check, start, number, line, &mut text);
-    append(&text, printed.length, out, at);
+    append(&text[..printed.length], out, at);
     printed
-}
-
-// The output has ended with the refusal of a line.
-fn refused_at(number: u64, count: usize, written: usize) -> Progress
-    ensures { result ≡ record { number = number; count = count; ended = true; written = written } }
-{
-    Progress {
-        number,
-        count,
-        ended: true,
-        written,
-    }
 }
 
 // Reads a piece of TEXT behind the characters of the line that has begun, and leaves in out what it prints.
@@ -102,36 +89,40 @@ pub fn feed(
     ensures room { result.written ≤ length out.new }
     ensures text { Fed (array_model base.now check.now) piece.now progress line.old result line.new (take result.written out.new) }
 {
-    let mut number = progress.number;
-    let mut count = progress.count;
-    let mut written = 0;
-    let mut i = 0;
-    while i < piece.len() {
-        let c = piece[i];
-        i += 1;
-        if c == LF {
-            let printed = append_sentence(base, check, start, number, &line[..count], out, written);
-            written += printed.length;
+    let mut after = Progress {
+        ended: false,
+        written: 0,
+        ..progress
+    };
+    for c in piece {
+        if *c == LF {
+            let printed = append_sentence(
+                base,
+                check,
+                start,
+                after.number,
+                &line[..after.count],
+                out,
+                after.written,
+            );
+            after.written += printed.length;
             if !printed.accepted {
-                return refused_at(number, count, written);
+                after.ended = true;
+                return after;
             }
-            number += 1;
-            count = 0;
+            after.number += 1;
+            after.count = 0;
             continue;
         }
-        if count == TEXT_LINE {
-            let end = append_refusal(number, out, written);
-            return refused_at(number, count, end);
+        if after.count == TEXT_LINE {
+            after.written = append_refusal(after.number, out, after.written);
+            after.ended = true;
+            return after;
         }
-        line[count] = c;
-        count += 1;
+        line[after.count] = *c;
+        after.count += 1;
     }
-    Progress {
-        number,
-        count,
-        ended: false,
-        written,
-    }
+    after
 }
 
 // What is printed at the end of TEXT: a refusal where a line has begun.
@@ -142,5 +133,5 @@ pub fn finish(progress: Progress, out: &mut [u8; 64]) -> usize
     if progress.count == 0 {
         return 0;
     }
-    totals_text::refused_line(backoff::TEXT_LINE, progress.number, out)
+    totals_text::refused_line(u32::from(Reason::TextLine), progress.number, out)
 }

@@ -13,8 +13,7 @@ use lib.Seq.{paste, take-paste, take_all, length-paste, drop-drop}
 use Rattle.totals_text.specs.Lines.{is_list_line, list_row}
 use Rattle.totals_text.proofs.Lines.{list_line_length}
 use Rattle.totals_list.specs.List.{Line, ended, lines_of, line_end, ListText, rows, not_in_form, behind, read_list, ReadAs}
-use Rattle.totals_list.specs.declared.ListText.{ListText as Read}
-use Rattle.totals_list.specs.declared.ListText.TheVariants.{Rows}
+use Rattle.std.specs.Prelude.{Result, Ok}
 use Rattle.totals_list.proofs.Lines.{line_end_le, line_ended, line_unended}
 
 -- what is left of LIST behind its first i lines, which begins at `at`
@@ -129,5 +128,5 @@ pub reading-end : (text : List ℕ) (table : List ℤ) (at i : ℕ) → Reading 
 unfolding rest lines_of read_list
 reading-end text table at i R h = R.list ∙ rw (drop_of_length-le text h) (ap rows (append-nil (take (8 * i) table)))
 
-pub rows_few : (text : List ℕ) (table : List ℤ) (n : ℕ) {r : Read} → r ≡ Rows n → ReadAs text r table → n ≤ 512
-rows_few text table n e a = (subst (λ (x : Read). ReadAs text x table) e a).0
+pub rows_few : (text : List ℕ) (table : List ℤ) (n : ℕ) {r : Result ℕ ℕ} → r ≡ Ok n → ReadAs text r table → n ≤ 512
+rows_few text table n e a = (subst (λ (x : Result ℕ ℕ). ReadAs text x table) e a).0

@@ -1,9 +1,7 @@
 -- The lines of a text, and what the totals program reads of LIST. Assumes nothing.
-use Rattle.std.specs.Prelude.{◌≡◌, cond, ◌&&◌, List, [], ◌∷◌, ◌++◌, ℕ, suc, ◌*◌, ◌≤◌, eqb, leb, ℤ, take}
+use Rattle.std.specs.Prelude.{◌≡◌, cond, ◌&&◌, List, [], ◌∷◌, ◌++◌, ℕ, suc, ◌*◌, ◌≤◌, eqb, leb, ℤ, take, Result, Ok, Err}
 use Rattle.text_parts.specs.Parts.{before}
 use Rattle.totals_text.specs.Lines.{is_list_line, list_row}
-use Rattle.totals_list.specs.declared.ListText.{ListText as Read}
-use Rattle.totals_list.specs.declared.ListText.TheVariants.{Rows, NotInForm}
 
 -- ---- lines
 
@@ -44,6 +42,6 @@ read_list k (unended l ∷ ls) = not_in_form k
 read_list k (ended l ∷ ls) = cond (leb k 512 && is_list_line l) (behind (list_row l) (read_list (suc k) ls)) (not_in_form k)
 
 -- what the code answers, and the table that it leaves
-abbrev pub ReadAs : List ℕ → Read → List ℤ → Type 0
-ReadAs text (Rows n) table = (n ≤ 512) × (read_list 1 (lines_of text) ≡ rows (take (8 * n) table))
-ReadAs text (NotInForm k) table = read_list 1 (lines_of text) ≡ not_in_form k
+abbrev pub ReadAs : List ℕ → Result ℕ ℕ → List ℤ → Type 0
+ReadAs text (Ok n) table = (n ≤ 512) × (read_list 1 (lines_of text) ≡ rows (take (8 * n) table))
+ReadAs text (Err k) table = read_list 1 (lines_of text) ≡ not_in_form k

@@ -11,25 +11,6 @@ const LF: u8 = b'\n';
 // LIST has at most so many lines.
 const LIST_LINES: usize = 512;
 
-// What LIST holds: so many rows, or the number of its first line that is not in form.
-#[derive(Drop)]
-pub enum ListText {
-    Rows(usize),
-    NotInForm(u64),
-}
-
-// Puts a row into the table.
-fn store_row(row: [i32; 8], table: &mut [i32], at: usize)
-    requires { at + 8 ≤ length table.old }
-    ensures { table.new ≡ paste table.old at row 8 }
-{
-    let mut i = 0;
-    while i < 8 {
-        table[at + i] = row[i];
-        i += 1;
-    }
-}
-
 // Reads a line of LIST into the table: whether it is in form.
 fn read_row(line: &[u8], table: &mut [i32], at: usize) -> bool
     requires { at + 8 ≤ length table.old }
@@ -40,31 +21,31 @@ fn read_row(line: &[u8], table: &mut [i32], at: usize) -> bool
     if !totals_text::read_list_line(line, &mut row) {
         return false;
     }
-    store_row(row, table, at);
+    table[at..at + 8].copy_from_slice(&row);
     true
 }
 
-// Reads LIST into the table.
-pub fn read_list(text: &[u8], table: &mut [i32]) -> ListText
+// Reads LIST into the table: how many rows it has, or the number of its first line that is not in form.
+pub fn read_list(text: &[u8], table: &mut [i32]) -> Result<usize, u64>
     requires { length table.old ≡ 4096 }
     ensures { ReadAs text.now result table.new }
 {
     let mut at = 0;
     let mut i = 0;
     while at < text.len() {
-        let refused = ListText::NotInForm(i as u64 + 1);
+        let number = i as u64 + 1;
         let end = text_parts::part_end(text, at, LF);
         if end == text.len() {
-            return refused;
+            return Err(number);
         }
         if i == LIST_LINES {
-            return refused;
+            return Err(number);
         }
         if !read_row(&text[at..end], table, 8 * i) {
-            return refused;
+            return Err(number);
         }
         at = end + 1;
         i += 1;
     }
-    ListText::Rows(i)
+    Ok(i)
 }

@@ -1,12 +1,14 @@
 -- A sentence over arrays that hold an accepted model is scored by the rule over their rows. Assumes nothing.
 use mathlib.Core.Path.{◌≡◌, refl, sym, ap, ◌∙◌}
-use mathlib.Core.Bool.{true}
+use mathlib.Core.Bool.{Bool, true, false, cond}
+use Rattle.std.specs.List.{count_by}
+use Rattle.std.proofs.lemmas.List.Recursion.{is_count_by}
 use mathlib.Core.List.{List, [], ◌∷◌}
-use Prim.Native.Nat.{ℕ, zero, suc, ◌+◌, ◌/◌, ◌%◌, ◌≤◌, ◌<◌}
+use Prim.Native.Nat.{ℕ, zero, suc, ◌+◌, ◌≤◌}
 use native.Mathlib.Omega.{arith}
-use borrow.Author.Tests.{eq-eqb, ne_eqb, le-ltb}
+use borrow.Author.Tests.{le-ltb}
 use lib.IntN.{ℤ}
-use lib.ListN.{length, take, get_or, length-take}
+use lib.ListN.{length, take, length-take}
 use lib.Seq.{take-append-le}
 use Rattle.integer.specs.Integer.{sum}
 use Rattle.backoff.specs.Limits.{start_word}
@@ -17,7 +19,7 @@ use Rattle.backoff.specs.State.{start}
 use Rattle.backoff.specs.Run.{Run, Answer, refusal, accepted, accepted_run, written, run}
 use Rattle.backoff.specs.Store.{run_outcome}
 use Rattle.backoff.proofs.Rule.{matched-few}
-use Rattle.backoff.proofs.Counts.{count_next, byte_unknown}
+use Rattle.backoff.proofs.Counts.{byte_unknown}
 use Rattle.backoff.proofs.State.{start-is-after}
 use Rattle.backoff.proofs.Run.{length-run_bytes, run_points-is-rule, run_bytes-is-rule}
 use Rattle.backoff.proofs.Store.{Whole, packed, run_outcome-is}
@@ -29,13 +31,14 @@ use Rattle.totals_sentence.specs.Steps.{Ready}
 
 -- ---- unknown words
 
--- one more length byte is counted or not
-module _ (bytes : List ℕ) (i : ℕ) (h : i < length bytes) {n : ℕ} (e : n ≡ count says_unknown (take i bytes)) where
-  pub count_yes : get_or bytes i 0 / 8 % 2 ≡ 1 → n + 1 ≡ count says_unknown (take (i + 1) bytes)
-  count_yes q = rw e (sym (count_next says_unknown bytes i h ∙ rw (eq-eqb (get_or bytes i 0 / 8 % 2) 1 q) refl))
-
-  pub count_no : (get_or bytes i 0 / 8 % 2 ≡ 1 → ⊥) → n ≡ count says_unknown (take (i + 1) bytes)
-  count_no q = e ∙ sym (count_next says_unknown bytes i h ∙ rw (ne_eqb (get_or bytes i 0 / 8 % 2) 1 q) (omega arith))
+-- counting, as std counts
+pub count_list : (bytes : List ℕ) → count says_unknown bytes ≡ count_by says_unknown bytes
+unfolding count
+count_list = is_count_by (count says_unknown) says_unknown refl (λ n ns. go (says_unknown n) (count says_unknown ns))
+  where
+    go : (b : Bool) (k : ℕ) → cond b 1 0 + k ≡ cond b (1 + k) k
+    go true k = refl
+    go false k = omega arith
 
 module _ (M : Model) (A : AcceptedModel M) where
   -- the bytes of the first k words tell how many of them are unknown

@@ -17,19 +17,19 @@ use Rattle.backoff.specs.Model.{Model}
 use Rattle.backoff.specs.Rule.{rule_points}
 use Rattle.backoff.specs.Run.{written}
 use Rattle.backoff.proofs.Slices.{length-written}
-use Rattle.totals_text.specs.declared.TextLine.TheVariants.{Words, NotInForm}
+use Rattle.std.specs.Prelude.{Some, None}
 use Rattle.totals_text.specs.Lines.{is_text_line, text_words, text_answer, sentence_line, refused_line}
 use Rattle.totals_text.proofs.Lines.{length-words}
 use Rattle.totals_sentence.specs.Sentence.{unknown_in, total_of, sentence_output}
 use Rattle.totals_sentence.specs.Steps.{line_output}
 
 -- a line that is in form is answered with its words
-pub not-words : (line : List ℕ) → is_text_line line ≡ true → text_answer line ≡ NotInForm → ⊥
+pub not-words : (line : List ℕ) → is_text_line line ≡ true → text_answer line ≡ None → ⊥
 unfolding text_answer
 not-words line e f = let z : ◌≡◌ {A = ℕ} 0 1 = cc (rw e at f) in omega arith
 
 -- how many words are answered: all, and at most 64
-pub words-few : (line : List ℕ) (n : ℕ) → text_answer line ≡ Words n → (n ≡ length (text_words line)) × (n ≤ 64)
+pub words-few : (line : List ℕ) (n : ℕ) → text_answer line ≡ Some n → (n ≡ length (text_words line)) × (n ≤ 64)
 unfolding text_answer is_text_line
 words-few line n e = go (is_text_line line) refl
   where
@@ -41,7 +41,7 @@ words-few line n e = go (is_text_line line) refl
     go false q = let z : ◌≡◌ {A = ℕ} 0 1 = cc (rw q at e) in absurd (omega arith)
 
 -- a line that is answered by its absence is not in form
-pub not-in_form : (line : List ℕ) → text_answer line ≡ NotInForm → is_text_line line ≡ false
+pub not-in_form : (line : List ℕ) → text_answer line ≡ None → is_text_line line ≡ false
 unfolding text_answer
 not-in_form line e = go (is_text_line line) refl
   where
@@ -49,7 +49,7 @@ not-in_form line e = go (is_text_line line) refl
     go true q = let z : ◌≡◌ {A = ℕ} 0 1 = cc (rw q at e) in absurd (omega arith)
     go false q = q
 
-pub in_form_lem : (line : List ℕ) (n : ℕ) → text_answer line ≡ Words n → is_text_line line ≡ true
+pub in_form_lem : (line : List ℕ) (n : ℕ) → text_answer line ≡ Some n → is_text_line line ≡ true
 unfolding text_answer
 in_form_lem line n e = go (is_text_line line) refl
   where

@@ -1,4 +1,6 @@
 -- Laws of specs/Lines.antt: a line that is accepted is its numbers printed, and only such a line is. Assumes nothing.
+use Rattle.std.specs.declared.option.Option.{Option}
+use Rattle.std.specs.declared.option.Option.TheVariants.{Some, None}
 use mathlib.Core.Path.{◌≡◌, refl, sym, ap, ap₂, subst, ◌∙◌}
 use mathlib.Core.Bool.{Bool, true, false, cond, ◌&&◌, false≢true}
 use mathlib.Core.List.{List, [], ◌∷◌, ◌++◌, map}
@@ -7,8 +9,8 @@ use native.Mathlib.Omega.{arith}
 use native.Mathlib.Nat.{mul-le-mul_left}
 use native.Mathlib.Numerals.{add-one}
 use lib.Dec.{eqb, leb}
-use lib.IntN.{ℤ, pos, negsuc, nat_abs}
-use lib.Signed.{le_z, lt_z}
+use lib.IntN.{ℤ, pos, negsuc}
+use lib.Signed.{le_z}
 use lib.ListN.{length, take, drop, set, length-append, length-set, length-map, take-append-drop, drop_of_length-le, length-drop}
 use lib.Seq.{sets, take_at, drop_at, drop-drop}
 use borrow.Author.Tests.{le-leb, leb-true, eqb-true, eq-eqb}
@@ -19,11 +21,8 @@ use Rattle.integer.proofs.Ranges.{and_left, and_right, and_both}
 use Rattle.backoff.specs.Run.{written}
 use Rattle.decimal.specs.Digits.{digits}
 use Rattle.decimal.proofs.Digits.{digits_le}
-use Rattle.columns.specs.declared.Column.{Column}
-use Rattle.columns.specs.declared.Column.TheVariants.{Number, NotInForm}
 use Rattle.columns.specs.Columns.{signed, numeral, column, least_number, Held, read_column}
 use Rattle.columns.proofs.Columns.{length-justified, read-column-printed, printed-read}
-use Rattle.totals_text.specs.declared.TextLine.TheVariants.{Words, NotInForm as NoWords}
 use Rattle.totals_text.specs.Lines.{list_width, text_width, columns, in_form, all_in_form, column_value, word_of, is_list_line, list_row, is_text_line, text_words, text_answer, line_of, AllHeld, ListForm, ListLineMeans, TextForm, TextLineMeans, refused_word, count_columns, sentence_line, refused_line}
 
 -- ---- printed lines
@@ -49,20 +48,6 @@ pub length-refused : (number place : ℕ) → length (refused_line number place)
 unfolding refused_line
 length-refused number place = rw (length-append, length-append, length-append) refl
 
--- ---- the word of a column
-
-pub word-negative : (c : Column) → lt_z (column_value c) (pos 0) ≡ true → word_of c ≡ 0
-unfolding column_value word_of
-word-negative (Number (pos n)) e = absurd (omega zarith)
-word-negative (Number (negsuc n)) e = refl
-word-negative NotInForm e = refl
-
-pub word-natural : (c : Column) → lt_z (column_value c) (pos 0) ≡ false → word_of c ≡ nat_abs (column_value c)
-unfolding column_value word_of
-word-natural (Number (pos n)) e = refl
-word-natural (Number (negsuc n)) e = absurd (omega zarith)
-word-natural NotInForm e = refl
-
 -- ---- a loop over the columns of a line
 
 -- the columns from i on: the one at i, and those behind it
@@ -78,35 +63,26 @@ pub columns-none : (width : ℕ) (line : List ℕ) (count i : ℕ) → count ≤
 unfolding columns
 columns-none width line count i h = let e : count - i ≡ 0 = omega arith in rw e refl
 
-pub columns-start : (width : ℕ) (line : List ℕ) (count : ℕ) → columns width count line ≡ columns width (count - 0) (drop (width * 0) line)
-columns-start width line count =
-    let e : count - 0 ≡ count = omega arith in
-    let f : width * 0 ≡ 0 = omega arith in
-    rw (e, f) refl
-
 -- the column at i ends within the columns
 pub column-end : (width count i : ℕ) → i < count → width * i + width ≤ width * count
 column-end width count i h = let e : width * (i + 1) ≡ width * i + width = omega arith in rw (← e) (mul-le-mul_left width (omega arith))
 
 -- what each column gives is stored: the column at i is next
-sets-columns : {A : Type 0} (f : Column → A) (out : List A) (width : ℕ) (line : List ℕ) (count i : ℕ) → i < count
+sets-columns : {A : Type 0} (f : Option ℤ → A) (out : List A) (width : ℕ) (line : List ℕ) (count i : ℕ) → i < count
     → sets out i (map f (columns width (count - i) (drop (width * i) line)))
     ≡ sets (set out i (f (read_column width (take (width * i + width - width * i) (drop (width * i) line))))) (i + 1) (map f (columns width (count - (i + 1)) (drop (width * (i + 1)) line)))
 sets-columns f out width line count i h = rw (columns-step width line count i h, add-one) refl
 
-sets-columns-none : {A : Type 0} (f : Column → A) (out : List A) (width : ℕ) (line : List ℕ) (count i : ℕ) → count ≤ i → sets out i (map f (columns width (count - i) (drop (width * i) line))) ≡ out
+sets-columns-none : {A : Type 0} (f : Option ℤ → A) (out : List A) (width : ℕ) (line : List ℕ) (count i : ℕ) → count ≤ i → sets out i (map f (columns width (count - i) (drop (width * i) line))) ≡ out
 sets-columns-none f out width line count i h = rw (columns-none width line count i h) refl
 
 -- the columns still to be stored make, with those that are, all of them
-pub record Filling {A : Type 0} (f : Column → A) (width : ℕ) (line : List ℕ) (count : ℕ) (out₀ out : List A) (i : ℕ) : Type 0 where
+pub record Filling {A : Type 0} (f : Option ℤ → A) (width : ℕ) (line : List ℕ) (count : ℕ) (out₀ out : List A) (i : ℕ) : Type 0 where
   pub within : i ≤ count
   pub left : sets out₀ 0 (map f (columns width count line)) ≡ sets out i (map f (columns width (count - i) (drop (width * i) line)))
   pub long : length out ≡ length out₀
 
-module _ {A : Type 0} (f : Column → A) (width : ℕ) (line : List ℕ) (count : ℕ) (out₀ : List A) where
-  pub fill_start : Filling f width line count out₀ out₀ 0
-  fill_start = record { within = omega arith; left = ap (λ (cs : List Column). sets out₀ 0 (map f cs)) (columns-start width line count); long = refl }
-
+module _ {A : Type 0} (f : Option ℤ → A) (width : ℕ) (line : List ℕ) (count : ℕ) (out₀ : List A) where
   pub fill_step : (out : List A) (i : ℕ) (v : A) → i < count → v ≡ f (read_column width (take (width * i + width - width * i) (drop (width * i) line))) → Filling f width line count out₀ out i → Filling f width line count out₀ (set out i v) (i + 1)
   fill_step out i v h e r = record {
     within = omega arith;
@@ -120,12 +96,12 @@ module _ {A : Type 0} (f : Column → A) (width : ℕ) (line : List ℕ) (count 
 -- ---- a line in form is its numbers printed
 
 -- a column in form holds a number
-in_form-number : (least : ℤ) (c : Column) → in_form least c ≡ true → c ≡ Number (column_value c)
+in_form-number : (least : ℤ) (c : Option ℤ) → in_form least c ≡ true → c ≡ Some (column_value c)
 unfolding in_form column_value
-in_form-number least (Number z) e = refl
-in_form-number least NotInForm e = absurd (false≢true e)
+in_form-number least (Some z) e = refl
+in_form-number least None e = absurd (false≢true e)
 
-length-columns : (width count : ℕ) (line : List ℕ) → length (columns width count line) ≡ count
+pub length-columns : (width count : ℕ) (line : List ℕ) → length (columns width count line) ≡ count
 unfolding columns
 length-columns width zero line = refl
 length-columns width (suc count) line = ap suc (length-columns width count (drop width line))
@@ -156,12 +132,12 @@ module _ (width : ℕ) (least : ℤ) where
   numbers-held (suc count) line e (suc j) l = numbers-held count (drop width line) (others-in_form count line e) j (omega arith)
 
 -- numbers that are not negative are words
-words_of : (cs : List Column) → all_in_form (pos 0) cs ≡ true → map column_value cs ≡ map pos (map word_of cs)
+pub words_of : (cs : List (Option ℤ)) → all_in_form (pos 0) cs ≡ true → map column_value cs ≡ map pos (map word_of cs)
 unfolding all_in_form in_form column_value word_of
 words_of [] e = refl
-words_of (Number (pos n) ∷ cs) e = ap (λ (zs : List ℤ). pos n ∷ zs) (words_of cs (and_right (le_z (pos 0) (pos n)) (all_in_form (pos 0) cs) e))
-words_of (Number (negsuc n) ∷ cs) e = absurd (false≢true e)
-words_of (NotInForm ∷ cs) e = absurd (false≢true e)
+words_of (Some (pos n) ∷ cs) e = ap (λ (zs : List ℤ). pos n ∷ zs) (words_of cs (and_right (le_z (pos 0) (pos n)) (all_in_form (pos 0) cs) e))
+words_of (Some (negsuc n) ∷ cs) e = absurd (false≢true e)
+words_of (None ∷ cs) e = absurd (false≢true e)
 
 -- ---- and numbers printed are a line in form
 
@@ -175,32 +151,32 @@ module _ (width : ℕ) where
   line_fits [] h = omega arith
   line_fits (z ∷ zs) h = omega (arith, length-append (column width z) (line_of width zs), (h 0 (omega arith)).wide, line_fits zs (later_held z zs h))
 
-  line_columns : (zs : List ℤ) → AllHeld width zs → columns width (length zs) (line_of width zs) ≡ map Number zs
+  line_columns : (zs : List ℤ) → AllHeld width zs → columns width (length zs) (line_of width zs) ≡ map Some zs
   unfolding columns line_of
   line_columns [] h = refl
   line_columns (z ∷ zs) h =
       let f = h 0 (omega arith) in
       rw (take_at (column width z) (line_of width zs) width f.wide, drop_at (column width z) (line_of width zs) width f.wide, read-column-printed width z f)
-      (ap (λ (cs : List Column). Number z ∷ cs) (line_columns zs (later_held z zs h)))
+      (ap (λ (cs : List (Option ℤ)). Some z ∷ cs) (line_columns zs (later_held z zs h)))
 
-  all-numbers : (zs : List ℤ) → AllHeld width zs → all_in_form least_number (map Number zs) ≡ true
+  all-numbers : (zs : List ℤ) → AllHeld width zs → all_in_form least_number (map Some zs) ≡ true
   unfolding all_in_form in_form
   all-numbers [] h = refl
   all-numbers (z ∷ zs) h =
       let b = (h 0 (omega arith)).least in
-      and_both (le_z least_number z) (all_in_form least_number (map Number zs)) (omega zarith) (all-numbers zs (later_held z zs h))
+      and_both (le_z least_number z) (all_in_form least_number (map Some zs)) (omega zarith) (all-numbers zs (later_held z zs h))
 
-all_words : (ws : List ℕ) → all_in_form (pos 0) (map Number (map pos ws)) ≡ true
+all_words : (ws : List ℕ) → all_in_form (pos 0) (map Some (map pos ws)) ≡ true
 unfolding all_in_form in_form
 all_words [] = refl
-all_words (w ∷ ws) = and_both (le_z (pos 0) (pos w)) (all_in_form (pos 0) (map Number (map pos ws))) (omega zarith) (all_words ws)
+all_words (w ∷ ws) = and_both (le_z (pos 0) (pos w)) (all_in_form (pos 0) (map Some (map pos ws))) (omega zarith) (all_words ws)
 
-numbers-back : (zs : List ℤ) → map column_value (map Number zs) ≡ zs
+numbers-back : (zs : List ℤ) → map column_value (map Some zs) ≡ zs
 unfolding column_value
 numbers-back [] = refl
 numbers-back (z ∷ zs) = ap (λ (ys : List ℤ). z ∷ ys) (numbers-back zs)
 
-words_back : (ws : List ℕ) → map word_of (map Number (map pos ws)) ≡ ws
+words_back : (ws : List ℕ) → map word_of (map Some (map pos ws)) ≡ ws
 unfolding word_of
 words_back [] = refl
 words_back (w ∷ ws) = ap (λ (ys : List ℕ). w ∷ ys) (words_back ws)
@@ -228,7 +204,7 @@ unfolding is_list_line list_row
 list_line_read zs n h =
     let line = line_of list_width zs in
     let k = line_fits list_width zs h in
-    let c : columns list_width 8 line ≡ map Number zs = ap (λ (m : ℕ). columns list_width m line) (sym n) ∙ line_columns list_width zs h in (
+    let c : columns list_width 8 line ≡ map Some zs = ap (λ (m : ℕ). columns list_width m line) (sym n) ∙ line_columns list_width zs h in (
       and_both (eqb (length line) (8 * list_width)) (all_in_form least_number (columns list_width 8 line)) (eq-eqb (length line) (8 * list_width) (omega arith)) (ap (all_in_form least_number) c ∙ all-numbers list_width zs h),
       ap (map column_value) c ∙ numbers-back zs,
     )
@@ -249,7 +225,7 @@ pub length-words : (line : List ℕ) → length (text_words line) ≡ length lin
 unfolding text_words
 length-words line = length-map (columns text_width (length line / text_width) line) word_of ∙ length-columns text_width (length line / text_width) line
 
-text-line_form : (line : List ℕ) → is_text_line line ≡ true → TextForm line (text_words line)
+pub text-line_form : (line : List ℕ) → is_text_line line ≡ true → TextForm line (text_words line)
 unfolding is_text_line text_words
 text-line_form line e =
     let a = leb (length line) (64 * text_width) in
@@ -272,20 +248,20 @@ text_line-read ws n h =
     let m = length-map ws pos in
     let k = line_fits text_width (map pos ws) h in
     let q : length line / text_width ≡ length (map pos ws) = omega arith in
-    let c : columns text_width (length line / text_width) line ≡ map Number (map pos ws) = ap (λ (k : ℕ). columns text_width k line) q ∙ line_columns text_width (map pos ws) h in (
+    let c : columns text_width (length line / text_width) line ≡ map Some (map pos ws) = ap (λ (k : ℕ). columns text_width k line) q ∙ line_columns text_width (map pos ws) h in (
       and_both (leb (length line) (64 * text_width)) (eqb (length line % text_width) 0 && all_in_form (pos 0) (columns text_width (length line / text_width) line)) (le-leb (length line) (64 * text_width) (omega arith))
           (and_both (eqb (length line % text_width) 0) (all_in_form (pos 0) (columns text_width (length line / text_width) line)) (eq-eqb (length line % text_width) 0 (omega arith)) (ap (all_in_form (pos 0)) c ∙ all_words ws)),
       ap (map word_of) c ∙ words_back ws,
     )
 
 -- the answer is a count only where the line is in form
-answered : (line : List ℕ) (n : ℕ) → text_answer line ≡ Words n → (is_text_line line ≡ true) × (length (text_words line) ≡ n)
+answered : (line : List ℕ) (n : ℕ) → text_answer line ≡ Some n → (is_text_line line ≡ true) × (length (text_words line) ≡ n)
 unfolding text_answer
 answered line n e = go (is_text_line line) refl
   where
     go : (t : Bool) → is_text_line line ≡ t → (is_text_line line ≡ true) × (length (text_words line) ≡ n)
-    go true f = let g : Words (length (text_words line)) ≡ Words n = rw f at e in (f, cc)
-    go false f = let g : NoWords ≡ Words n = rw f at e in let z : ◌≡◌ {A = ℕ} 0 1 = cc in absurd (omega arith)
+    go true f = let g : ◌≡◌ {A = Option ℕ} (Some (length (text_words line))) (Some n) = rw f at e in (f, cc)
+    go false f = let g : ◌≡◌ {A = Option ℕ} None (Some n) = rw f at e in let z : ◌≡◌ {A = ℕ} 0 1 = cc in absurd (omega arith)
 
 -- a line not in form is refused, and only such a line
 pub text_line_means : (line words : List ℕ) → TextLineMeans line (text_answer line) (cond (is_text_line line) (written (text_words line) words) words)

@@ -1,11 +1,9 @@
 -- The lines of the totals program, without their LF where they are read and with it where they are printed. Assumes nothing.
+use Rattle.std.specs.declared.option.Option.{Option}
+use Rattle.std.specs.declared.option.Option.TheVariants.{Some, None}
 use Rattle.std.specs.Prelude.{◌≡◌, Bool, true, false, cond, ◌&&◌, List, [], ◌∷◌, ◌++◌, map, ℕ, zero, suc, ◌*◌, ◌/◌, ◌%◌, ◌≤◌, ◌<◌, eqb, leb, ℤ, pos, negsuc, length, get_or, take, drop}
 use Rattle.std.specs.Int.Signed.{le_z}
-use Rattle.columns.specs.declared.Column.{Column}
-use Rattle.columns.specs.declared.Column.TheVariants.{Number, NotInForm}
 use Rattle.columns.specs.Columns.{column, least_number, Held, read_column}
-use Rattle.totals_text.specs.declared.TextLine.{TextLine}
-use Rattle.totals_text.specs.declared.TextLine.TheVariants.{Words, NotInForm as NoWords}
 
 -- document 02, T-08: "Columns of LIST grow to twelve characters .. TEXT and the printed columns don't change."
 abbrev pub list_width : ℕ
@@ -15,29 +13,29 @@ abbrev pub text_width : ℕ
 text_width = 8
 
 -- the first columns of a line, each of `width` characters, read
-unfoldable pub columns : ℕ → ℕ → List ℕ → List Column
+unfoldable pub columns : ℕ → ℕ → List ℕ → List (Option ℤ)
 columns width zero line = []
 columns width (suc count) line = read_column width (take width line) ∷ columns width count (drop width line)
 
 -- a number that is not below `least`
-unfoldable pub in_form : ℤ → Column → Bool
-in_form least (Number z) = le_z least z
-in_form least NotInForm = false
+unfoldable pub in_form : ℤ → Option ℤ → Bool
+in_form least (Some z) = le_z least z
+in_form least None = false
 
-unfoldable pub all_in_form : ℤ → List Column → Bool
+unfoldable pub all_in_form : ℤ → List (Option ℤ) → Bool
 all_in_form least [] = true
 all_in_form least (c ∷ cs) = in_form least c && all_in_form least cs
 
 -- the number of a column, 0 where it is not in form
-unfoldable pub column_value : Column → ℤ
-column_value (Number z) = z
-column_value NotInForm = pos 0
+unfoldable pub column_value : Option ℤ → ℤ
+column_value (Some z) = z
+column_value None = pos 0
 
 -- the word of a column, 0 where it is not in form or negative
-unfoldable pub word_of : Column → ℕ
-word_of (Number (pos n)) = n
-word_of (Number (negsuc n)) = 0
-word_of NotInForm = 0
+unfoldable pub word_of : Option ℤ → ℕ
+word_of (Some (pos n)) = n
+word_of (Some (negsuc n)) = 0
+word_of None = 0
 
 -- "eight columns"
 unfoldable pub is_list_line : List ℕ → Bool
@@ -53,8 +51,9 @@ is_text_line line = leb (length line) (64 * text_width) && (eqb (length line % t
 unfoldable pub text_words : List ℕ → List ℕ
 text_words line = map word_of (columns text_width (length line / text_width) line)
 
-unfoldable pub text_answer : List ℕ → TextLine
-text_answer line = cond (is_text_line line) (Words (length (text_words line))) NoWords
+-- how many words a line has, if it is in form
+unfoldable pub text_answer : List ℕ → Option ℕ
+text_answer line = cond (is_text_line line) (Some (length (text_words line))) None
 
 -- the numbers side by side, each in its column
 unfoldable pub line_of : ℕ → List ℤ → List ℕ
@@ -83,9 +82,9 @@ pub record TextForm (line ws : List ℕ) : Type 0 where
   pub is : line ≡ line_of text_width (map pos ws)
 
 -- a line is accepted exactly where it is in form, and its words are then the first that are left
-pub record TextLineMeans (line : List ℕ) (r : TextLine) (words : List ℕ) : Type 0 where
-  pub accepted : (n : ℕ) → r ≡ Words n → (n ≤ 64) × TextForm line (take n words)
-  pub every : (ws : List ℕ) → TextForm line ws → (r ≡ Words (length ws)) × (take (length ws) words ≡ ws)
+pub record TextLineMeans (line : List ℕ) (r : Option ℕ) (words : List ℕ) : Type 0 where
+  pub accepted : (n : ℕ) → r ≡ Some n → (n ≤ 64) × TextForm line (take n words)
+  pub every : (ws : List ℕ) → TextForm line ws → (r ≡ Some (length ws)) × (take (length ws) words ≡ ws)
 
 -- ---- what is printed
 

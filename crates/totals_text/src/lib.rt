@@ -2,14 +2,12 @@
 // that the contracts cite are in specs/.
 #![tactic(auto)]
 
-ghost use Rattle.std.specs.Prelude.{◌≡◌, cond, map, ◌+◌, ◌*◌, ◌≤◌, length};
+ghost use Rattle.std.specs.Prelude.{◌≡◌, true, cond, map, ◌+◌, ◌*◌, ◌≤◌, length};
 ghost use Rattle.std.proofs.lemmas.List.Edits.{sets};
 ghost use Rattle.backoff.specs.Run.{written};
 ghost use Rattle.decimal.specs.Digits.{most_digits};
-ghost use Rattle.columns.specs.Columns.{column, read_column};
-ghost use Rattle.totals_text.specs.Lines.{columns, all_in_form, column_value, word_of, is_list_line, list_row, is_text_line, text_words, text_answer, ListLineMeans, TextLineMeans, refused_word, count_columns, sentence_line, refused_line};
-
-use columns::{Column, LEAST_NUMBER};
+ghost use Rattle.columns.specs.Columns.{column};
+ghost use Rattle.totals_text.specs.Lines.{columns, all_in_form, column_value, is_list_line, list_row, is_text_line, text_words, text_answer, ListLineMeans, TextLineMeans, refused_word, count_columns, sentence_line, refused_line};
 
 // The characters of a column.
 const LIST_WIDTH: usize = 12;
@@ -21,76 +19,23 @@ const LIST_LINE: usize = 8 * LIST_WIDTH;
 
 const LONGEST_TEXT: usize = 64 * TEXT_WIDTH;
 
-// What a line of TEXT holds: so many words.
-#[derive(Drop)]
-pub enum TextLine {
-    Words(u32),
-    NotInForm,
-}
-
-// Whether each of the first columns of a line is a number, and none below the least.
-fn all_in_form(line: &[u8], width: usize, count: usize, least: i32) -> bool
-    requires { (width ≤ most_digits) × (width * count ≤ length line.now) }
-    ensures { result ≡ all_in_form least (columns width count line.now) }
+// Reads as many columns of a line as there is room for: whether each is a number, and none below the least.
+fn read_columns(line: &[u8], width: usize, least: i32, numbers: &mut [i32]) -> bool
+    requires { (width ≤ most_digits) × (width * length numbers.old ≤ length line.now) }
+    ensures answer { result ≡ all_in_form least (columns width (length numbers.old) line.now) }
+    ensures numbers { result ≡ true → numbers.new ≡ map column_value (columns width (length numbers.old) line.now) }
 {
-    let mut i = 0;
-    while i < count {
+    for i in 0..numbers.len() {
         let at = width * i;
-        let Column::Number(z) = columns::read_column(&line[at..at + width], width) else {
+        let Some(z) = columns::read_column(&line[at..at + width], width) else {
             return false;
         };
         if z < least {
             return false;
         }
-        i += 1;
+        numbers[i] = z;
     }
     true
-}
-
-// The number in a column, 0 where it is not in form.
-fn number_in(text: &[u8], width: usize) -> i32
-    requires { width ≤ most_digits }
-    ensures { result ≡ column_value (read_column width text.now) }
-{
-    match columns::read_column(text, width) {
-        Column::Number(z) => z,
-        Column::NotInForm => 0,
-    }
-}
-
-// The word in a column, 0 where it is not in form or negative.
-fn word_in(text: &[u8], width: usize) -> u32
-    requires { width ≤ most_digits }
-    ensures { result ≡ word_of (read_column width text.now) }
-{
-    let z = number_in(text, width);
-    if z < 0 { 0 } else { z as u32 }
-}
-
-// Leaves the numbers of a line's first columns in row.
-fn fill_row(line: &[u8], width: usize, count: usize, row: &mut [i32])
-    requires { (width ≤ most_digits) × (width * count ≤ length line.now) × (count ≤ length row.old) }
-    ensures { row.new ≡ sets row.old 0 (map column_value (columns width count line.now)) }
-{
-    let mut i = 0;
-    while i < count {
-        let at = width * i;
-        row[i] = number_in(&line[at..at + width], width);
-        i += 1;
-    }
-}
-
-// Leaves the words of a line's first columns in words.
-fn fill_words(line: &[u8], width: usize, count: usize, words: &mut [u32])
-    requires { (width ≤ most_digits) × (width * count ≤ length line.now) × (count ≤ length words.old) }
-    ensures { words.new ≡ sets words.old 0 (map word_of (columns width count line.now)) }
-{
-    let mut i = 0;
-    while i < count {
-        let at = width * i;
-        words[i] = word_in(&line[at..at + width], width);
-        i += 1;
-    }
 }
 
 // Reads a line of LIST, without its LF: whether it is in form, and then its eight numbers. A row that is not accepted is
@@ -103,32 +48,34 @@ pub fn read_list_line(line: &[u8], row: &mut [i32; 8]) -> bool
     if line.len() != LIST_LINE {
         return false;
     }
-    if !all_in_form(line, LIST_WIDTH, 8, LEAST_NUMBER) {
+    let mut numbers = [0i32; 8];
+    if !read_columns(line, LIST_WIDTH, i32::MIN, &mut numbers) {
         return false;
     }
-    fill_row(line, LIST_WIDTH, 8, row);
+    *row = numbers;
     true
 }
 
 // Reads a line of TEXT, without its LF: how many words it has, if it is in form, and then the words; what stands behind
 // them, room for a closing word at least, is left as it was, and so are all where the line is refused.
-pub fn read_text_line(line: &[u8], words: &mut [u32; 65]) -> TextLine
+pub fn read_text_line(line: &[u8], words: &mut [u32; 65]) -> Option<u32>
     ensures answer { result ≡ text_answer line.now }
     ensures words { words.new ≡ cond (is_text_line line.now) (written (text_words line.now) words.old) words.old }
     ensures meaning { TextLineMeans line.now result words.new }
 {
-    if LONGEST_TEXT < line.len() {
-        return TextLine::NotInForm;
-    }
-    if line.len() % TEXT_WIDTH != 0 {
-        return TextLine::NotInForm;
+    if LONGEST_TEXT < line.len() || line.len() % TEXT_WIDTH != 0 {
+        return None;
     }
     let count = line.len() / TEXT_WIDTH;
-    if !all_in_form(line, TEXT_WIDTH, count, 0) {
-        return TextLine::NotInForm;
+    let mut room = [0i32; 64];
+    let numbers = &mut room[..count];
+    if !read_columns(line, TEXT_WIDTH, 0, numbers) {
+        return None;
     }
-    fill_words(line, TEXT_WIDTH, count, words);
-    TextLine::Words(count as u32)
+    for i in 0..count {
+        words[i] = numbers[i] as u32;
+    }
+    Some(count as u32)
 }
 
 // Writes a total 16 wide, and answers the place behind it.
@@ -137,8 +84,7 @@ fn put_total(total: i64, out: &mut [u8], at: usize) -> usize
     ensures place { result ≡ at + length (column 16 total) }
     ensures text { out.new ≡ sets out.old at (column 16 total) }
 {
-    let size = columns::magnitude(total);
-    columns::put_column(total < 0, size, 16, out, at)
+    columns::put_column(total < 0, total.unsigned_abs(), 16, out, at)
 }
 
 // Writes the three counts of a sentence, 8 wide each, and answers the place behind them.
@@ -170,13 +116,7 @@ fn put_refused(out: &mut [u8]) -> usize
     ensures place { result ≡ length refused_word }
     ensures text { out.new ≡ sets out.old 0 refused_word }
 {
-    out[0] = b'r';
-    out[1] = b'e';
-    out[2] = b'f';
-    out[3] = b'u';
-    out[4] = b's';
-    out[5] = b'e';
-    out[6] = b'd';
+    out[..7].copy_from_slice(b"refused");
     7
 }
 

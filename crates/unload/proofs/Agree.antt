@@ -1,9 +1,10 @@
 -- Two stores of one order n that have the same for sequences of at most n words: start and every run over them answer alike, as nothing longer is asked
 -- for. Assumes nothing.
+use Rattle.std.specs.declared.option.Option.{Option}
+use Rattle.std.specs.declared.option.Option.TheVariants.{Some, None}
 use mathlib.Core.Path.{◌≡◌, refl, ap, ap₂, ◌∙◌, fun_ext}
 use mathlib.Core.Bool.{Bool, true, false, cond}
 use mathlib.Core.List.{List, [], ◌∷◌, ◌++◌}
-use mathlib.Core.Option.{Option, none, some}
 use Prim.Native.Nat.{ℕ, zero, suc, ◌≤◌, min}
 use native.Mathlib.Omega.{arith}
 use borrow.Author.Tests.{eqb-true}
@@ -112,8 +113,8 @@ module _ (S T : Store) (order : S.order ≡ T.order) (look : (l : List ℕ) → 
 
     step_from_agrees : (o : Option ℕ) → step_from S s o ≡ step_from T s o
     unfolding step_from
-    step_from_agrees none = refl
-    step_from_agrees (some v) = rw (ends_broken_agrees v, points_from_agrees v, matched_from_agrees v, extended_from_agrees v, next_from_agrees v)
+    step_from_agrees None = refl
+    step_from_agrees (Some v) = rw (ends_broken_agrees v, points_from_agrees v, matched_from_agrees v, extended_from_agrees v, next_from_agrees v)
 
     word_step_agrees : (w : ℕ) → word_step S s w ≡ word_step T s w
     unfolding word_step walked_word
@@ -151,18 +152,18 @@ module _ (S T : Store) (order : S.order ≡ T.order) (look : (l : List ℕ) → 
       go false p y e ih = rw e (ap (before p y) ih)
 
   module _ (low : 1 ≤ S.order) where
-    pub start_outcome_agrees : (l : List ℤ) → start_outcome (some S) l ≡ start_outcome (some T) l
+    pub start_outcome_agrees : (l : List ℤ) → start_outcome (Some S) l ≡ start_outcome (Some T) l
     unfolding start_outcome
     start_outcome_agrees l = rw (step_agrees empty low start_word)
 
-    pub run_outcome_agrees : S.order ≤ order_limit → (l : List ℤ) (r : Run) → run_outcome (some S) l r ≡ run_outcome (some T) l r
+    pub run_outcome_agrees : S.order ≤ order_limit → (l : List ℤ) (r : Run) → run_outcome (Some S) l r ≡ run_outcome (Some T) l r
     unfolding run_outcome
     run_outcome_agrees high l r = go (eqb (length l) 9) refl (state_ok S.order l) refl
       where
         bounded : length l ≡ 9 → state_ok S.order l ≡ true → suc (length (state_in l).words) ≤ S.order
         bounded e ok = omega (arith, (state_ok_bounded S.order l e high ok).few)
 
-        go : (a : Bool) → eqb (length l) 9 ≡ a → (b : Bool) → state_ok S.order l ≡ b → cond a (run_in (some S) l r) (refused_run bad_state 0 l r) ≡ cond a (run_in (some T) l r) (refused_run bad_state 0 l r)
+        go : (a : Bool) → eqb (length l) 9 ≡ a → (b : Bool) → state_ok S.order l ≡ b → cond a (run_in (Some S) l r) (refused_run bad_state 0 l r) ≡ cond a (run_in (Some T) l r) (refused_run bad_state 0 l r)
         go false e b f = refl
         go true e false f = let g : state_ok T.order l ≡ false = rw order at f in rw (f, g)
         go true e true f = let g : state_ok T.order l ≡ true = rw order at f in rw (f, g, run_over_agrees r.words (state_in l) 1 (bounded (eqb-true (length l) 9 e) f))

@@ -1,11 +1,12 @@
 -- An array that holds a list says what the list says, to lookups, starts and runs; and the nodes that walking reaches in it are the rows of the list,
 -- in their order, so that the list comes back. Assumes nothing.
+use Rattle.std.specs.declared.option.Option.{Option}
+use Rattle.std.specs.declared.option.Option.TheVariants.{Some, None}
 use mathlib.Core.Path.{◌≡◌, refl, sym, ap, ◌∙◌, subst, fun_ext}
 use mathlib.Core.Logic.{⊎_elim}
 use mathlib.Core.Bool.{Bool, true, false, ◌&&◌, false≢true}
 use mathlib.Core.List.Memᴰ
 use mathlib.Core.List.{List, [], ◌∷◌, map, reverse, reverse_aux, reverse-reverse, Memᴰ}
-use mathlib.Core.Option.{some}
 use Prim.Native.Nat.{ℕ, zero, suc, ◌+◌, ◌*◌, ◌≤◌, ◌<◌}
 use native.Mathlib.Decide.{ℕ_discrete}
 use native.Mathlib.Omega.{arith}
@@ -30,18 +31,14 @@ use Rattle.rows.proofs.Table.{row_in, words-length}
 use Rattle.rows.proofs.Good.{ascend-key}
 use Rattle.rows.proofs.Rows.{good-row-is-row}
 use Rattle.row_search.specs.Search.{find_in}
-use Rattle.row_search.specs.declared.Found.{Found}
-use Rattle.row_search.specs.declared.Found.TheVariants.{At as Row, Nothing as NoRow}
 use Rattle.row_search.proofs.Search.{found-words, finds}
 use Rattle.list.specs.ListModel.{extended_in, continued_in, entry_at, model_of}
 use Rattle.list.proofs.Check.{accepted-good, accepted-size}
 use Rattle.list.proofs.ListModel.{accepted-model}
 use Rattle.markers.specs.Markers.{look_marker}
-use Rattle.markers.specs.declared.Marker.{Marker}
-use Rattle.markers.specs.declared.Marker.TheVariants.{Sound, Broken}
+use Rattle.markers.specs.Markers.{Marker}
+use Rattle.markers.specs.Markers.{Sound, Broken}
 use Rattle.child_slots.specs.Children.{child_at}
-use Rattle.child_slots.specs.declared.Child.{Child}
-use Rattle.child_slots.specs.declared.Child.TheVariants.{At, Nothing}
 use Rattle.double_array.specs.DoubleArray.{marker_at, past, down_to, look_from, look_row, order_in, store_in, opened}
 use Rattle.double_array.proofs.DoubleArray.{opened-order, opened_some, look-row}
 use Rattle.lookup.specs.Lookup.{lookup_in, lookup_outcome}
@@ -65,21 +62,21 @@ module _ (base check : List ℤ) where
   -- ---- how the walk of a lookup and the words that lead to a slot go together
 
   -- a look that comes to an entry has passed the nodes of its words
-  here_through : (us q : List ℕ) (y : Entry) → look_from base check 0 0 (reverse_aux us q) ≡ here y → (s : ℕ) × (walk_to base check us ≡ At s) × (look_from base check (length us) s q ≡ here y)
+  here_through : (us q : List ℕ) (y : Entry) → look_from base check 0 0 (reverse_aux us q) ≡ here y → (s : ℕ) × (walk_to base check us ≡ Some s) × (look_from base check (length us) s q ≡ here y)
   unfolding walk_to look_from
   here_through [] q y h = (0, refl, h)
   here_through (w ∷ us) q y h =
       let d = here_through us (w ∷ q) y h in
       go d.0 d.1 (marker_at base check (length us) d.0) (child_at base check d.0 w) refl d.2
     where
-      go : (s : ℕ) → walk_to base check us ≡ At s → (m : Marker) (c : Child) → child_at base check s w ≡ c → past m (down_to c (λ (t : ℕ). look_from base check (suc (length us)) t q)) ≡ here y
-          → (t : ℕ) × (walk_to base check (w ∷ us) ≡ At t) × (look_from base check (suc (length us)) t q ≡ here y)
+      go : (s : ℕ) → walk_to base check us ≡ Some s → (m : Marker) (c : Option ℕ) → child_at base check s w ≡ c → past m (down_to c (λ (t : ℕ). look_from base check (suc (length us)) t q)) ≡ here y
+          → (t : ℕ) × (walk_to base check (w ∷ us) ≡ Some t) × (look_from base check (suc (length us)) t q ≡ here y)
       go s e Broken c k h = absurd (let z : ◌≡◌ {A = ℕ} 0 1 = cc in omega arith)
-      go s e (Sound p b g f) Nothing k h = absurd (let z : ◌≡◌ {A = ℕ} 0 1 = cc in omega arith)
-      go s e (Sound p b g f) (At t) k h = (t, walk-child base check us w s e ∙ k, h)
+      go s e (Sound p b g f) None k h = absurd (let z : ◌≡◌ {A = ℕ} 0 1 = cc in omega arith)
+      go s e (Sound p b g f) (Some t) k h = (t, walk-child base check us w s e ∙ k, h)
 
   -- and one that comes to nothing comes to nothing below each of them
-  absent_through : (us q : List ℕ) (s : ℕ) → walk_to base check us ≡ At s → look_from base check 0 0 (reverse_aux us q) ≡ absent → look_from base check (length us) s q ≡ absent
+  absent_through : (us q : List ℕ) (s : ℕ) → walk_to base check us ≡ Some s → look_from base check 0 0 (reverse_aux us q) ≡ absent → look_from base check (length us) s q ≡ absent
   unfolding walk_to look_from
   absent_through [] q s e h = let z : 0 ≡ s = cc in subst (λ (i : ℕ). look_from base check 0 i q ≡ absent) z h
   absent_through (w ∷ us) q s e h =
@@ -110,9 +107,9 @@ module _ (base check : List ℤ) where
 
 -- ---- the nodes of rows
 
-abbrev slot_in : Child → ℕ
-slot_in (At s) = s
-slot_in Nothing = 0
+abbrev slot_in : Option ℕ → ℕ
+slot_in (Some s) = s
+slot_in None = 0
 
 module _ (base check t : List ℤ) where
   -- row i's node
@@ -164,10 +161,10 @@ module _ (base check t : List ℤ) (H : Holds base check t) where
   unfolding store_in
   high = (opened-order base check H.array).1
 
-  lookup_agrees : (ws : List ℕ) → lookup_in (some (store_in base check)) ws ≡ lookup_in (some (store_of (model_of t))) ws
+  lookup_agrees : (ws : List ℕ) → lookup_in (Some (store_in base check)) ws ≡ lookup_in (Some (store_of (model_of t))) ws
   lookup_agrees ws = go (leb (length ws) (store_in base check).order) refl
     where
-      go : (b : Bool) → leb (length ws) (store_in base check).order ≡ b → lookup_in (some (store_in base check)) ws ≡ lookup_in (some (store_of (model_of t))) ws
+      go : (b : Bool) → leb (length ws) (store_in base check).order ≡ b → lookup_in (Some (store_in base check)) ws ≡ lookup_in (Some (store_of (model_of t))) ws
       go false e = let f : leb (length ws) (store_of (model_of t)).order ≡ false = rw order_agrees at e in rw (e, f)
       go true e =
           let f : leb (length ws) (store_of (model_of t)).order ≡ true = rw order_agrees at e in
@@ -195,7 +192,7 @@ module _ (base check t : List ℤ) (H : Holds base check t) where
   -- so a list of runs over the array answers as over the list's model
   pub held-runs_in_a_row : (b : Bool) (qs : List Run) → answers (run_outcome (opened base check)) (nine (first (model_of t) b)) qs ≡ map packed (answers (run (model_of t)) (first (model_of t) b) qs)
   held-runs_in_a_row b qs =
-      let same : run_outcome (opened base check) ≡ run_outcome (some (store_of (model_of t))) = fun_ext (λ l. fun_ext (λ r. held_says.runs l r)) in
+      let same : run_outcome (opened base check) ≡ run_outcome (Some (store_of (model_of t))) = fun_ext (λ l. fun_ext (λ r. held_says.runs l r)) in
       rw same (rw store-model at (answers_over_a_store (store_of (model_of t)) store-whole (rw store-model (accepted-model t H.list)) b qs))
 
   -- ---- where its rows lie
@@ -216,19 +213,19 @@ module _ (base check t : List ℤ) (H : Holds base check t) where
       (omega (arith, words-length t j (row_in t j h), (good.row j h).some), omega (arith, (accepted-model t H.list).short (reverse (words t j)) l, length-reverse (words t j), H.order))
 
   -- a row's words lead to a node with its marker
-  row-leads : (j : ℕ) → j < rows_of t → (s : ℕ) × (walk_to base check (words t j) ≡ At s) × (marker_at base check (length (words t j)) s ≡ Sound (probability_at t j) (backoff_at t j) (extended_in t (words t j)) (continued_in t (words t j)))
+  row-leads : (j : ℕ) → j < rows_of t → (s : ℕ) × (walk_to base check (words t j) ≡ Some s) × (marker_at base check (length (words t j)) s ≡ Sound (probability_at t j) (backoff_at t j) (extended_in t (words t j)) (continued_in t (words t j)))
   row-leads j h =
       let k = row-short j h in
-      let d = here_through base check (words t j) [] _ (look-words (words t j) k.0 k.1 ∙ ap (λ (f : Found). look_entry (entry_at t (words t j) f)) (finds t good j h)) in
+      let d = here_through base check (words t j) [] _ (look-words (words t j) k.0 k.1 ∙ ap (λ (f : Option ℕ). look_entry (entry_at t (words t j) f)) (finds t good j h)) in
       (d.0, d.1, look_marker_lem base check (length (words t j)) d.0 _ _ _ _ d.2)
 
   -- and words that lead to a node are a row's
-  leading_is_row : (us : List ℕ) (s : ℕ) → 1 ≤ length us → length us ≤ n → walk_to base check us ≡ At s → (j : ℕ) × (j < rows_of t) × (words t j ≡ us)
+  leading_is_row : (us : List ℕ) (s : ℕ) → 1 ≤ length us → length us ≤ n → walk_to base check us ≡ Some s → (j : ℕ) × (j < rows_of t) × (words t j ≡ us)
   leading_is_row us s l h e = go (find_in t us) refl
     where
-      go : (f : Found) → find_in t us ≡ f → (j : ℕ) × (j < rows_of t) × (words t j ≡ us)
-      go (Row j) q = let w = found-words t us j q in (j, w.0, w.1)
-      go NoRow q = absurd (node_not_absent base check (length us) s (absent_through base check us [] s e (look-words us l h ∙ rw q)))
+      go : (f : Option ℕ) → find_in t us ≡ f → (j : ℕ) × (j < rows_of t) × (words t j ≡ us)
+      go (Some j) q = let w = found-words t us j q in (j, w.0, w.1)
+      go None q = absurd (node_not_absent base check (length us) s (absent_through base check us [] s e (look-words us l h ∙ rw q)))
 
   -- ---- so the nodes reached are the rows', in the order of the rows
 
@@ -252,7 +249,7 @@ module _ (base check t : List ℤ) (H : Holds base check t) where
           let l : d.0 < rows_of t = omega (arith, d.2) in
           let k = row-short d.0 l in
           let s = (row-leads d.0 l).1 in
-          rw d.3 (record { some = k.0; few = k.1; leads = s ∙ ap (λ (c : Child). At (slot_in c)) (sym s) })
+          rw d.3 (record { some = k.0; few = k.1; leads = s ∙ ap (λ (c : Option ℕ). Some (slot_in c)) (sym s) })
 
       shown : (r : Reached) → IsReached base check n r → Memᴰ r (nodes_from base check t 0 (rows_of t))
       shown r w =

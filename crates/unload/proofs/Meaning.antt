@@ -1,5 +1,7 @@
 -- What the answers of unload mean: an accepted one gives the one list that the array holds, so that every lookup, start and run over the array is what
 -- this list says; refused by 12, the array holds none. Assumes nothing.
+use Rattle.std.specs.declared.option.Option.{Option}
+use Rattle.std.specs.declared.option.Option.TheVariants.{Some, None}
 use mathlib.Core.Path.{◌≡◌, refl, sym, ap, ◌∙◌}
 use mathlib.Core.Logic.{◌⊎◌, inl, inr}
 use mathlib.Core.Bool.{Bool, true, false, ◌&&◌, false≢true}
@@ -18,21 +20,17 @@ use Rattle.backoff.specs.Run.{Run, written, run, first}
 use Rattle.backoff.specs.Runs.{answers}
 use Rattle.backoff.specs.Store.{absent, entry_of, is_broken, look_entry, model_in, run_outcome}
 use Rattle.backoff.specs.NineNumbers.{nine}
-use Rattle.backoff.specs.declared.Verdict.TheVariants.{Accepted, Refused}
+use Rattle.backoff.specs.Refusal.{Accepted, Refused}
 use Rattle.backoff.proofs.FirstMet.{met_when, not_when, not-false}
 use Rattle.backoff.proofs.Store.{entry_of-look_entry, look_entry-sound, packed}
 use Rattle.rows.specs.Table.{rows_of, order_of, words}
 use Rattle.row_search.specs.Search.{find_in}
-use Rattle.row_search.specs.declared.Found.{Found}
-use Rattle.row_search.specs.declared.Found.TheVariants.{At as Row, Nothing as NoRow}
 use Rattle.row_search.proofs.Search.{found-words, finds}
 use Rattle.list.specs.Check.{verdict}
 use Rattle.list.specs.ListModel.{entry_at, model_of}
 use Rattle.list.proofs.Check.{accepted-good, accepted-size, number-accepted}
-use Rattle.markers.specs.declared.Marker.TheVariants.{Sound}
+use Rattle.markers.specs.Markers.{Sound}
 use Rattle.child_slots.specs.Children.{child_at}
-use Rattle.child_slots.specs.declared.Child.{Child}
-use Rattle.child_slots.specs.declared.Child.TheVariants.{At, Nothing}
 use Rattle.double_array.specs.DoubleArray.{marker_at, look_from, look_row, is_array, order_in, store_in, opened}
 use Rattle.double_array.proofs.DoubleArray.{root-sound, look-here, look-down}
 use Rattle.array_nodes.specs.Nodes.{Reached, walk_to, reached, slots_of}
@@ -78,14 +76,14 @@ module _ (base check : List ℤ) (array : is_array base check ≡ true) (ok : is
   rows : rows_of t ≡ rows_in base
   rows = eqb-true (rows_of t) (rows_in base) tests.3
 
-  sound-at : (us : List ℕ) (s : ℕ) → length us ≤ n → walk_to base check us ≡ At s → (p b : ℤ) × (e f : Bool) × (marker_at base check (length us) s ≡ Sound p b e f)
+  sound-at : (us : List ℕ) (s : ℕ) → length us ≤ n → walk_to base check us ≡ Some s → (p b : ℤ) × (e f : Bool) × (marker_at base check (length us) s ≡ Sound p b e f)
   unfolding walk_to
   sound-at [] s h e = let z : 0 ≡ s = cc in (_, _, _, _, ap (marker_at base check 0) (sym z) ∙ root-sound base check array)
   sound-at (w ∷ us) s h e = (_, _, _, _, all_sound base check t rs tests.0 (record { slot = s; words = w ∷ us }) (reached_shown base check n (record { slot = s; words = w ∷ us }) (record { some = omega arith; few = h; leads = e })))
 
   -- ---- the walk of lookup and run comes to where the words lead
 
-  look_through : (us q : List ℕ) (s : ℕ) → length us ≤ n → walk_to base check us ≡ At s → look_from base check 0 0 (reverse_aux us q) ≡ look_from base check (length us) s q
+  look_through : (us q : List ℕ) (s : ℕ) → length us ≤ n → walk_to base check us ≡ Some s → look_from base check 0 0 (reverse_aux us q) ≡ look_from base check (length us) s q
   unfolding walk_to
   look_through [] q s h e = let z : 0 ≡ s = cc in ap (λ (i : ℕ). look_from base check 0 i q) z
   look_through (w ∷ us) q s h e =
@@ -93,38 +91,38 @@ module _ (base check : List ℤ) (array : is_array base check ≡ true) (ok : is
       let m = sound-at us d.0 (omega arith) d.1 in
       look_through us (w ∷ q) d.0 (omega arith) d.1 ∙ look-down base check (length us) d.0 m.0 m.1 m.2 m.3 w q m.4 ∙ rw d.2
 
-  look_astray : (us q : List ℕ) → length us ≤ n → walk_to base check us ≡ Nothing → look_from base check 0 0 (reverse_aux us q) ≡ absent
+  look_astray : (us q : List ℕ) → length us ≤ n → walk_to base check us ≡ None → look_from base check 0 0 (reverse_aux us q) ≡ absent
   unfolding walk_to
   look_astray [] q h e = absurd (let z : ◌≡◌ {A = ℕ} 0 1 = cc in omega arith)
   look_astray (w ∷ us) q h e = go (walk_to base check us) refl (look_astray us (w ∷ q) (omega arith))
     where
-      go : (c : Child) → walk_to base check us ≡ c → (walk_to base check us ≡ Nothing → look_from base check 0 0 (reverse_aux us (w ∷ q)) ≡ absent) → look_from base check 0 0 (reverse_aux us (w ∷ q)) ≡ absent
-      go Nothing k ih = ih k
-      go (At s) k ih =
+      go : (c : Option ℕ) → walk_to base check us ≡ c → (walk_to base check us ≡ None → look_from base check 0 0 (reverse_aux us (w ∷ q)) ≡ absent) → look_from base check 0 0 (reverse_aux us (w ∷ q)) ≡ absent
+      go None k ih = ih k
+      go (Some s) k ih =
           let m = sound-at us s (omega arith) k in
-          let c : child_at base check s w ≡ Nothing = sym (walk-child base check us w s k) ∙ e in
+          let c : child_at base check s w ≡ None = sym (walk-child base check us w s k) ∙ e in
           look_through us (w ∷ q) s (omega arith) k ∙ look-down base check (length us) s m.0 m.1 m.2 m.3 w q m.4 ∙ rw c
 
   -- ---- and the list has what is found there
 
-  unlisted : (us : List ℕ) → ((s : ℕ) → 1 ≤ length us → walk_to base check us ≡ At s → ⊥) → find_in t us ≡ NoRow
+  unlisted : (us : List ℕ) → ((s : ℕ) → 1 ≤ length us → walk_to base check us ≡ Some s → ⊥) → find_in t us ≡ None
   unlisted us none-there = go (find_in t us) refl
     where
-      go : (f : Found) → find_in t us ≡ f → f ≡ NoRow
-      go NoRow e = refl
-      go (Row i) e =
+      go : (f : Option ℕ) → find_in t us ≡ f → f ≡ None
+      go None e = refl
+      go (Some i) e =
           let w = found-words t us i e in
           let d = row_node base check rs (readable base check array) i (omega (arith, w.0, rows-table_of base check rs)) in
           let k = reached_told base check n d.0 d.1 in
           let same : d.0.words ≡ us = sym d.2.same ∙ w.1 in
           absurd (none-there d.0.slot (omega (arith, k.some, ap length same)) (ap (walk_to base check) (sym same) ∙ k.leads))
 
-  look-listed : (us : List ℕ) (s : ℕ) → 1 ≤ length us → length us ≤ n → walk_to base check us ≡ At s → look_from base check 0 0 (reverse us) ≡ look_entry (entry_at t us (find_in t us))
+  look-listed : (us : List ℕ) (s : ℕ) → 1 ≤ length us → length us ≤ n → walk_to base check us ≡ Some s → look_from base check 0 0 (reverse us) ≡ look_entry (entry_at t us (find_in t us))
   look-listed us s l h e =
       let r : Reached = record { slot = s; words = us } in
       let m = reached_shown base check n r (record { some = l; few = h; leads = e }) in
       let d = node_row base check rs (readable base check array) r m in
-      let f : find_in t us ≡ Row d.0 = ap (find_in t) (sym d.2.same) ∙ finds t (accepted-good t list) d.0 (omega (arith, d.1, rows-table_of base check rs)) in
+      let f : find_in t us ≡ Some d.0 = ap (find_in t) (sym d.2.same) ∙ finds t (accepted-good t list) d.0 (omega (arith, d.1, rows-table_of base check rs)) in
       look_through us [] s h e
       ∙ look-here base check (length us) s _ _ _ _ (all_sound base check t rs tests.0 r m)
       ∙ rw (f, d.2.probability, d.2.backoff)
@@ -136,11 +134,11 @@ module _ (base check : List ℤ) (array : is_array base check ≡ true) (ok : is
       let us = reverse (w ∷ l) in
       ap (look_from base check 0 0) (sym (reverse-reverse (w ∷ l))) ∙ go us (omega (arith, length-reverse (w ∷ l))) (omega (arith, length-reverse (w ∷ l))) (walk_to base check us) refl
     where
-      go : (us : List ℕ) → 1 ≤ length us → length us ≤ n → (c : Child) → walk_to base check us ≡ c → look_from base check 0 0 (reverse us) ≡ look_entry (entry_at t us (find_in t us))
-      go us k h (At s) e = look-listed us s k h e
-      go us k h Nothing e = look_astray us [] h e ∙ rw (unlisted us (λ s l q. let z : ◌≡◌ {A = ℕ} 0 1 = cc in omega arith))
+      go : (us : List ℕ) → 1 ≤ length us → length us ≤ n → (c : Option ℕ) → walk_to base check us ≡ c → look_from base check 0 0 (reverse us) ≡ look_entry (entry_at t us (find_in t us))
+      go us k h (Some s) e = look-listed us s k h e
+      go us k h None e = look_astray us [] h e ∙ rw (unlisted us (λ s l q. let z : ◌≡◌ {A = ℕ} 0 1 = cc in omega arith))
 
-  row-slot : (i : ℕ) → i < rows_of t → walk_to base check (words t i) ≡ At (get_or (slots_of rs) i 0)
+  row-slot : (i : ℕ) → i < rows_of t → walk_to base check (words t i) ≡ Some (get_or (slots_of rs) i 0)
   row-slot i h =
       let d = row_node base check rs (readable base check array) i (omega (arith, rows-table_of base check rs)) in
       rw (d.2.same, d.2.slot) (reached_told base check n d.0 d.1).leads
@@ -262,7 +260,7 @@ module _ (base check t : List ℤ) (H : Holds base check t) where
       outcome_filled base check table work H.array (and_both (leb (8 * rows_in base) (length table)) (leb (rows_in base) (length work)) l m) (held-is-list base check t H) ∙ rw (held-table base check t H)
 
   -- with the slots of its rows' nodes
-  pub held-slot : (i : ℕ) → i < rows_of t → walk_to base check (words t i) ≡ At (get_or (slots_of (reached base check (order_in check))) i 0)
+  pub held-slot : (i : ℕ) → i < rows_of t → walk_to base check (words t i) ≡ Some (get_or (slots_of (reached base check (order_in check))) i 0)
   held-slot i h =
       let e = held-table base check t H in
       rw e at (row-slot base check H.array (held-is-list base check t H) i (rw e h))

@@ -2,8 +2,8 @@
 use Rattle.std.specs.Prelude.{cond, ◌&&◌, List, ℕ, ◌*◌, leb, length, replicate, ℤ, pos}
 use Rattle.backoff.specs.Refusal.{array_head, broken_node, short_slice}
 use Rattle.backoff.specs.Run.{written}
-use Rattle.backoff.specs.declared.Verdict.{Verdict}
-use Rattle.backoff.specs.declared.Verdict.TheVariants.{Accepted, Refused}
+use Rattle.backoff.specs.Refusal.{Verdict}
+use Rattle.backoff.specs.Refusal.{Accepted, Refused}
 use Rattle.double_array.specs.DoubleArray.{is_array, order_in}
 use Rattle.array_nodes.specs.Nodes.{Reached, reached, slots_of}
 use Rattle.node_rows.specs.Rows.{table_of}

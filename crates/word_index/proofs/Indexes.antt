@@ -1,4 +1,5 @@
 -- Laws of the index in the rows' free numbers: it starts empty, it finds a text, and it takes a word. Assumes nothing.
+use Rattle.std.specs.declared.option.Option.TheVariants.{Some, None}
 use mathlib.Core.Path.{◌≡◌, refl, sym, ap, ap₂, ◌∙◌}
 use mathlib.Core.Logic.{⊎_elim}
 use mathlib.Core.Bool.{Bool, true, false, cond}
@@ -15,7 +16,6 @@ use Rattle.integer.proofs.Arithmetic.{zarith}
 use Rattle.integer.proofs.Ranges.{between-yes, lt_or_ge}
 use Rattle.rows.specs.Table.{field}
 use Rattle.rows.proofs.Table.{field_stored, field-kept}
-use Rattle.row_search.specs.declared.Found.TheVariants.{At, Nothing}
 use Rattle.word_index.specs.Texts.{text_of, recorded, record_with}
 use Rattle.backoff.specs.Limits.{text_limit}
 use Rattle.word_index.specs.Index.{link_limit, hash, bucket_of, latest, Indexed, Room, linked, cleared, SameRows}
@@ -142,13 +142,13 @@ module _ (t : List ℤ) (s : List ℕ) (b words : ℕ) (text : List ℕ) (x : In
       let m = latest_le s b (bucket_of b (text_of s k)) k in
       omega arith
 
-  pub following_found : (k : ℕ) → 0 < k → Following s b words text k → text ≡ text_of s k → At k ≡ record_with s words text
+  pub following_found : (k : ℕ) → 0 < k → Following s b words text k → text ≡ text_of s k → Some k ≡ record_with s words text
   following_found k p w e =
       sym
       (number_at s text words x.start k (w.first p) w.inside (sym e)
       (λ j a l f. x.distinct j k a l w.inside (f ∙ e)))
 
-  pub following_none : (k : ℕ) → k ≤ 0 → Following s b words text k → Nothing ≡ record_with s words text
+  pub following_none : (k : ℕ) → k ≤ 0 → Following s b words text k → None ≡ record_with s words text
   following_none k z w = sym (number-none s text words x.start (λ j a l e. w.absent j (omega arith) a l e))
 
 -- ---- a word is added
@@ -218,7 +218,7 @@ module _ (t : List ℤ) (s : List ℕ) (b w : ℕ) (text : List ℕ) (x : Indexe
       rw e (omega arith))
       (lt_or_ge k w)
 
-  module _ (new : record_with s w text ≡ Nothing) where
+  module _ (new : record_with s w text ≡ None) where
     distinct-added : (j k : ℕ) → 4 ≤ j → j < k → k < w + 1 → text_of (recorded s w text) j ≡ text_of (recorded s w text) k → ⊥
     distinct-added j k a l m e =
         ⊎_elim

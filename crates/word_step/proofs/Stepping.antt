@@ -1,8 +1,9 @@
 -- One word from a state over a double array: the step of crate backoff from what the code reads. Assumes nothing.
+use Rattle.std.specs.declared.option.Option.{Option}
+use Rattle.std.specs.declared.option.Option.TheVariants.{Some, None}
 use mathlib.Core.Path.{◌≡◌, refl, sym, ap, ap₂, ◌∙◌}
 use mathlib.Core.Bool.{Bool, true, false, cond, true≢false}
 use mathlib.Core.List.{List, [], ◌∷◌, map}
-use mathlib.Core.Option.{Option, none}
 use Prim.Native.Nat.{ℕ, suc, ◌+◌, ◌-◌, ◌≤◌, ◌<◌, min}
 use native.Mathlib.Numerals.{add-one}
 use native.Mathlib.Omega.{arith}
@@ -21,12 +22,8 @@ use Rattle.backoff.specs.NineNumbers.{all}
 use Rattle.backoff.specs.Store.{Look, absent, broken, here, model_in, Step, scored, stuck, unknown_at, word_at, walked_word, step_from, word_step}
 use Rattle.backoff.proofs.State.{take-backoffs_of, live_length_le, walk_le}
 use Rattle.backoff.proofs.NineNumbers.{next_from_bounded}
-use Rattle.markers.specs.Markers.{look_marker}
-use Rattle.markers.specs.declared.Marker.{Marker}
-use Rattle.markers.specs.declared.Marker.TheVariants.{Sound, Broken}
+use Rattle.markers.specs.Markers.{Marker, Sound, Broken, look_marker}
 use Rattle.child_slots.specs.Children.{child_at, root_child, is_child}
-use Rattle.child_slots.specs.declared.Child.{Child}
-use Rattle.child_slots.specs.declared.Child.TheVariants.{At, Nothing}
 use Rattle.child_slots.proofs.Children.{child_told}
 use Rattle.double_array.specs.DoubleArray.{marker_at, down_to, look_from, is_array, order_in, store_in}
 use Rattle.double_array.proofs.DoubleArray.{root-sound, root-child, look-down, opened-order}
@@ -35,23 +32,20 @@ use Rattle.carried_state.specs.Packed.{digits, pushed, held_in, Carries}
 use Rattle.carried_state.proofs.Digits.{length_digits, digits-pushed}
 use Rattle.word_walk.specs.declared.Kept.{Kept}
 use Rattle.word_walk.specs.declared.Walked.{Walked}
-use Rattle.word_walk.specs.declared.Walked.TheVariants.{Whole, Stuck}
 use Rattle.word_walk.specs.Rows.{array_model}
 use Rattle.word_walk.specs.Walk.{meets_broken, Read, WalkedOver}
 use Rattle.word_walk.proofs.Rows.{rows-in_backoff}
 use Rattle.word_step.specs.declared.Kind.TheVariants.{Known, Unknown}
-use Rattle.word_step.specs.declared.Score.{Score}
 use Rattle.word_step.specs.declared.Stepped.{Stepped}
-use Rattle.word_step.specs.declared.Stepped.TheVariants.{Scored, Refused}
 use Rattle.word_step.specs.Answers.{byte_of, step_of}
 use Rattle.word_step.specs.Inner.{replaced, kind_of, Answerable, answered, SteppedTo}
 
 -- w is walked where its node is there, whatever would take its place
-own-word : (w : ℕ) (m : Marker) (other : Option ℕ) → word_at w (look_marker m) other ≡ word_at w (look_marker m) none
+own-word : (w : ℕ) (m : Marker) (other : Option ℕ) → word_at w (look_marker m) other ≡ word_at w (look_marker m) None
 own-word w (Sound p b e f) other = refl
 own-word w Broken other = refl
 
-other_word : (l : Look) → unknown_at l ≡ word_at unknown_word l none
+other_word : (l : Look) → unknown_at l ≡ word_at unknown_word l None
 other_word absent = refl
 other_word broken = refl
 other_word (here e) = refl
@@ -59,31 +53,31 @@ other_word (here e) = refl
 -- ---- a word w that is scored as v
 
 module _ (base check : List ℤ) (h : is_array base check ≡ true) where
-  at-child : (w : ℕ) (c : Child) → child_at base check 0 w ≡ c → (store_in base check).look (w ∷ []) ≡ down_to c (λ (t : ℕ). look_marker (marker_at base check 1 t))
+  at-child : (w : ℕ) (c : Option ℕ) → child_at base check 0 w ≡ c → (store_in base check).look (w ∷ []) ≡ down_to c (λ (t : ℕ). look_marker (marker_at base check 1 t))
   unfolding store_in look_from
-  at-child w c e = look-down base check 0 0 _ _ _ _ w [] (root-sound base check h) ∙ ap (λ (k : Child). down_to k (λ (t : ℕ). look_marker (marker_at base check 1 t))) e
+  at-child w c e = look-down base check 0 0 _ _ _ _ w [] (root-sound base check h) ∙ ap (λ (k : Option ℕ). down_to k (λ (t : ℕ). look_marker (marker_at base check 1 t))) e
 
   module _ (w v : ℕ) (e : v ≡ replaced check w) where
-    chosen : (c : Child) → child_at base check 0 w ≡ c → v ≡ cond (is_child c) w unknown_word
-    chosen c p = e ∙ ap (λ (k : Child). cond (is_child k) w unknown_word) (root-child base check h w ∙ p)
+    chosen : (c : Option ℕ) → child_at base check 0 w ≡ c → v ≡ cond (is_child c) w unknown_word
+    chosen c p = e ∙ ap (λ (k : Option ℕ). cond (is_child k) w unknown_word) (root-child base check h w ∙ p)
 
     -- v is walked
-    walked_word_lem : walked_word (store_in base check) w ≡ word_at v ((store_in base check).look (v ∷ [])) none
+    walked_word_lem : walked_word (store_in base check) w ≡ word_at v ((store_in base check).look (v ∷ [])) None
     unfolding walked_word
     walked_word_lem = go (child_at base check 0 w) refl
       where
-        go : (c : Child) → child_at base check 0 w ≡ c → word_at w ((store_in base check).look (w ∷ [])) (unknown_at ((store_in base check).look (unknown_word ∷ []))) ≡ word_at v ((store_in base check).look (v ∷ [])) none
-        go (At t) p = rw (chosen (At t) p, at-child w (At t) p) (own-word w (marker_at base check 1 t) (unknown_at ((store_in base check).look (unknown_word ∷ []))))
-        go Nothing p = rw (chosen Nothing p, at-child w Nothing p) (other_word ((store_in base check).look (unknown_word ∷ [])))
+        go : (c : Option ℕ) → child_at base check 0 w ≡ c → word_at w ((store_in base check).look (w ∷ [])) (unknown_at ((store_in base check).look (unknown_word ∷ []))) ≡ word_at v ((store_in base check).look (v ∷ [])) None
+        go (Some t) p = rw (chosen (Some t) p, at-child w (Some t) p) (own-word w (marker_at base check 1 t) (unknown_at ((store_in base check).look (unknown_word ∷ []))))
+        go None p = rw (chosen None p, at-child w None p) (other_word ((store_in base check).look (unknown_word ∷ [])))
 
-    step_of_lem : (s : Carried) (l : Look) → (store_in base check).look (v ∷ []) ≡ l → word_step (store_in base check) s w ≡ step_from (store_in base check) s (word_at v l none)
+    step_of_lem : (s : Carried) (l : Look) → (store_in base check).look (v ∷ []) ≡ l → word_step (store_in base check) s w ≡ step_from (store_in base check) s (word_at v l None)
     unfolding word_step
-    step_of_lem s l q = ap (step_from (store_in base check) s) (walked_word_lem ∙ ap (λ (k : Look). word_at v k none) q)
+    step_of_lem s l q = ap (step_from (store_in base check) s) (walked_word_lem ∙ ap (λ (k : Look). word_at v k None) q)
 
     -- w is refused where the root has no child for v
-    pub missing_refused : (s : Carried) → root_child check v ≡ Nothing → word_step (store_in base check) s w ≡ stuck
+    pub missing_refused : (s : Carried) → root_child check v ≡ None → word_step (store_in base check) s w ≡ stuck
     unfolding step_from
-    missing_refused s q = step_of_lem s absent (at-child v Nothing (sym (root-child base check h v) ∙ q))
+    missing_refused s q = step_of_lem s absent (at-child v None (sym (root-child base check h v) ∙ q))
 
     -- and where the walk meets a broken node
     broken-refused : (s : Carried) → meets_broken (store_in base check) s.words v ≡ true → word_step (store_in base check) s w ≡ stuck
@@ -96,23 +90,23 @@ module _ (base check : List ℤ) (h : is_array base check ≡ true) where
         go (here x) q = step_of_lem s (here x) q ∙ rw (rw q at m)
 
     -- and is scored else
-    sound-scored : (s : Carried) (slot : ℕ) → child_at base check 0 v ≡ At slot → meets_broken (store_in base check) s.words v ≡ false → word_step (store_in base check) s w ≡ scored (points_from (array_model base check) s v) (length_byte (matched_from (array_model base check) s v) v (extended_from (array_model base check) s v)) (next_from (array_model base check) s v)
+    sound-scored : (s : Carried) (slot : ℕ) → child_at base check 0 v ≡ Some slot → meets_broken (store_in base check) s.words v ≡ false → word_step (store_in base check) s w ≡ scored (points_from (array_model base check) s v) (length_byte (matched_from (array_model base check) s v) v (extended_from (array_model base check) s v)) (next_from (array_model base check) s v)
     unfolding step_from
     sound-scored s slot c m = go (marker_at base check 1 slot) refl
       where
         go : (x : Marker) → marker_at base check 1 slot ≡ x → word_step (store_in base check) s w ≡ scored (points_from (array_model base check) s v) (length_byte (matched_from (array_model base check) s v) v (extended_from (array_model base check) s v)) (next_from (array_model base check) s v)
         go (Sound p b x f) q =
-            let l = at-child v (At slot) c ∙ ap look_marker q in
+            let l = at-child v (Some slot) c ∙ ap look_marker q in
             step_of_lem s _ l ∙ rw (rw l at m)
-        go Broken q = absurd (true≢false (rw (at-child v (At slot) c ∙ ap look_marker q) at m))
+        go Broken q = absurd (true≢false (rw (at-child v (Some slot) c ∙ ap look_marker q) at m))
 
 -- what an answer says of the step that it is
-pub step_told : {n : ℕ} {expected : Step} {r : Stepped} {backoffs : List ℤ} → SteppedTo n expected r backoffs → (x : Stepped) → r ≡ x → expected ≡ step_of x backoffs
-step_told {backoffs = backoffs} a x e = sym a.is ∙ ap (λ (y : Stepped). step_of y backoffs) e
+pub step_told : {n : ℕ} {expected : Step} {r : Option Stepped} {backoffs : List ℤ} → SteppedTo n expected r backoffs → (x : Option Stepped) → r ≡ x → expected ≡ step_of x backoffs
+step_told {backoffs = backoffs} a x e = sym a.is ∙ ap (λ (y : Option Stepped). step_of y backoffs) e
 
 -- the answer to a word that is refused
-pub refused : {n : ℕ} {expected : Step} {backoffs : List ℤ} → expected ≡ stuck → SteppedTo n expected Refused backoffs
-refused e = record { is = sym e; carries = λ score next q. let z : ◌≡◌ {A = ℕ} 0 1 = cc in absurd (omega arith) }
+pub refused : {n : ℕ} {expected : Step} {backoffs : List ℤ} → expected ≡ stuck → SteppedTo n expected None backoffs
+refused e = record { is = sym e; carries = λ stepped q. let z : ◌≡◌ {A = ℕ} 0 1 = cc in absurd (omega arith) }
 
 -- ---- the state that a word leaves
 
@@ -126,7 +120,7 @@ kind_byte_lem v matched e = go (eqb v unknown_word)
     go false = omega arith
 
 -- the word v in slot `slot`, walked over the state that is carried
-module _ (base check : List ℤ) (h : is_array base check ≡ true) (c : Packed) (given : List ℤ) (held : Carries (order_in check) c given) (v slot : ℕ) (child : child_at base check 0 v ≡ At slot) where
+module _ (base check : List ℤ) (h : is_array base check ≡ true) (c : Packed) (given : List ℤ) (held : Carries (order_in check) c given) (v slot : ℕ) (child : child_at base check 0 v ≡ Some slot) where
   abbrev M : Model
   M = array_model base check
 
@@ -197,21 +191,23 @@ module _ (base check : List ℤ) (h : is_array base check ≡ true) (c : Packed)
       owed = d.owed;
     }
 
-  pub answerable : (walked : Walked) (backoffs : List ℤ) → WalkedOver (store_in base check) s v walked backoffs → Answerable v walked
-  answerable (Whole points passed kept extended) backoffs d = (word-is-word, passed-few points passed kept extended backoffs d)
-  answerable Stuck backoffs d = tt
+  pub answerable : (walked : Walked) (backoffs : List ℤ) → WalkedOver (store_in base check) s v (Some walked) backoffs → Answerable v walked
+  answerable walked backoffs d = (word-is-word, passed-few walked.points walked.passed walked.kept walked.extended backoffs d)
 
   -- so the word's step is what the code makes of the walk
-  pub stepped : (n w : ℕ) → n ≡ order_in check → v ≡ replaced check w → (walked : Walked) (backoffs : List ℤ) → WalkedOver (store_in base check) s v walked backoffs → (r : Stepped) → r ≡ answered c.words v walked → SteppedTo n (word_step (store_in base check) s w) r backoffs
-  stepped n w o e walked backoffs d r q = rw (q, o) (go walked d)
+  pub walk_refused : (n w : ℕ) → v ≡ replaced check w → (backoffs : List ℤ) → meets_broken (store_in base check) s.words v ≡ true → SteppedTo n (word_step (store_in base check) s w) None backoffs
+  walk_refused n w e backoffs m = refused (broken-refused base check h w v e s m)
+
+  pub stepped : (w : ℕ) → v ≡ replaced check w → (walked : Walked) (backoffs : List ℤ) → WalkedOver (store_in base check) s v (Some walked) backoffs → (r : Stepped) → r ≡ answered c.words v walked → SteppedTo (order_in check) (word_step (store_in base check) s w) (Some r) backoffs
+  stepped w e k backoffs d r q =
+      rw q
+      (record {
+        is = rw (d.points_are, byte_is k.points k.passed k.kept k.extended backoffs d, next-held k.points k.passed k.kept k.extended backoffs d) (sym (sound-scored base check h w v e s slot child d.sound));
+        carries = λ stepped z. rw (sym (next-is stepped z)) (next-carries k.points k.passed k.kept k.extended backoffs d);
+      })
     where
-      go : (k : Walked) → WalkedOver (store_in base check) s v k backoffs → SteppedTo (order_in check) (word_step (store_in base check) s w) (answered c.words v k) backoffs
-      go (Whole points passed kept extended) d =
-          record {
-            is = rw (d.points_are, byte_is points passed kept extended backoffs d, next-held points passed kept extended backoffs d) (sym (sound-scored base check h w v e s slot child d.sound));
-            carries = λ score next q. rw (sym (next-is score next q)) (next-carries points passed kept extended backoffs d);
-          }
-        where
-          next-is : (score : Score) (next : Packed) → answered c.words v (Whole points passed kept extended) ≡ Scored score next → record { count = kept.count; words = pushed v c.words; owed = kept.owed } ≡ next
-          next-is score next q = cc
-      go Stuck d = refused (broken-refused base check h w v e s d)
+      some_inj : {x y : Stepped} → ◌≡◌ {A = Option Stepped} (Some x) (Some y) → x ≡ y
+      some_inj z = cc
+
+      next-is : (stepped : Stepped) → ◌≡◌ {A = Option Stepped} (Some (answered c.words v k)) (Some stepped) → record { count = k.kept.count; words = pushed v c.words; owed = k.kept.owed } ≡ stepped.next
+      next-is stepped z = ap (λ (x : Stepped). x.next) (some_inj z)

@@ -1,4 +1,5 @@
 -- The end of a walk: as the code has it, and at a node behind which there are no more words. Assumes nothing.
+use Rattle.std.specs.declared.option.Option.{Option}
 use mathlib.Core.Path.{◌≡◌, ◌∙◌}
 use mathlib.Core.Bool.{Bool, not, ◌||◌}
 use mathlib.Core.List.{List}
@@ -9,8 +10,7 @@ use lib.IntN.{ℤ, pos, ◌+ℤ◌}
 use Rattle.integer.specs.Integer.{eq_z}
 use Rattle.backoff.specs.State.{State as Carried}
 use Rattle.backoff.specs.Store.{Store}
-use Rattle.markers.specs.declared.Marker.{Marker}
-use Rattle.markers.specs.declared.Marker.TheVariants.{Sound, Broken}
+use Rattle.markers.specs.Markers.{Marker, Sound, Broken}
 use Rattle.double_array.specs.DoubleArray.{marker_at, store_in}
 use Rattle.double_array.proofs.DoubleArray.{marker_in_range}
 use Rattle.word_walk.specs.declared.Kept.{Kept}
@@ -23,7 +23,7 @@ use Rattle.word_walk.proofs.Walking.{Walking, walking_broken, walking_ends}
 pub read_as : {S : Store} {s : Carried} {v passed : ℕ} {points x : ℤ} {kept noted : Kept} {extended : Bool} {bs cs : List ℤ} → x ≡ points → noted ≡ kept → cs ≡ bs → Read S s v points passed kept extended bs → Read S s v x passed noted extended cs
 read_as e g h r = rw (e, g, h) r
 
-pub walked_as : (S : Store) (s : Carried) (v : ℕ) {r x : Walked} {bs cs : List ℤ} → r ≡ x → bs ≡ cs → WalkedOver S s v x cs → WalkedOver S s v r bs
+pub walked_as : (S : Store) (s : Carried) (v : ℕ) {r x : Option Walked} {bs cs : List ℤ} → r ≡ x → bs ≡ cs → WalkedOver S s v x cs → WalkedOver S s v r bs
 walked_as S s v e g h = rw (e, g) h
 
 module _ (base check : List ℤ) (v : ℕ) (ws : List ℕ) (s passed : ℕ) (kept : Kept) (backoffs : List ℤ) (w : Walking base check v ws s passed kept backoffs) where

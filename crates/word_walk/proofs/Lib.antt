@@ -4,3 +4,4 @@ pub mod Walking
 pub mod Owing
 pub mod Ending
 pub mod Alone
+pub mod Turning

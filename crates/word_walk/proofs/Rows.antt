@@ -1,4 +1,6 @@
 -- A store's rows from what a look at them comes to; the rows of a double array are in range and made of words. Assumes nothing.
+use Rattle.std.specs.declared.option.Option.{Option}
+use Rattle.std.specs.declared.option.Option.TheVariants.{Some, None}
 use mathlib.Core.Path.{◌≡◌, refl, sym, ◌∙◌}
 use mathlib.Core.Bool.{true, false, not, ◌&&◌, ◌||◌, true≢false, false≢true}
 use mathlib.Core.List.{List, [], ◌∷◌}
@@ -11,11 +13,9 @@ use Rattle.backoff.specs.Words.{is_word, are_words}
 use Rattle.backoff.specs.Model.{extended, Entry, is_some, listed, probability, backoff, continued, live, in_probability, in_backoff, probability_of, backoff_of}
 use Rattle.backoff.specs.Store.{Look, absent, broken, here, Store, entry_of, is_broken, model_in}
 use Rattle.markers.specs.Markers.{look_marker}
-use Rattle.markers.specs.declared.Marker.{Marker}
-use Rattle.markers.specs.declared.Marker.TheVariants.{Sound, Broken}
+use Rattle.markers.specs.Markers.{Marker}
+use Rattle.markers.specs.Markers.{Sound, Broken}
 use Rattle.child_slots.specs.Children.{child_at}
-use Rattle.child_slots.specs.declared.Child.{Child}
-use Rattle.child_slots.specs.declared.Child.TheVariants.{At, Nothing}
 use Rattle.child_slots.proofs.Children.{child_told}
 use Rattle.double_array.specs.DoubleArray.{marker_at, past, down_to, look_from, store_in, look_row}
 use Rattle.double_array.proofs.DoubleArray.{marker_in_range}
@@ -74,9 +74,9 @@ module _ (base check : List ℤ) where
   look_in_range [] k s = at_in_range k s
   look_in_range (w ∷ l) k s = go (look_in_range l (suc k)) (marker_at base check k s) (child_at base check s w)
     where
-      go : ((t : ℕ) → InRange (look_from base check (suc k) t l)) → (m : Marker) (c : Child) → InRange (past m (down_to c (λ (t : ℕ). look_from base check (suc k) t l)))
-      go ih (Sound p b e f) (At t) = ih t
-      go ih (Sound p b e f) Nothing = tt
+      go : ((t : ℕ) → InRange (look_from base check (suc k) t l)) → (m : Marker) (c : Option ℕ) → InRange (past m (down_to c (λ (t : ℕ). look_from base check (suc k) t l)))
+      go ih (Sound p b e f) (Some t) = ih t
+      go ih (Sound p b e f) None = tt
       go ih Broken c = tt
 
   row_in_range : (l : List ℕ) → InRange (look_row base check l)
@@ -107,9 +107,9 @@ module _ (base check : List ℤ) where
   look-words [] k s e h = refl
   look-words (w ∷ l) k s e h = go (look-words l (suc k)) (marker_at base check k s) (child_at base check s w) refl h
     where
-      go : ((t : ℕ) (x : Entry) → look_from base check (suc k) t l ≡ here x → are_words l ≡ true) → (m : Marker) (c : Child) → child_at base check s w ≡ c → past m (down_to c (λ (t : ℕ). look_from base check (suc k) t l)) ≡ here e → (is_word w && are_words l) ≡ true
-      go ih (Sound p b x f) (At t) q k = and_both (is_word w) (are_words l) (child_told base check s w t q).word (ih t e k)
-      go ih (Sound p b x f) Nothing q k = let z : ◌≡◌ {A = ℕ} 0 1 = cc in absurd (omega arith)
+      go : ((t : ℕ) (x : Entry) → look_from base check (suc k) t l ≡ here x → are_words l ≡ true) → (m : Marker) (c : Option ℕ) → child_at base check s w ≡ c → past m (down_to c (λ (t : ℕ). look_from base check (suc k) t l)) ≡ here e → (is_word w && are_words l) ≡ true
+      go ih (Sound p b x f) (Some t) q k = and_both (is_word w) (are_words l) (child_told base check s w t q).word (ih t e k)
+      go ih (Sound p b x f) None q k = let z : ◌≡◌ {A = ℕ} 0 1 = cc in absurd (omega arith)
       go ih Broken c q k = let z : ◌≡◌ {A = ℕ} 0 1 = cc in absurd (omega arith)
 
   pub rows-in_words : (l : List ℕ) → listed (array_model base check) l ≡ true → are_words l ≡ true

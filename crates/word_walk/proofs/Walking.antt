@@ -1,4 +1,5 @@
 -- The walk of a word v through the words ws over a double array, as the code's loop has it. Assumes nothing.
+use Rattle.std.specs.declared.option.Option.TheVariants.{Some, None}
 use mathlib.Core.Path.{◌≡◌, refl, sym, ap, ap₂, ◌∙◌}
 use mathlib.Core.Bool.{Bool, true, false, not, cond, ◌||◌, or-true, false≢true}
 use mathlib.Core.Logic.{◌⊎◌, inl, inr}
@@ -17,9 +18,8 @@ use Rattle.backoff.specs.Model.{Model, listed, live, reach}
 use Rattle.backoff.specs.State.{largest, backoffs_of, live_length, walk, points_from, extended_from}
 use Rattle.backoff.specs.Store.{absent, broken, here, Store, is_broken, model_in, ends_broken}
 use Rattle.backoff.proofs.Climb.{climb_stops, largest-here, largest-down}
-use Rattle.markers.specs.declared.Marker.TheVariants.{Sound, Broken}
+use Rattle.markers.specs.Markers.{Sound, Broken}
 use Rattle.child_slots.specs.Children.{child_at}
-use Rattle.child_slots.specs.declared.Child.TheVariants.{At, Nothing}
 use Rattle.double_array.specs.DoubleArray.{marker_at, look_from, is_array, order_in, store_in}
 use Rattle.double_array.proofs.DoubleArray.{own_told, marker_own, root-sound, look-here, look-down, look-broken}
 use Rattle.carried_state.specs.Packed.{Owes}
@@ -79,7 +79,7 @@ live-short base check k s p b x f e few lives = go (ℕ_discrete k (order_in che
 
 module _ (base check : List ℤ) (v : ℕ) (ws : List ℕ) where
   -- it begins at the root's child for v
-  pub walking_begins : (t : ℕ) (backoffs : List ℤ) → length ws < order_in check → is_array base check ≡ true → child_at base check 0 v ≡ At t → Walking base check v ws t 0 (record { count = 0; owed = pos 0 }) backoffs
+  pub walking_begins : (t : ℕ) (backoffs : List ℤ) → length ws < order_in check → is_array base check ≡ true → child_at base check 0 v ≡ Some t → Walking base check v ws t 0 (record { count = 0; owed = pos 0 }) backoffs
   walking_begins t backoffs few h e = record {
     few = few;
     reached = λ m. unfold store_in in look-down base check 0 0 _ _ _ _ v m (root-sound base check h) ∙ rw e;
@@ -139,7 +139,7 @@ module _ (base check : List ℤ) (v : ℕ) (ws : List ℕ) where
             count_of false = refl
 
         -- the walk goes on to the child for the next word
-        pub walking_on : (u : ℕ) → passed < length ws → passed < length backoffs → child_at base check s (get_or ws passed 0) ≡ At u → Walking base check v ws u (passed + 1) noted (set backoffs passed b)
+        pub walking_on : (u : ℕ) → passed < length ws → passed < length backoffs → child_at base check s (get_or ws passed 0) ≡ Some u → Walking base check v ws u (passed + 1) noted (set backoffs passed b)
         walking_on u h k c = record {
           few = w.few;
           reached = λ m. rw add-one (past_node m h ∙ look-down base check (suc passed) s p b x f (get_or ws passed 0) m e ∙ rw c);
@@ -173,7 +173,7 @@ module _ (base check : List ℤ) (v : ℕ) (ws : List ℕ) where
               same = take_all (suc passed) ws (omega arith) ∙ sym (take_all passed ws (omega arith))
 
           -- there is no child for the next word
-          pub walking_stops : passed < length ws → child_at base check s (get_or ws passed 0) ≡ Nothing → Read (store_in base check) (record { words = ws; backoffs = left }) v (p +ℤ sum (drop passed left)) passed noted x (set backoffs passed b)
+          pub walking_stops : passed < length ws → child_at base check s (get_or ws passed 0) ≡ None → Read (store_in base check) (record { words = ws; backoffs = left }) v (p +ℤ sum (drop passed left)) passed noted x (set backoffs passed b)
           walking_stops h c = ended (omega arith) (inr (absent-unlisted (store_in base check) (v ∷ take (suc passed) ws) nothing)) (rw nothing)
             where
               nothing : (store_in base check).look (v ∷ take (suc passed) ws) ≡ absent

@@ -21,6 +21,8 @@ pub struct Crate {
 pub struct Function {
     pub of: usize,
     pub name: String,
+    /// The type whose method it is.
+    of_type: Option<String>,
     /// It crosses to C.
     pub is_export: bool,
     body: String,
@@ -81,16 +83,30 @@ impl Crates {
         (0..self.functions.len()).filter(|&function| self.functions[function].is_export)
     }
 
-    /// The functions that one calls: those of other crates are named with the crate.
+    /// The functions that one calls: those of other crates are named with the crate, and methods with their type or behind a value.
     pub fn called(&self, function: usize) -> Vec<usize> {
         let Function { of, body, .. } = &self.functions[function];
-        let find = |path: &str| {
-            let (of, name) = path.split_once("::").map_or((Some(*of), path), |(of, name)| (self.find(of), name));
-            self.functions.iter().position(|other| Some(other.of) == of && other.name == name)
+        let in_reach = |other: &Function| other.of == *of || self.crates[*of].below.contains(&other.of);
+        let find = |path: &str, behind_a_value: bool| {
+            let (named, name) = path.split_once("::").map_or((None, path), |(named, name)| (Some(named), name));
+            self.functions.iter().position(|other| {
+                other.name == name
+                    && match (&other.of_type, named) {
+                        (None, None) => other.of == *of && !behind_a_value,
+                        (None, Some(named)) => Some(other.of) == self.find(named),
+                        (Some(_), None) => behind_a_value && in_reach(other),
+                        (Some(of_type), Some(named)) => of_type == named && in_reach(other),
+                    }
+            })
         };
         let in_path = |letter: char| letter.is_alphanumeric() || letter == '_' || letter == ':';
         let opened = body.match_indices('(').map(|(end, _)| &body[..end]);
-        opened.filter_map(|before| find(&before[before.trim_end_matches(in_path).len()..])).collect()
+        opened
+            .filter_map(|before| {
+                let ahead = before.trim_end_matches(in_path);
+                find(&before[ahead.len()..], ahead.ends_with('.'))
+            })
+            .collect()
     }
 
     /// A function and all that it calls.
@@ -128,19 +144,33 @@ fn text(path: &str) -> Option<String> {
     read_to_string(Path::new(env!("CARGO_MANIFEST_DIR")).join("..").join(path)).ok()
 }
 
-/// The functions of a crate's source, which begin at a line's first column.
+/// The functions of a crate's source, which begin at a line's first column, and the methods of its types.
 fn functions(source: &str, of: usize) -> Vec<Function> {
     let mut functions: Vec<Function> = Vec::new();
+    let mut of_type: Option<String> = None;
     for line in source.lines().filter(|line| !line.trim_start().starts_with("//")) {
-        let inner = line.strip_prefix("pub ").unwrap_or(line);
+        if line.starts_with("impl") {
+            of_type = Some(type_of(line));
+        } else if line == "}" {
+            of_type = None;
+        }
+        let own = if of_type.is_some() { line.strip_prefix("    ").unwrap_or(line) } else { line };
+        let inner = own.strip_prefix("pub ").unwrap_or(own);
         let exported = inner.strip_prefix("extern \"C\" ");
         if let Some(head) = exported.unwrap_or(inner).strip_prefix("fn ") {
             let name = head.split('(').next().unwrap_or(head).to_string();
-            functions.push(Function { of, name, is_export: exported.is_some(), body: String::new() });
+            functions.push(Function { of, name, of_type: of_type.clone(), is_export: exported.is_some(), body: String::new() });
         } else if let Some(last) = functions.last_mut() {
             last.body += line;
             last.body += "\n";
         }
     }
     functions
+}
+
+/// The type that an `impl` is for.
+fn type_of(head: &str) -> String {
+    let behind = head.split(" for ").last().unwrap_or(head).trim_start_matches("impl");
+    let behind = behind.strip_prefix("<'a>").unwrap_or(behind);
+    behind.trim_start().chars().take_while(|letter| letter.is_alphanumeric()).collect()
 }

@@ -14,8 +14,8 @@ use Rattle.integer.proofs.Arithmetic.{zarith, abs, fit, to_nat}
 use Rattle.backoff.specs.Words.{radix}
 use Rattle.backoff.specs.Store.{is_broken}
 use Rattle.markers.specs.Markers.{look_marker}
-use Rattle.markers.specs.declared.Marker.{Marker}
-use Rattle.markers.specs.declared.Marker.TheVariants.{Sound, Broken}
+use Rattle.markers.specs.Markers.{Marker}
+use Rattle.markers.specs.Markers.{Sound, Broken}
 use Rattle.double_array.specs.DoubleArray.{kept_marker}
 use Rattle.double_array.proofs.DoubleArray.{kept_told, marker_unowned, child_owned}
 use Rattle.word_walk.proofs.next_node.Statement.{statement}

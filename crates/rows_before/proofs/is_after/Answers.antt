@@ -1,0 +1,16 @@
+-- The rows are compared by their keys.
+use Rattle.std.proofs.Common.{◌≡◌, ltb, ◌-◌, sym, ◌∙◌, arith}
+use Rattle.rows.specs.Keys.{row_key}
+use Rattle.rows.proofs.Keys.{key_lt}
+use Rattle.rows_before.proofs.Faults.{after_first, after-key}
+use Rattle.rows_before.proofs.is_after.Goals as goal
+
+pub returns-then-i-eq0 : goal.returns-then-i-eq0
+returns-then-i-eq0 c = sym (after_first _ _ c.if-i-eq0.true)
+
+pub returns : goal.returns
+returns c =
+    let t = c.args.table.now in
+    let i = c.args.i in
+    let e : c.lt.result ≡ ltb (row_key t (i - 1)) (row_key t i) = grind (arith, key_lt) in
+    e ∙ sym (after-key t i c.if-i-eq0.false c.requires.1 c.requires.2)
