@@ -10,7 +10,7 @@ ghost use Rattle.arpa_headings.specs.Headings.{data_line, section_line, end_line
 pub fn is_data_line(line: &[u8]) -> bool
     ensures { result ≡ same_words line.now data_line }
 {
-    line == b"\\data\\".as_slice()
+    text_parts::same_bytes(line, b"\\data\\")
 }
 
 // Whether the line begins the section of length m.
@@ -18,15 +18,20 @@ pub fn is_section_line(line: &[u8], m: usize) -> bool
     requires { (1 ≤ m) × (m ≤ order_limit) }
     ensures { result ≡ same_words line.now (section_line m) }
 {
-    let digit = b'0' + m as u8;
-    line == [b'\\', digit, b'-', b'g', b'r', b'a', b'm', b's', b':'].as_slice()
+    match m {
+        1 => text_parts::same_bytes(line, b"\\1-grams:"),
+        2 => text_parts::same_bytes(line, b"\\2-grams:"),
+        3 => text_parts::same_bytes(line, b"\\3-grams:"),
+        4 => text_parts::same_bytes(line, b"\\4-grams:"),
+        _ => text_parts::same_bytes(line, b"\\5-grams:"),
+    }
 }
 
 // Whether the line is the end line.
 pub fn is_end_line(line: &[u8]) -> bool
     ensures { result ≡ same_words line.now end_line }
 {
-    line == b"\\end\\".as_slice()
+    text_parts::same_bytes(line, b"\\end\\")
 }
 
 // Whether the text is `ngram m`, perhaps with a space behind it.

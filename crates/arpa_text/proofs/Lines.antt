@@ -4,19 +4,20 @@ use Rattle.std.specs.declared.option.Option.TheVariants.{Some, None}
 use lib.IntN.{ℤ}
 use mathlib.Core.Path.{◌≡◌, refl, sym, ap, ◌∙◌}
 use mathlib.Core.Logic.{⊎_elim}
-use mathlib.Core.Bool.{Bool, false, cond, ◌&&◌}
+use mathlib.Core.Bool.{Bool, true, false, ◌&&◌}
 use mathlib.Core.List.{List, [], ◌∷◌}
 use Prim.Native.Nat.{ℕ, zero, suc, ◌+◌, ◌-◌, ◌≤◌, ◌<◌}
 use native.Mathlib.Omega.{arith}
 use native.Mathlib.Numerals.{add-one}
 use lib.Dec.{eqb, leb}
-use lib.ListN.{length, get_or, take, drop, drop_of_length-le}
+use lib.ListN.{length, take, drop, drop_of_length-le}
 use lib.Seq.{drop-cons, drop-drop}
-use borrow.Author.Tests.{ne_eqb}
+use borrow.Author.Tests.{eq-eqb, ne_eqb}
+use native.Mathlib.Decide.{ℕ_discrete}
 use Rattle.integer.proofs.Ranges.{lt_or_ge}
-use Rattle.std.specs.List.{list_all, slice_split, onto_first}
+use Rattle.std.specs.List.{list_all}
 use Rattle.std.proofs.lemmas.List.Recursion.{same_from_clauses}
-use Rattle.text_parts.specs.Parts.{in_front, parts, before}
+use Rattle.text_parts.specs.Parts.{parts, before}
 use Rattle.text_parts.proofs.Parts.{parts-one, parts_more, before_le, lacks_or_has, parts-end, parts-front}
 use Rattle.arpa_logs.specs.Logs.{read_points}
 use Rattle.arpa_logs.proofs.Logs.{points_lack}
@@ -32,33 +33,40 @@ pub all_above_list : (text : List ℕ) → all_above text ≡ list_all is_above 
 unfolding all_above
 all_above_list = same_from_clauses all_above (list_all is_above) (λ c b. is_above c && b) refl (λ _ _. refl) (λ _ _. refl)
 
--- ---- texts
+-- there is always a part more
+pub no-texts : (text : List ℕ) → are_texts 0 (parts 32 text) ≡ false
+unfolding are_texts
+no-texts text =
+    ⊎_elim (λ h. rw (parts-one 32 text h) refl) (λ h. rw (parts_more 32 text h) refl) (lacks_or_has 32 text)
 
-abbrev pub is_space : ℕ → Bool
-is_space c = eqb c 32
+module _ (left : ℕ) (text : List ℕ) (place : ℕ) (e : place ≡ before 32 text) where
+  pub last-text : place ≡ length text → is_text (take place text) ≡ true → are_texts (suc left) (parts 32 text) ≡ eqb left 0
+  unfolding are_texts
+  last-text h f = rw (parts-end 32 text place e h, f) (none_left left)
+    where
+      none_left : (n : ℕ) → are_texts n [] ≡ eqb n 0
+      none_left zero = refl
+      none_left (suc n) = sym (ne_eqb (suc n) 0 (λ z. omega arith))
 
-pub parts_split : (text : List ℕ) → slice_split is_space text ≡ parts 32 text
-unfolding parts
-parts_split [] = refl
-parts_split (c ∷ text) = rw (parts_split text) (go (parts 32 text))
+  pub next-text : place < length text → is_text (take place text) ≡ true → are_texts (suc left) (parts 32 text) ≡ are_texts left (parts 32 (drop (place + 1) text))
+  unfolding are_texts
+  next-text h f = rw (parts-front 32 text place e h, f) refl
+
+  pub no_text : place ≤ length text → is_text (take place text) ≡ false → are_texts (suc left) (parts 32 text) ≡ false
+  unfolding are_texts
+  no_text h f =
+      ⊎_elim
+      (λ l. rw (parts-front 32 text place e l, f) refl)
+      (λ l. rw (parts-end 32 text place e (omega arith), f) refl)
+      (lt_or_ge place (length text))
+
+-- whether text k is the last of m
+pub last_of : (k m : ℕ) → k < m → eqb (k + 1) m ≡ eqb (m - (k + 1)) 0
+last_of k m h = go (ℕ_discrete (k + 1) m)
   where
-    go : (ps : List (List ℕ)) → cond (eqb c 32) ([] ∷ ps) (onto_first c ps) ≡ cond (eqb c 32) ([] ∷ ps) (in_front c ps)
-    go [] = refl
-    go (p ∷ ps) = refl
-
--- the text at hand, and those behind it
-pub texts_here : (left : ℕ) (ps : List (List ℕ)) (k : ℕ) (text : List ℕ) → (k < length ps) × (text ≡ get_or ps k text)
-    → are_texts left (drop k ps) ≡ cond (eqb left 0) false (is_text text && are_texts (left - 1) (drop (k + 1) ps))
-unfolding are_texts
-texts_here zero ps k text h = rw (drop-cons ps k text h.0) refl
-texts_here (suc left) ps k text h =
-    let one : suc left - 1 ≡ left = omega arith in
-    rw (drop-cons ps k text h.0, ← h.1, one, add-one k, ne_eqb (suc left) 0 (λ z. omega arith)) refl
-
-pub texts-end : (left : ℕ) (ps : List (List ℕ)) (k : ℕ) → k ≡ length ps → eqb left 0 ≡ are_texts left (drop k ps)
-unfolding are_texts
-texts-end zero ps k h = let l : length ps ≤ k = omega arith in rw (drop_of_length-le ps l) refl
-texts-end (suc left) ps k h = let l : length ps ≤ k = omega arith in rw (drop_of_length-le ps l) (ne_eqb (suc left) 0 (λ z. omega arith))
+    go : Dec (k + 1 ≡ m) → eqb (k + 1) m ≡ eqb (m - (k + 1)) 0
+    go (yes e) = eq-eqb (k + 1) m e ∙ sym (eq-eqb (m - (k + 1)) 0 (omega arith))
+    go (no n) = ne_eqb (k + 1) m n ∙ sym (ne_eqb (m - (k + 1)) 0 (λ z. n (omega arith)))
 
 -- ---- a row
 

@@ -32,14 +32,18 @@ fn is_text(text: &[u8]) -> bool
 fn are_texts(words: &[u8], m: usize) -> bool
     ensures { result ≡ are_texts m (parts 32 words.now) }
 {
-    let mut left = m;
-    for text in words.split(|c| *c == SPACE) {
-        if left == 0 || !is_text(text) {
+    let mut at = 0;
+    for k in 0..m {
+        let end = text_parts::part_end(words, at, SPACE);
+        if !is_text(&words[at..end]) {
             return false;
         }
-        left -= 1;
+        if end == words.len() {
+            return k + 1 == m;
+        }
+        at = end + 1;
     }
-    left == 0
+    false
 }
 
 // The back-off behind the words, with the tab before it: 0 where it is missing.

@@ -1,8 +1,6 @@
 -- What is found above a slot: where a test fails, it is no child of any node. Assumes nothing.
 use Rattle.std.specs.declared.option.Option.{Option}
 use Rattle.std.specs.declared.option.Option.TheVariants.{Some, None}
-use Rattle.std.specs.declared.result.Result.{Result}
-use Rattle.std.specs.declared.result.Result.TheVariants.{Ok, Err}
 use mathlib.Core.Path.{◌≡◌, refl, sym, ap, ap₂, ◌∙◌}
 use mathlib.Core.Bool.{Bool, true, false}
 use mathlib.Core.List.{List}
@@ -10,34 +8,13 @@ use Prim.Native.Nat.{ℕ}
 use borrow.Author.Tests.{eqb-true, eqb-false}
 use lib.Dec.{eqb}
 use lib.ListN.{get_or}
-use lib.IntN.{ℤ, pos, negsuc, nat_abs}
+use lib.IntN.{ℤ, pos, nat_abs}
 use lib.Signed.{◌≤ℤ◌}
-use mir.Syntax.{w32}
-use mir.Val.{SFits, to_z, of_z}
-use mir.Facts.{to_z-of_z}
 use Rattle.std.specs.Bool.{then_some}
-use Rattle.std.specs.Int.{FitsUnsignedBits}
-use Rattle.std.specs.Result.{OkIff, result_ok}
-use Rattle.integer.proofs.Arithmetic.{zarith}
 use Rattle.integer.proofs.Items.{get_or-inside}
 use Rattle.child_slots.specs.Children.{free_check, word_at, base_at, child_at}
 use Rattle.array_nodes.specs.Gathering.{FoundAbove}
 use Rattle.array_nodes.proofs.Climb.{Climbs, child_climbs}
-
--- ---- a number read as a natural one, as a conversion that may fail gives it
-
-natural_fits : (z : ℤ) → SFits w32 z → pos 0 ≤ℤ z → FitsUnsignedBits 64 z
-natural_fits (pos n) f h = omega (zarith, f)
-natural_fits (negsuc n) f h = omega zarith
-
-module _ {E : Type 0} (z : ℤ) (fits : SFits w32 z) where
-  pub natural-none : (r : Result ℕ E) → OkIff r (FitsUnsignedBits 64 (to_z w32 (of_z w32 z))) (nat_abs (to_z w32 (of_z w32 z))) → None ≡ result_ok r → pos 0 ≤ℤ z → ⊥
-  natural-none (Ok x) h e p = cc
-  natural-none (Err x) h e p = (rw (to_z-of_z fits) at h) (natural_fits z fits p)
-
-  pub natural-some : (r : Result ℕ E) (n : ℕ) → OkIff r (FitsUnsignedBits 64 (to_z w32 (of_z w32 z))) (nat_abs (to_z w32 (of_z w32 z))) → Some n ≡ result_ok r → n ≡ nat_abs z
-  natural-some (Ok x) n h e = let k : n ≡ x = cc in k ∙ h.1 ∙ ap nat_abs (to_z-of_z fits)
-  natural-some (Err x) n h e = cc
 
 -- ---- a slot, the slot above, and BASE there
 

@@ -13,9 +13,16 @@ fn find_above(array: Array, t: usize) -> Option<usize>
     requires { t < length array.check.now }
     ensures { FoundAbove array.entry.base.now array.entry.check.now t result }
 {
-    let slot = usize::try_from(array.check[t]).ok()?;
-    let d = usize::try_from(*array.base.get(slot)?).ok()?;
-    let word = child_slots::word_at(d, t);
+    let s = array.check[t];
+    if s < 0 {
+        return None;
+    }
+    let slot = s as usize;
+    let d = *array.base.get(slot)?;
+    if d < 1 {
+        return None;
+    }
+    let word = child_slots::word_at(d as usize, t);
     let found = child_slots::find_child(array.base, array.check, slot, word as u32)?;
     (found == t).then_some(slot)
 }

@@ -82,8 +82,11 @@ fn cut(items: [i32; 5], kept: usize) -> [i32; 4]
 {
     let [a, b, c, d, _] = items;
     let mut part = [a, b, c, d];
-    for i in kept..4 {
-        part[i] = 0;
+    // Over all four places, so that no fill of unknown length is called.
+    for i in 0..4 {
+        if kept <= i {
+            part[i] = 0;
+        }
     }
     part
 }

@@ -7,6 +7,9 @@ ghost use Rattle.std.proofs.lemmas.List.Edits.{sets};
 ghost use Rattle.decimal.specs.Digits.{most_digits};
 ghost use Rattle.columns.specs.Columns.{signed, justified, without_spaces, if_held, read_natural, read_negative, read_numeral, read_column, ColumnMeans};
 
+// The least number that 32 bits hold.
+pub const LEAST_NUMBER: i32 = i32::MIN;
+
 // The text behind the spaces before it.
 fn without_spaces(text: &[u8]) -> &[u8]
     ensures rest { result.now ≡ without_spaces text.now }

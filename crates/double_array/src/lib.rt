@@ -4,6 +4,7 @@
 
 ghost use Rattle.std.specs.Prelude.{◌≡◌, true, ◌≤◌, ◌<◌, length};
 ghost use Rattle.backoff.specs.Limits.{order_limit};
+ghost use Rattle.markers.specs.Markers.{marker_in};
 ghost use Rattle.double_array.specs.DoubleArray.{head_check, kept_marker, marker_at, sizes_ok, order_ok, head_ok, is_array, order_in};
 
 use backoff::Reason;
@@ -27,6 +28,40 @@ pub fn head_check(order: usize) -> i32
     order as i32 + HEAD_OFFSET
 }
 
+// What the marker of the node in slot s says, which keeps one: nothing where it is not sound.
+pub fn kept_marker(base: &[i32], check: &[i32], s: usize) -> Option<Entry>
+    requires base_len { length base.now ≡ length check.now }
+    requires s_in_bounds { s < length base.now }
+    ensures { marker_in result ≡ kept_marker base.now check.now s }
+{
+    let d = base[s];
+    if d < 1 {
+        return None;
+    }
+    let t = d as usize;
+    let mark = *check.get(t)?;
+    markers::marker_of(mark, base[t])
+}
+
+// What the node in slot s says, to which `depth` words lead. One of n words has no marker: its own BASE holds p − 1.
+pub fn read_marker(
+    base: &[i32],
+    check: &[i32],
+    order: usize,
+    depth: usize,
+    s: usize,
+) -> Option<Entry>
+    requires base_len { length base.now ≡ length check.now }
+    requires s_in_bounds { s < length base.now }
+    requires order_value { order ≡ order_in check.now }
+    ensures { marker_in result ≡ marker_at base.now check.now depth s }
+{
+    if depth == order {
+        return markers::marker_of(base[s], 0);
+    }
+    kept_marker(base, check, s)
+}
+
 // Whether BASE and CHECK have lengths that an array can have.
 pub fn sizes_ok(base: &[i32], check: &[i32]) -> bool
     ensures { result ≡ sizes_ok base.now check.now }
@@ -48,14 +83,14 @@ fn head_ok(base: &[i32], check: &[i32]) -> bool
 }
 
 // Whether the slices have the lengths and the head of an array, so that 11 does not refuse them.
-fn is_array(base: &[i32], check: &[i32]) -> bool
+pub fn is_array(base: &[i32], check: &[i32]) -> bool
     ensures { result ≡ is_array base.now check.now }
 {
     sizes_ok(base, check) && head_ok(base, check)
 }
 
 // The order of an array.
-fn order_of(check: &[i32]) -> usize
+pub fn order_of(check: &[i32]) -> usize
     requires { order_ok check.now ≡ true }
     ensures { result ≡ order_in check.now }
 {
@@ -73,7 +108,6 @@ pub struct Array<'a> {
 }
 
 impl<'a> Array<'a> {
-    ghost use Rattle.markers.specs.Markers.{marker_in};
     ghost use Rattle.double_array.specs.Opened.{Opens};
 
     // 11 for slices that are no array.
@@ -95,23 +129,14 @@ impl<'a> Array<'a> {
         requires { s < length self.base.now }
         ensures { marker_in result ≡ kept_marker self.entry.base.now self.entry.check.now s }
     {
-        let d = self.base[s];
-        if d < 1 {
-            return None;
-        }
-        let t = d as usize;
-        let check = *self.check.get(t)?;
-        markers::marker_of(check, self.base[t])
+        kept_marker(self.base, self.check, s)
     }
 
-    // What the node in slot s says, to which `depth` words lead. One of n words has no marker: its own BASE holds p − 1.
+    // What the node in slot s says, to which `depth` words lead.
     pub fn read_marker(self, depth: usize, s: usize) -> Option<Entry>
         requires { s < length self.base.now }
         ensures { marker_in result ≡ marker_at self.entry.base.now self.entry.check.now depth s }
     {
-        if depth == self.order {
-            return markers::marker_of(self.base[s], 0);
-        }
-        self.kept_marker(s)
+        read_marker(self.base, self.check, self.order, depth, s)
     }
 }

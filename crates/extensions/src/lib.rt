@@ -21,7 +21,7 @@ fn next_bound(table: &[i32], k: Key, from: usize) -> usize
 {
     let rows = table.len() / 8;
     for to in from..rows {
-        if rows::row_key(table, to) >= k {
+        if !rows::key_less(rows::row_key(table, to), k) {
             return to;
         }
     }
@@ -47,7 +47,7 @@ pub fn first_not_below(table: &[i32], k: Key, likely: Span) -> usize
         return lower_bound(table, k, window.from);
     }
     let last = row_search::last_not_above(table, k, window);
-    if rows::row_key(table, last) < k {
+    if rows::key_less(rows::row_key(table, last), k) {
         return last + 1;
     }
     last
@@ -110,5 +110,5 @@ pub fn extended(table: &[i32], i: usize, likely: Span) -> bool
 {
     let k = front_key(table, i);
     let first = first_not_below(table, k, likely);
-    first < table.len() / 8 && rows::row_key(table, first) < key_raised(k, RADIX)
+    first < table.len() / 8 && rows::key_less(rows::row_key(table, first), key_raised(k, RADIX))
 }

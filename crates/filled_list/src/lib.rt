@@ -96,7 +96,7 @@ fn better(
     }
     let key = end_key(table, row, k, m);
     if let Some(best_row) = best {
-        if key >= best_row.key {
+        if !rows::key_less(key, best_row.key) {
             return best;
         }
     }

@@ -8,6 +8,7 @@ use native.Mathlib.Numerals.{add-one}
 use native.Mathlib.Omega.{arith}
 use lib.IntN.{ℤ, pos}
 use lib.ListN.{length, get_or}
+use borrow.Author.Tests.{le-leb}
 use Rattle.rows.specs.Table.{rows_of, field, word_of}
 use Rattle.child_slots.specs.Children.{child_slot}
 use Rattle.child_slots.proofs.Children.{slots_apart, marker_apart}
@@ -99,6 +100,11 @@ module _ (t : List ℤ) (i n : ℕ) where
     own-end : (s : ℕ) (c : Room) → n ≤ i → own behind d s left c ≡ c
     unfolding own
     own-end s c l = rw (oldest_end l)
+
+-- a slot is open where it is free
+pub open_is : (c : Room) (t : ℕ) → 1 ≤ t → is_free (c t) ≡ is_open c t
+unfolding is_open
+open_is c t l = rw (le-leb 1 t l)
 
 -- where the slot of the first is not open
 pub first_fails : (c : Room) (behind : Bool) (d w : ℕ) (ws : List ℕ) → is_open c (child_slot behind d w) ≡ false → all_open c behind d (w ∷ ws) ≡ false

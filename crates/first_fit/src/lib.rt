@@ -44,29 +44,24 @@ fn last_word(rows: &[i32]) -> usize
     oldest_word(rows, count - 1)
 }
 
-// Whether the slot of the child for word w, behind d or ahead of it, is at least 1 and free.
-fn is_open(check: &[i32], behind: bool, d: usize, w: usize) -> bool
-    requires { (d ≤ slot_limit) × (w ≤ word_limit) }
-    ensures { (N : ℕ) (b c : Room) (base : List ℤ) → Linked N b c base check.now → 1 ≤ d → result ≡ is_open c (child_slot behind d w) }
+// Whether the slot behind d of the child for word w is at least 1 and free.
+fn is_open_behind(check: &[i32], d: usize, w: usize) -> bool
+    ensures { (N : ℕ) (b c : Room) (base : List ℤ) → Linked N b c base check.now → result ≡ is_open c (child_slot true d w) }
 {
-    if behind {
-        w < d && free_slots::is_free(check, d - w)
-    } else {
-        free_slots::is_free(check, d + w)
-    }
+    w < d && free_slots::is_free(check, d - w)
 }
 
-// Whether all the children's slots are, where d itself is free. The last child is tried first.
-fn all_open(check: &[i32], rows: &[i32], behind: bool, d: usize, last: usize) -> bool
-    requires { ChildRows rows.now × (d ≤ slot_limit) × LastWord rows.now last }
-    ensures { (N : ℕ) (b c : Room) (base : List ℤ) → Linked N b c base check.now → is_open c d ≡ true → result ≡ all_open c behind d (oldest_of rows.now) }
+// Whether the slots behind d of all children are, where d itself is free. The last child is tried first.
+fn all_open_behind(check: &[i32], rows: &[i32], d: usize, last: usize) -> bool
+    requires { ChildRows rows.now × LastWord rows.now last }
+    ensures { (N : ℕ) (b c : Room) (base : List ℤ) → Linked N b c base check.now → is_open c d ≡ true → result ≡ all_open c true d (oldest_of rows.now) }
 {
-    if !is_open(check, behind, d, last) {
+    if !is_open_behind(check, d, last) {
         return false;
     }
-    // `all` with a closure was tried: what it tells of each call does not reach the proof, as `is_open` speaks of every room that the slices may hold.
+    // `all` with a closure was tried: what it tells of each call does not reach the proof, as `is_open_behind` speaks of every room that the slices may hold.
     for k in 0..rows.len() / 8 {
-        if !is_open(check, behind, d, oldest_word(rows, k)) {
+        if !is_open_behind(check, d, oldest_word(rows, k)) {
             return false;
         }
     }
@@ -74,24 +69,30 @@ fn all_open(check: &[i32], rows: &[i32], behind: bool, d: usize, last: usize) ->
 }
 
 // The smallest d for which d and all the children's slots, behind it or else ahead, are free; slots past the end count as free. Where it is none of the
-// slots, their number.
+// slots, their number. On either side the last child is tried first.
 fn first_fit(base: &[i32], check: &[i32], rows: &[i32]) -> Fit
     requires { ChildRows rows.now × Chain base.now check.now }
     ensures { (N : ℕ) (b c : Room) → Linked N b c base.now check.now → FoundFit N c rows.now result.d result.behind }
 {
     let last = last_word(rows);
     let mut d = 0;
-    loop {
+    'free: loop {
         d = free_slots::next(base, d);
         if d == check.len() {
-            return Fit { d, behind: false };
+            break 'free Fit { d, behind: false };
         }
-        if all_open(check, rows, true, d, last) {
-            return Fit { d, behind: true };
+        if all_open_behind(check, rows, d, last) {
+            break 'free Fit { d, behind: true };
         }
-        if all_open(check, rows, false, d, last) {
-            return Fit { d, behind: false };
+        if !free_slots::is_free(check, d + last) {
+            continue 'free;
         }
+        for k in 0..rows.len() / 8 {
+            if !free_slots::is_free(check, d + oldest_word(rows, k)) {
+                continue 'free;
+            }
+        }
+        break 'free Fit { d, behind: false };
     }
 }
 

@@ -44,7 +44,7 @@ pub extern "C" fn backoff_check(table: &[i32]) -> Status
     ensures outcome { StatusIs (verdict table.now) result }
     ensures meaning { CheckMeans table.now result.number result.place }
 {
-    list::check_list(table).into()
+    Status::from(list::check_list(table))
 }
 
 // Builds the double array of a list: 1, 2, rows 3 to 8, 9, 10. `work` gets the slots of the rows' nodes.
@@ -58,7 +58,7 @@ pub extern "C" fn backoff_build(
     ensures outcome { BuiltIs (build_outcome table.now base.old check.old work.old) result base.new check.new work.new }
     ensures meaning { BuildMeans table.now base.old check.old work.old result.number result.place base.new check.new }
 {
-    build::build(table, base, check, work).into()
+    Status::from(build::build(table, base, check, work))
 }
 
 // Looks up the words, oldest first, in the array: 11, 14, 12.
@@ -67,7 +67,7 @@ pub extern "C" fn backoff_lookup(base: &[i32], check: &[i32], words: &[u32]) -> 
     ensures outcome { FoundIs (lookup_outcome base.now check.now words.now) result }
     ensures meaning { LookupMeans base.now check.now words.now result.number result.place result.found result.p result.b result.left }
 {
-    lookup::look_up(base, check, words).into()
+    Found::from(lookup::look_up(base, check, words))
 }
 
 // Leaves the state after `<s>` in a slice of nine: 16 for another length, 11, 12.
@@ -176,7 +176,7 @@ pub extern "C" fn backoff_plain(
     ensures outcome { TotalIs (plain_outcome table.now after_start (run_of words.now points.old lengths.old)) result points.new lengths.new }
     ensures meaning { PlainMeans table.now after_start (run_of words.now points.old lengths.old) result.number result.place result.total points.new lengths.new }
 {
-    plain::score_plain(table, after_start, words, points, lengths).into()
+    Total::from(plain::score_plain(table, after_start, words, points, lengths))
 }
 
 // Gives the list of an array back, row for row: 11, 15, 12. `work` gets the slots of the rows' nodes.
@@ -190,7 +190,7 @@ pub extern "C" fn backoff_unload(
     ensures outcome { UnloadedIs (unload_outcome base.now check.now table.old work.old) result table.new work.new }
     ensures meaning { UnloadMeans base.now check.now table.old work.old result.number result.place table.new work.new }
 {
-    unload::unload(base, check, table, work).into()
+    Status::from(unload::unload(base, check, table, work))
 }
 
 // Reads an ARPA text: 17, 18, 15, 19 with the line, then the list checks with the row, where the list is to be filled 8 for the two cases that filling
@@ -205,7 +205,7 @@ pub extern "C" fn backoff_arpa(
     ensures outcome { ReadIs (read_arpa to_be_filled (length table.old) (length store.old) text.now) result table.new store.new }
     ensures meaning { ReadMeans to_be_filled text.now result.number result.place result.rows table.new store.new }
 {
-    arpa::read_arpa(text, to_be_filled, table, store).into()
+    RowCount::from(arpa::read_arpa(text, to_be_filled, table, store))
 }
 
 // Fills a pruned list: 1, rows 3 to 8, 9, then 5 with the row that needs it, 1, 15. Refused, nothing is written.

@@ -95,7 +95,7 @@ module _ (totals : List ℤ) (first weight : ℕ) where
 
 -- ---- the search for the first of a group with the total z: the last has it where none before has
 
-pub search_exhausts : (totals : List ℤ) (first weight count : ℕ) (z : ℤ) (s : ℕ) → count ≡ s + 1 → NoneBefore totals first weight z s → Has totals first weight count z → FirstWith totals first weight z (first + s * weight)
+pub search_exhausts : (totals : List ℤ) (first weight count : ℕ) (z : ℤ) (s : ℕ) → count ≤ s + 1 → NoneBefore totals first weight z s → Has totals first weight count z → FirstWith totals first weight z (first + s * weight)
 search_exhausts totals first weight count z s e before has = record { s = s; at-is = refl; total = go (lt_or_ge has.s s); before = before }
   where
     go : (has.s < s) ⊎ (s ≤ has.s) → total_at totals (first + s * weight) ≡ z

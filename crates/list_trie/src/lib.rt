@@ -9,6 +9,7 @@ ghost use Rattle.list_trie.specs.ListTrie.{placed_list};
 
 use backoff::Reason;
 use row_nodes::CheckedList;
+pub use row_nodes::order_of;
 use row_search::Span;
 
 // Places the nodes of the rows from row `first` on, which have n words: the node's own BASE holds p − 1, and no slot is taken.
@@ -58,7 +59,7 @@ pub fn place_nodes(
     requires { Filled list.table.now (length check.old) (placed_nodes list.table.now 0) base.old check.old work.old }
     ensures { TriedTop list.entry.table.now (length check.old) (placed_list list.entry.table.now) result base.new check.new work.new }
 {
-    let top = row_nodes::place_root(list, base, check, work)?;
+    let top = row_nodes::place_root(list.table, base, check, work)?;
     let shorter = list.rows_below(list.order());
     place_rows(list, shorter, base, check, work, top)
 }

@@ -11,12 +11,10 @@ use lib.Seq.{drop-cons}
 use Rattle.std.proofs.Math.ListN.{drop_of_length-le}
 use Rattle.std.specs.declared.result.Result.{Result}
 use Rattle.std.specs.declared.result.Result.TheVariants.{Ok, Err}
-use Rattle.std.specs.Option.{ok_or}
 use Rattle.std.specs.Result.{IsErr, IsErrAnd}
 use lib.IntN.{ℤ}
 use Rattle.backoff.specs.Refusal.{reason_number}
 use Rattle.backoff.specs.declared.Reason.{Reason}
-use Rattle.backoff.specs.declared.Reason.TheVariants.{BrokenNode}
 use Rattle.backoff.specs.declared.Refusal.{Refusal}
 use Rattle.backoff.specs.Store.{broken}
 use Rattle.markers.specs.declared.Entry.{Entry}
@@ -75,11 +73,11 @@ module _ (base check : List ℤ) (array : is_array base check ≡ true) (newest 
 
 -- ---- what the code's marker and its refusal say
 
-pub broken_told : (r : Option Entry) (m : Marker) → marker_in r ≡ m → (reason : Reason) → Err reason ≡ ok_or r BrokenNode → (m ≡ Broken) × (reason ≡ BrokenNode)
-broken_told None m h reason e = (sym h, cc)
-broken_told (Some x) m h reason e = absurd (cc)
+pub broken_told : (r : Option Entry) (m : Marker) → marker_in r ≡ m → r ≡ None → m ≡ Broken
+broken_told None m h e = sym h
+broken_told (Some x) m h e = absurd (cc)
 
-pub sound_told : (r : Option Entry) (m : Marker) → marker_in r ≡ m → (x : Entry) → Ok x ≡ ok_or r BrokenNode → m ≡ Sound x.p x.b x.e x.f
+pub sound_told : (r : Option Entry) (m : Marker) → marker_in r ≡ m → (x : Entry) → r ≡ Some x → m ≡ Sound x.p x.b x.e x.f
 sound_told None m h x e = absurd (cc)
 sound_told (Some y) m h x e = let same : y ≡ x = cc in sym h ∙ ap (λ (z : Entry). Sound z.p z.b z.e z.f) same
 

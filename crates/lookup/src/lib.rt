@@ -39,15 +39,17 @@ fn walk(array: Array, newest: u32, older: &[u32]) -> Result<Option<Listed>, Refu
         return Ok(None);
     };
     for word in older.iter().rev() {
-        array.kept_marker(s).ok_or(Reason::BrokenNode)?;
+        let Some(_) = array.kept_marker(s) else {
+            return Err(Reason::BrokenNode.into());
+        };
         let Some(t) = child_slots::find_child(array.base, array.check, s, *word) else {
             return Ok(None);
         };
         s = t;
     }
-    let entry = array
-        .read_marker(older.len() + 1, s)
-        .ok_or(Reason::BrokenNode)?;
+    let Some(entry) = array.read_marker(older.len() + 1, s) else {
+        return Err(Reason::BrokenNode.into());
+    };
     Ok(Some(entry.into()))
 }
 

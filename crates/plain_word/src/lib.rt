@@ -2,7 +2,7 @@
 // cite are in specs/.
 #![tactic(auto)]
 
-ghost use Rattle.std.specs.Prelude.{◌≡◌, true, [], ◌∷◌, ◌++◌, ◌+◌, ◌<◌, ◌≤◌, pos, length, take, reverse};
+ghost use Rattle.std.specs.Prelude.{◌≡◌, true, [], ◌∷◌, ◌++◌, ◌+◌, ◌<◌, ◌≤◌, pos, length, take, get_or, reverse};
 ghost use Rattle.backoff.specs.Limits.{order_limit};
 ghost use Rattle.backoff.specs.Words.{are_words};
 ghost use Rattle.backoff.specs.Model.{listed, backoff};
@@ -37,14 +37,22 @@ pub fn replaced(table: &[i32], starts: &RowStarts, word: u32) -> i32
     }
 }
 
+// Word j of the history, the given word past its last.
+fn word_at(history: &[i32], word: i32, j: usize) -> i32
+    ensures { result ≡ get_or history.now j word }
+{
+    history.get(j).copied().unwrap_or(word)
+}
+
 // The history followed by the word, and by that word again in the places left.
 fn followed(history: &[i32], word: i32) -> [i32; 5]
     requires { length history.now < order_limit }
     ensures { take (length history.now + 1) result ≡ history.now ++ (word ∷ []) }
 {
-    let mut words = [word; 5];
-    words[..history.len()].copy_from_slice(history);
-    words
+    let a = word_at(history, word, 0);
+    let b = word_at(history, word, 1);
+    let c = word_at(history, word, 2);
+    [a, b, c, word_at(history, word, 3), word]
 }
 
 // The row of the history followed by the word.

@@ -13,7 +13,8 @@ use backoff::{LARGEST_BACKOFF, LEAST_BACKOFF, LEAST_PROBABILITY, Reason, WORD_LI
 // A row's words are its numbers 1 to 5.
 const WORD_PLACES: usize = 5;
 
-// Check 4 of row i, which has m words, at word place j.
+// Check 4 of row i, which has m words, at word place j. In line from the first: as a function by itself it comes to work out both answers at each place.
+#[inline(always)]
 fn place_fits(table: &[i32], i: usize, m: usize, j: usize) -> bool
     requires { (8 * i + 8 ≤ length table.now) × (m ≡ length_of table.now i) × (1 ≤ j) × (j ≤ order_limit) }
     ensures { result ≡ place_fits table.now i j }

@@ -16,6 +16,28 @@ use backoff::Reason;
 use first_fit::Node;
 use row_search::Span;
 
+// The order of an accepted list: the number of the last row's words.
+pub fn order_of(table: &[i32]) -> usize
+    requires { verdict table.now ≡ Accepted }
+    ensures { (result ≡ order_of table.now) × (result ≤ order_limit) }
+{
+    rows::length_of(table, table.len() / 8 - 1)
+}
+
+// The number of rows with fewer than m words.
+pub fn rows_below(table: &[i32], m: usize) -> usize
+    requires { verdict table.now ≡ Accepted }
+    ensures { RowsBelow table.now m result }
+{
+    let rows = table.len() / 8;
+    for k in 0..rows {
+        if m <= rows::length_of(table, k) {
+            return k;
+        }
+    }
+    rows
+}
+
 // A list that passed its checks, and the mark of each row: whether some row is this row followed by one more word.
 #[derive(Clone, Copy)]
 pub struct CheckedList<'a> {
@@ -30,20 +52,14 @@ impl<'a> CheckedList<'a> {
     pub fn order(self) -> usize
         ensures { (result ≡ order_of self.entry.table.now) × (result ≤ order_limit) }
     {
-        rows::length_of(self.table, self.table.len() / 8 - 1)
+        order_of(self.table)
     }
 
     // The number of rows with fewer than m words.
     pub fn rows_below(self, m: usize) -> usize
         ensures { RowsBelow self.entry.table.now m result }
     {
-        let rows = self.table.len() / 8;
-        for k in 0..rows {
-            if m <= rows::length_of(self.table, k) {
-                return k;
-            }
-        }
-        rows
+        rows_below(self.table, m)
     }
 
     // The node of row i, whose work item is its slot; it is extended and continued or not.
@@ -95,21 +111,22 @@ pub fn place_row(
 
 // Places the root. Answers the top, or 10.
 pub fn place_root(
-    list: CheckedList,
+    table: &[i32],
     base: &mut [i32],
     check: &mut [i32],
     work: &mut [u32],
 ) -> Result<usize, Reason>
-    requires { Filled list.table.now (length check.old) (placed_nodes list.table.now 0) base.old check.old work.old }
-    ensures { TriedTop list.entry.table.now (length check.old) (placed_nodes list.entry.table.now 1) result base.new check.new work.new }
+    requires table_value { verdict table.now ≡ Accepted }
+    requires filled { Filled table.now (length check.old) (placed_nodes table.now 0) base.old check.old work.old }
+    ensures { TriedTop table.now (length check.old) (placed_nodes table.now 1) result base.new check.new work.new }
 {
-    let k = list.rows_below(2);
+    let k = rows_below(table, 2);
     let end = 8 * k;
     let node = Node {
         slot: 0,
         mark: -1,
         load: work.len() as i32,
     };
-    let top = first_fit::place_node(base, check, &list.table[..end], &mut work[..k], node, 1);
+    let top = first_fit::place_node(base, check, &table[..end], &mut work[..k], node, 1);
     top_within(top, check.len())
 }

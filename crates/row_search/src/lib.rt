@@ -1,5 +1,5 @@
 // The search for a row among rows in list order, by its key. The definitions that the contracts cite are in specs/.
-#![tactic(auto, using(rows::proofs::Keys::key_lt, rows::proofs::Keys::key_ge, rows::proofs::Keys::key_eq), unfolding(rows::specs::Table::rows_of))]
+#![tactic(auto, unfolding(rows::specs::Table::rows_of))]
 
 ghost use Rattle.std.specs.Prelude.{◌≡◌, true, ℕ, ◌+◌, ◌*◌, ◌<◌, ◌≤◌, length};
 ghost use Rattle.backoff.specs.Limits.{order_limit};
@@ -33,7 +33,7 @@ pub fn search_start(table: &[i32], k: Key, near: usize) -> usize
     if table.len() / 8 < near {
         return 0;
     }
-    if rows::row_key(table, near - 1) < k {
+    if rows::key_less(rows::row_key(table, near - 1), k) {
         return near;
     }
     0
@@ -69,7 +69,7 @@ fn search_end(table: &[i32], k: Key, to: usize) -> usize
     if rows <= to {
         return rows;
     }
-    if k < rows::row_key(table, to) {
+    if rows::key_less(k, rows::row_key(table, to)) {
         return to;
     }
     rows
@@ -104,7 +104,7 @@ pub fn last_not_above(table: &[i32], k: Key, rows: Span) -> usize
     while 1 < size {
         let half = size / 2;
         let middle = from + half;
-        if k >= rows::row_key(table, middle) {
+        if !rows::key_less(k, rows::row_key(table, middle)) {
             from = middle;
         }
         size -= half;
@@ -121,7 +121,7 @@ fn find_between(table: &[i32], k: Key, rows: Span) -> Option<usize>
         return None;
     }
     let i = last_not_above(table, k, rows);
-    (rows::row_key(table, i) == k).then_some(i)
+    rows::key_equal(rows::row_key(table, i), k).then_some(i)
 }
 
 // The row of the part that has these words. It may be anywhere; among the likely rows, it is found sooner.
@@ -152,8 +152,8 @@ fn found_near(part: &[i32], k: Key, near: usize) -> Option<usize>
 {
     for row in near..part.len() / 8 {
         let key = rows::row_key(part, row);
-        if key >= k {
-            return (key == k).then_some(row);
+        if !rows::key_less(key, k) {
+            return rows::key_equal(key, k).then_some(row);
         }
     }
     None
@@ -232,5 +232,5 @@ pub fn has_key(part: &[i32], i: usize, k: Key) -> bool
     requires { Good part.now (rows_of part.now) }
     ensures { result ≡ true → (i < rows_of part.now) × (row_key part.now i ≡ key_of k.high k.low) }
 {
-    i < part.len() / 8 && rows::row_key(part, i) == k
+    i < part.len() / 8 && rows::key_equal(rows::row_key(part, i), k)
 }

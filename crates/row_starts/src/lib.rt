@@ -26,9 +26,9 @@ fn count_missing(table: &[i32], count: usize) -> usize {
 #[derive(Clone, Copy)]
 pub struct RowStarts {
     // Item m is the first row of m words or more.
-    first: [usize; 8],
+    pub first: [usize; 8],
     // How many words below the largest have no one-word row.
-    missing: usize,
+    pub missing: usize,
 }
 
 impl RowStarts {

@@ -113,7 +113,7 @@ key_limit a b c d e p q r s t = omega arith
 
 -- how the code's two parts of a key decide
 module _ (a b c d : ℕ) (l : b < low_limit) (m : d < low_limit) where
-  parts_less : (ltb a c || (eqb a c && ltb b d)) ≡ ltb (key_of a b) (key_of c d)
+  pub parts_less : (ltb a c || (eqb a c && ltb b d)) ≡ ltb (key_of a b) (key_of c d)
   parts_less = go (ltb a c) (eqb a c) (ltb b d) refl refl refl
     where
       go : (s t r : Bool) → ltb a c ≡ s → eqb a c ≡ t → ltb b d ≡ r → (s || (t && r)) ≡ ltb (key_of a b) (key_of c d)
@@ -125,7 +125,7 @@ module _ (a b c d : ℕ) (l : b < low_limit) (m : d < low_limit) where
       go false false r e f g =
           sym (le-ltb (key_of a b) (key_of c d) (let u = ltb-false a c e in let v = eqb-false a c f in omega arith))
 
-  parts_equal : (eqb a c && eqb b d) ≡ eqb (key_of a b) (key_of c d)
+  pub parts_equal : (eqb a c && eqb b d) ≡ eqb (key_of a b) (key_of c d)
   parts_equal = go (eqb a c) (eqb b d) refl refl
     where
       go : (s t : Bool) → eqb a c ≡ s → eqb b d ≡ t → (s && t) ≡ eqb (key_of a b) (key_of c d)

@@ -1,7 +1,7 @@
 // Rows of eight numbers: their fields, lengths and words, and keys that compare as the words do. The definitions that the contracts cite are in specs/.
 #![tactic(auto)]
 
-ghost use Rattle.std.specs.Prelude.{◌≡◌, true, [], ◌∷◌, ◌+◌, ◌*◌, ◌<◌, ◌≤◌, pos, length, get_or};
+ghost use Rattle.std.specs.Prelude.{◌≡◌, true, [], ◌∷◌, ◌+◌, ◌*◌, ◌<◌, ◌≤◌, eqb, ltb, pos, length, get_or};
 ghost use Rattle.backoff.specs.Limits.{order_limit};
 ghost use Rattle.backoff.specs.Words.{are_words, radix, key};
 ghost use Rattle.rows.specs.Table.{field, length_of, word_of, words_of};
@@ -38,6 +38,20 @@ pub fn length_of(table: &[i32], i: usize) -> usize
 pub struct Key {
     pub high: u64,
     pub low: u64,
+}
+
+// Whether the key a is below the key b: as `<` says, but with no branch that depends on a key.
+pub fn key_less(a: Key, b: Key) -> bool
+    ensures { result ≡ ltb (key_of a.high a.low) (key_of b.high b.low) }
+{
+    (a.high < b.high) | ((a.high == b.high) & (a.low < b.low))
+}
+
+// Whether the keys are equal: as `==` says, but with no branch that depends on a key.
+pub fn key_equal(a: Key, b: Key) -> bool
+    ensures { result ≡ eqb (key_of a.high a.low) (key_of b.high b.low) }
+{
+    (a.high == b.high) & (a.low == b.low)
 }
 
 // The key of five digits.

@@ -23,7 +23,8 @@ fn is_after(table: &[i32], i: usize) -> bool
     if i == 0 {
         return true;
     }
-    rows::row_key(table, i - 1) < rows::row_key(table, i)
+    let before = rows::row_key(table, i - 1);
+    rows::key_less(before, rows::row_key(table, i))
 }
 
 // The place of the first word that check 8 asks for: the second, or the last where the list is to be filled.

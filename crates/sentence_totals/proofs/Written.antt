@@ -164,16 +164,9 @@ module _ (o : Option Store) (words₀ : List ℕ) (totals₀ : List ℤ) where
 -- ---- a sentence's words, as they are written
 
 -- the last word behind the others
-last-behind : (d : List ℕ) (at : ℕ) (s : List ℕ) (n x : ℕ) → at + n < length d → n ≤ length s → set (paste d at s n) (at + n) x ≡ (take at d ++ (take n s ++ (x ∷ []))) ++ drop (at + n + 1) d
+pub last-behind : (d : List ℕ) (at : ℕ) (s : List ℕ) (n x : ℕ) → at + n < length d → n ≤ length s → set (paste d at s n) (at + n) x ≡ (take at d ++ (take n s ++ (x ∷ []))) ++ drop (at + n + 1) d
 last-behind d at s n x h l =
     rw (drop-cons d (at + n) 0 h, add-one)
     (set_at (take at d ++ take n s) (get_or d (at + n) 0) _ x (at + n) (length_paste_head d at s n (omega arith) l)
     ∙ sym (append_snoc (take at d ++ take n s) x _)
     ∙ ap (λ (r : List ℕ). r ++ drop (suc (at + n)) d) (append_assoc (take at d) (take n s) (x ∷ [])))
-
--- a part of a list in front of another, written at once
-put-paste : (d : List ℕ) (at k : ℕ) (s new : List ℕ) (n : ℕ) → k ≡ n → new ≡ take n s → put_mid at k d new ≡ paste d at s n
-put-paste d at k s new n e f = rw (e, f) (ap (λ (r : List ℕ). take at d ++ (take n s ++ r)) (drop-drop n at d) ∙ sym (append_assoc (take at d) (take n s) (drop (at + n) d)))
-
-pub sentence-written : (d : List ℕ) (at k : ℕ) (s new : List ℕ) (n x : ℕ) → at + n < length d → n ≤ length s → k ≡ n → new ≡ take n s → set (put_mid at k d new) (at + n) x ≡ (take at d ++ (take n s ++ (x ∷ []))) ++ drop (at + n + 1) d
-sentence-written d at k s new n x h l e f = ap (λ (w : List ℕ). set w (at + n) x) (put-paste d at k s new n e f) ∙ last-behind d at s n x h l

@@ -18,7 +18,11 @@ fn write_sentence(words: &mut [u32], at: usize, first: [u32; 4], count: usize, l
     requires { (at + count < length words.old) × (count < sentence_limit) }
     ensures { words.new ≡ take at words.old ++ (take count first ++ (last ∷ [])) ++ drop (at + count + 1) words.old }
 {
-    words[at..at + count].copy_from_slice(&first[..count]);
+    for j in 0..3 {
+        if j < count {
+            words[at + j] = first[j];
+        }
+    }
     words[at + count] = last;
 }
 

@@ -58,8 +58,9 @@ pub fn number_near(work: &[u32], table: &[i32], slot: u32) -> usize
     requires { Ascending work.now × (length work.now ≤ row_limit) }
     ensures { result ≡ number_in work.now slot }
 {
-    match noted(table, note_place(work.len(), slot)) {
-        Some(number) if is_number(work, slot, number) => number,
-        _ => number_of(work, slot),
+    let number = noted(table, note_place(work.len(), slot)).unwrap_or(0);
+    if is_number(work, slot, number) {
+        return number;
     }
+    number_of(work, slot)
 }

@@ -1,7 +1,9 @@
-// Texts as bytes: the parts between equal bytes, found one by one. The definitions that the contracts cite are in specs/.
+// Texts as bytes: the parts between equal bytes, found one by one, and whether two texts are the same. The definitions that the contracts cite are in
+// specs/.
 #![tactic(auto)]
 
 ghost use Rattle.std.specs.Prelude.{◌≡◌, ◌+◌, ◌<◌, ◌≤◌, length, drop, MatchOption};
+ghost use Rattle.backoff.specs.Words.{same_words};
 ghost use Rattle.text_parts.specs.Parts.{before};
 
 // Where the first such byte stands, if there is one.
@@ -21,4 +23,11 @@ pub fn part_end(text: &[u8], at: usize, byte: u8) -> usize
         Some(place) => at + place,
         None => text.len(),
     }
+}
+
+// Whether two texts are the same.
+pub fn same_bytes(a: &[u8], b: &[u8]) -> bool
+    ensures { result ≡ same_words a.now b.now }
+{
+    a == b
 }

@@ -49,7 +49,7 @@ pub fn read_list_line(line: &[u8], row: &mut [i32; 8]) -> bool
         return false;
     }
     let mut numbers = [0i32; 8];
-    if !read_columns(line, LIST_WIDTH, i32::MIN, &mut numbers) {
+    if !read_columns(line, LIST_WIDTH, columns::LEAST_NUMBER, &mut numbers) {
         return false;
     }
     *row = numbers;

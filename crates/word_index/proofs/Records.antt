@@ -10,6 +10,15 @@ use Rattle.integer.proofs.Parts.{front_part}
 use Rattle.word_index.specs.Texts.{text_of, recorded}
 use Rattle.backoff.specs.Limits.{text_limit}
 
+pub sets-start : (s : List ℕ) (a : ℕ) (text : List ℕ) → sets s a text ≡ sets s (a + 0) (drop 0 text)
+sets-start s a text = let e : a + 0 ≡ a = omega arith in rw e refl
+
+pub sets-step : (s : List ℕ) (a : ℕ) (text : List ℕ) (i : ℕ) → i < length text → sets s (a + i) (drop i text) ≡ sets (set s (a + i) (get_or text i 0)) (a + (i + 1)) (drop (i + 1) text)
+sets-step s a text i h =
+    let e : a + (i + 1) ≡ suc (a + i) = omega arith in
+    let f : i + 1 ≡ suc i = omega arith in
+    rw (e, f) (ap (λ (l : List ℕ). sets s (a + i) l) (drop-cons text i 0 h))
+
 module _ (s : List ℕ) (k : ℕ) (text : List ℕ) (room : 64 * k + 64 ≤ length s) (short : length text ≤ text_limit) where
   fits : 64 * k + length (length text ∷ text) ≤ length s
   fits = omega arith

@@ -1,7 +1,7 @@
 // Words by their texts. The index lies in free numbers of one-word rows: no other memory is lent.
 #![tactic(auto)]
 
-ghost use Rattle.std.specs.Prelude.{◌≡◌, true, ℕ, ◌+◌, ◌*◌, ◌-◌, ◌<◌, ◌≤◌, pos, length, get_or};
+ghost use Rattle.std.specs.Prelude.{◌≡◌, true, ℕ, ◌+◌, ◌*◌, ◌-◌, ◌<◌, ◌≤◌, pos, length, get_or, set};
 ghost use Rattle.integer.specs.Integer.{between};
 ghost use Rattle.backoff.specs.Words.{same_words};
 ghost use Rattle.rows.specs.Table.{field};
@@ -70,15 +70,24 @@ pub fn find_word(text: &[u8], table: &[i32], store: &[u8], buckets: usize) -> Op
     None
 }
 
+// Byte i of the text in record k.
+fn write_byte(store: &mut [u8], k: usize, i: usize, byte: u8)
+    requires { (64 * k + 64 ≤ length store.old) × (i < text_limit) }
+    ensures { store.new ≡ set store.old (64 * k + 1 + i) byte }
+{
+    store[64 * k + 1 + i] = byte;
+}
+
 // Writes record k.
 #[tactic(auto, unfolding(crate::specs::Texts::recorded))]
 pub fn write_record(text: &[u8], store: &mut [u8], k: usize)
     requires { (64 * k + 64 ≤ length store.old) × (length text.now ≤ text_limit) }
     ensures { store.new ≡ recorded store.old k text.now }
 {
-    let at = 64 * k + 1;
     store[64 * k] = text.len() as u8;
-    store[at..at + text.len()].copy_from_slice(text);
+    for i in 0..text.len() {
+        write_byte(store, k, i, text[i]);
+    }
 }
 
 // Puts word k in front of chain h.

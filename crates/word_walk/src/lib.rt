@@ -93,7 +93,9 @@ fn end_walk(
     ensures walked { result ≡ ended_at (marker_in marker) passed owed sum kept }
     ensures backoffs { backoffs.new ≡ stored_at (marker_in marker) passed backoffs.old }
 {
-    let Entry { p, b, e, f } = marker?;
+    let Some(Entry { p, b, e, f }) = marker else {
+        return None;
+    };
     backoffs[passed] = b;
     Some(Walked {
         points: p + owed,
@@ -121,7 +123,9 @@ pub fn walk(array: Array, slot: usize, carried: Packed, backoffs: &mut [i32; 5])
     let mut kept = Kept::NOTHING;
     // Both bounds stand in one test: a `for` up to STATE_WORDS that breaks at `count` is no plainer.
     while (passed < count) & (passed < STATE_WORDS) {
-        let Entry { p, b, e, f } = array.kept_marker(s)?;
+        let Some(Entry { p, b, e, f }) = array.kept_marker(s) else {
+            return None;
+        };
         let old = backoffs[passed];
         backoffs[passed] = b;
         sum += b;

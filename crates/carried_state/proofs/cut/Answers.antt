@@ -1,15 +1,21 @@
-use Rattle.std.proofs.Common.{rules, ◌≡◌, ◌∙◌, ℤ, pos, List, [], ◌∷◌, take, length, arith, sym, ap, w32, get_or, SFits}
+use Rattle.std.proofs.Common.{rules, ◌≡◌, ◌∙◌, ℤ, pos, List, [], ◌∷◌, take, length, arith, refl, ap, w32, get_or, SFits}
 use mir.Facts.{to_z-of_z}
 use native.Mathlib.Numerals.{add-one}
 use Rattle.backoff.specs.NineNumbers.{padded}
-use Rattle.carried_state.proofs.Parts.{cut-none, cut-all, cut-set, cut-padded, padded-within, first-four}
+use Rattle.carried_state.proofs.Parts.{cut-kept, cut-all, cut-set, cut-padded, padded-within, first-four}
 use Rattle.carried_state.proofs.cut.Goals as goal
+use Rattle.carried_state.proofs.cut.Goals.{then-kept-i, else-kept-i}
 
 pub loop-i-init : goal.loop-i-init
-loop-i-init c = sym (cut-none c.args.kept c.args.kept _ (omega arith))
+loop-i-init c = refl
 
 pub loop-i-preserved : goal.loop-i-preserved
-loop-i-preserved c = rw (add-one, c.loop-i.invariant) (cut-set c.loop-i.i c.args.kept _ c.loop-i.auto.i (omega arith))
+loop-i-preserved c =
+    let l = c.loop-i in
+    rw add-one (elim c.if-kept-i.branch [
+      | then-kept-i w ↦ w.part-is ∙ rw l.invariant (cut-set l.i c.args.kept _ w.if-kept-i.true (omega arith))
+      | else-kept-i w ↦ w.part-is ∙ l.invariant ∙ cut-kept l.i c.args.kept _ w.if-kept-i.false
+    ])
 
 pub returns : goal.returns
 returns c =

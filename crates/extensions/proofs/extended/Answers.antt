@@ -4,7 +4,6 @@ use borrow.Author.Tests.{le-ltb}
 use Rattle.backoff.specs.Words.{radix}
 use Rattle.rows.specs.Table.{rows_of}
 use Rattle.rows.specs.Keys.{row_key}
-use Rattle.rows.proofs.Keys.{key_lt}
 use Rattle.row_search.specs.ByKey.{Bracket}
 use Rattle.extensions.proofs.Stretch.{extended-first, extended_none}
 use Rattle.extensions.proofs.extended.Goals as goal
@@ -15,7 +14,7 @@ returns-then-first-table c =
     let t = c.args.table.now in
     let first = c.first_not_below-first.result in
     let b = subst (λ (k : ℕ). Bracket t k first first) c.front_key-k.ensures.0 c.first_not_below-first.ensures in
-    let e : c.lt.result ≡ ltb (row_key t first) (radix * row_key t c.args.i + radix) = grind (arith, key_lt) in
+    let e : c.key_less.result ≡ ltb (row_key t first) (radix * row_key t c.args.i + radix) = grind arith in
     e ∙ sym (extended-first _ c.requires.1 _ (omega arith) _ b (omega arith))
 
 pub returns-else-first-table : goal.returns-else-first-table

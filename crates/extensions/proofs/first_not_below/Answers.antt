@@ -4,7 +4,6 @@ use Rattle.std.proofs.lemmas.Bool.Decides.{nat_tests}
 use Rattle.rows.specs.Table.{rows_of}
 use Rattle.rows.specs.Good.{Good}
 use Rattle.rows.specs.Keys.{row_key, key_of}
-use Rattle.rows.proofs.Keys.{key_lt}
 use Rattle.row_search.specs.ByKey.{Bracket, Window}
 use Rattle.row_search.proofs.ByKey.{keys_ascend}
 use Rattle.extensions.proofs.first_not_below.Goals as goal
@@ -29,12 +28,12 @@ module _ (t : List ℤ) (g : Good t (rows_of t)) (k i : ℕ) (h : Window t k i (
     above = λ j m n. let e = keys_ascend t g i j m n in omega arith;
   }
 
-pub returns-then-lt : goal.returns-then-lt
-returns-then-lt c =
-    let e : row_key c.args.table.now c.last_not_above-last.result < key_of c.args.k.high c.args.k.low = grind (arith, nat_tests, key_lt) in
+pub returns-then-key_less : goal.returns-then-key_less
+returns-then-key_less c =
+    let e : row_key c.args.table.now c.last_not_above-last.result < key_of c.args.k.high c.args.k.low = grind (arith, nat_tests) in
     bound_after _ c.requires _ _ c.last_not_above-last.ensures e
 
 pub returns : goal.returns
 returns c =
-    let e : key_of c.args.k.high c.args.k.low ≤ row_key c.args.table.now c.last_not_above-last.result = grind (arith, nat_tests, key_lt) in
+    let e : key_of c.args.k.high c.args.k.low ≤ row_key c.args.table.now c.last_not_above-last.result = grind (arith, nat_tests) in
     bound_here _ c.requires _ _ c.last_not_above-last.ensures e

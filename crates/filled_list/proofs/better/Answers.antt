@@ -3,7 +3,6 @@ use Rattle.std.proofs.Common.{◌≡◌, ◌<◌, true, false, ltb, sym, ◌∙�
 use Rattle.std.proofs.lemmas.Bool.Decides.{nat_tests}
 use Rattle.rows.specs.Table.{rows_of, length_of}
 use Rattle.rows.specs.Keys.{key_of}
-use Rattle.rows.proofs.Keys.{key_ge}
 use Rattle.filled_list.proofs.Next.{best-kept, best-new, best_old}
 use Rattle.filled_list.proofs.better.Goals as goal
 use Rattle.filled_list.proofs.better.Goals.{then-table-row-via-then-table-row, then-table-row-via-else-table-row+then-length_of-k}
@@ -20,24 +19,24 @@ returns-then-table-row c =
     ])
     _ p.6
 
-pub returns-then-ge : goal.returns-then-ge
+pub returns-then-not-key_less : goal.returns-then-not-key_less
 unfolding rows_of
-returns-then-ge c =
+returns-then-not-key_less c =
     let p = c.requires in
     let b = rw c.in-Some.is at p.6 in
     let inside : c.bound_of-row.result < rows_of c.args.table.now = omega arith in
     let size : length_of c.args.table.now c.bound_of-row.result ≡ c.args.k = sym c.length_of.ensures.0 ∙ c.if-length_of-k.false in
-    let n : ltb (key_of c.end_key-key.result.high c.end_key-key.result.low) (key_of c.in-Some.best_row.key.high c.in-Some.best_row.key.low) ≡ false = grind (arith, nat_tests, key_ge) in
+    let n : ltb (key_of c.end_key-key.result.high c.end_key-key.result.low) (key_of c.in-Some.best_row.key.high c.in-Some.best_row.key.low) ≡ false = grind (arith, nat_tests) in
     (b.0, best_old _ p.0 _ _ _ p.4 p.1 p.2 _ _ _ _ _ _ b.1 c.bound_of-row.ensures inside size c.end_key-key.ensures b.0 n)
 
-pub returns-else-ge : goal.returns-else-ge
+pub returns-else-not-key_less : goal.returns-else-not-key_less
 unfolding rows_of
-returns-else-ge c =
+returns-else-not-key_less c =
     let p = c.requires in
     let b = rw c.in-Some.is at p.6 in
     let inside : c.bound_of-row.result < rows_of c.args.table.now = omega arith in
     let size : length_of c.args.table.now c.bound_of-row.result ≡ c.args.k = sym c.length_of.ensures.0 ∙ c.if-length_of-k.false in
-    let n : ltb (key_of c.end_key-key.result.high c.end_key-key.result.low) (key_of c.in-Some.best_row.key.high c.in-Some.best_row.key.low) ≡ true = grind (arith, nat_tests, key_ge) in
+    let n : ltb (key_of c.end_key-key.result.high c.end_key-key.result.low) (key_of c.in-Some.best_row.key.high c.in-Some.best_row.key.low) ≡ true = grind (arith, nat_tests) in
     (inside, best-new _ p.0 _ _ _ p.4 p.1 p.2 _ _ _ _ _ _ b.1 c.bound_of-row.ensures inside size c.end_key-key.ensures (λ _. n))
 
 pub returns-in_default : goal.returns-in_default

@@ -15,7 +15,7 @@ use Rattle.row_nodes.proofs.Turn.{root-fits, root_settles, root_tried, tried_wit
 use Rattle.row_nodes.proofs.place_root.Goals as goal
 
 pub overflow_cast-node : goal.overflow_cast-node
-overflow_cast-node c = record { sfits = omega (arith, c.requires.each, (accepted-size c.args.list.table.now c.args.list.accepted).1) }
+overflow_cast-node c = record { sfits = omega (arith, c.requires.filled.each, (accepted-size c.args.table.now c.requires.table_value).1) }
 
 pub slice_bounds-place_node-end : goal.slice_bounds-place_node-end
 unfolding rows_of
@@ -23,19 +23,19 @@ slice_bounds-place_node-end c = sym (length-take-le _ _ (omega (arith, c.rows_be
 
 pub place_node-top-requires-clause-child_rows : goal.place_node-top-requires-clause-child_rows
 place_node-top-requires-clause-child_rows c =
-    let t = c.args.list.table.now in
+    let t = c.args.table.now in
     let k = c.rows_below-k.result in
-    let fits = root-fits t c.args.list.accepted c.requires k c.rows_below-k.ensures in
-    (child-rows t c.args.list.accepted 0 k fits, length-take-le _ _ (omega (arith, c.rows_below-k.ensures.within, c.requires.each)) ∙ sym (count-rows t 0 k fits))
+    let fits = root-fits t c.requires.table_value c.requires.filled k c.rows_below-k.ensures in
+    (child-rows t c.requires.table_value 0 k fits, length-take-le _ _ (omega (arith, c.rows_below-k.ensures.within, c.requires.filled.each)) ∙ sym (count-rows t 0 k fits))
 
 pub place_node-top-requires-clause-by_index : goal.place_node-top-requires-clause-by_index
-place_node-top-requires-clause-by_index c = (_, _, _, root_settles c.args.list.table.now c.args.list.accepted c.requires c.rows_below-k.result c.rows_below-k.ensures)
+place_node-top-requires-clause-by_index c = (_, _, _, root_settles c.args.table.now c.requires.table_value c.requires.filled c.rows_below-k.result c.rows_below-k.ensures)
 
 pub returns : goal.returns
 returns c =
-    let t = c.args.list.table.now in
-    let a = c.args.list.accepted in
+    let t = c.args.table.now in
+    let a = c.requires.table_value in
     let k = c.rows_below-k.result in
-    let few : length c.args.work.now ≤ row_limit = omega (arith, c.requires.each, (accepted-size t a).1) in
+    let few : length c.args.work.now ≤ row_limit = omega (arith, c.requires.filled.each, (accepted-size t a).1) in
     tried_within _ _ _ c.place_node-top.auto.check c.top_within.ensures
-    (root_tried t a c.requires k c.rows_below-k.ensures (to_z_pos w32 (omega arith) ∙ ap pos c.requires.each) (c.place_node-top.ensures _ _ _ (root_settles t a c.requires k c.rows_below-k.ensures)))
+    (root_tried t a c.requires.filled k c.rows_below-k.ensures (to_z_pos w32 (omega arith) ∙ ap pos c.requires.filled.each) (c.place_node-top.ensures _ _ _ (root_settles t a c.requires.filled k c.rows_below-k.ensures)))

@@ -1,7 +1,6 @@
 -- The rows are compared by their keys.
 use Rattle.std.proofs.Common.{◌≡◌, ltb, ◌-◌, sym, ◌∙◌, arith}
 use Rattle.rows.specs.Keys.{row_key}
-use Rattle.rows.proofs.Keys.{key_lt}
 use Rattle.rows_before.proofs.Faults.{after_first, after-key}
 use Rattle.rows_before.proofs.is_after.Goals as goal
 
@@ -12,5 +11,5 @@ pub returns : goal.returns
 returns c =
     let t = c.args.table.now in
     let i = c.args.i in
-    let e : c.lt.result ≡ ltb (row_key t (i - 1)) (row_key t i) = grind (arith, key_lt) in
+    let e : c.key_less.result ≡ ltb (row_key t (i - 1)) (row_key t i) = grind arith in
     e ∙ sym (after-key t i c.if-i-eq0.false c.requires.1 c.requires.2)
